@@ -1,0 +1,101 @@
+-- No second outcome: an outcome has one answer of each kind that says it, and one content of everything lent.
+-- Every contract has the form `outcome (says r) lent ≡ due`, where `due` is made from the inputs alone; so this is one law.
+use mathlib.Core.Path.{_≡_, refl, sym, _∙_, ap}
+use mathlib.Core.List.{List, [], _∷_}
+use Prim.Native.Nat.{ℕ, zero, suc}
+use Rattle.answers.specs.declared.Reason.{Reason}
+use Rattle.answers.specs.declared.Refusal.{Refusal}
+use Rattle.answers.specs.declared.Judged.{Judged}
+use Rattle.answers.specs.declared.Judged.the-variants as judged
+use Rattle.answers.specs.declared.Truth.{Truth}
+use Rattle.answers.specs.declared.Truth.the-variants as truth
+use Rattle.answers.specs.declared.Found.{Found}
+use Rattle.answers.specs.declared.Found.the-variants as found
+use Rattle.answers.specs.declared.Ranged.{Ranged}
+use Rattle.answers.specs.declared.Ranged.the-variants as ranged
+use Rattle.answers.specs.declared.Sized.{Sized}
+use Rattle.answers.specs.declared.Sized.the-variants as sized
+use Rattle.answers.specs.Answers.{Answer, given, refused, Outcome, outcome}
+use Rattle.answers.specs.Says.{numberOf, refusalOf, reasonOf, judgedSays, truthSays, foundSays, rangedSays, sizedSays}
+use Rattle.answers.proofs.Numbers.{number-reason}
+
+abbrev answerOf : Outcome → Answer
+answerOf (outcome a lent) = a
+
+abbrev lentOf : Outcome → List (List ℕ)
+lentOf (outcome a lent) = lent
+
+-- for any kind of answer whose cases can be told apart by what they say
+pub only : {A : Type 0} (says : A → Answer) (back : Answer → A) → ((r : A) → back (says r) ≡ r) → (due : Outcome) (r s : A) (k l : List (List ℕ))
+    → outcome (says r) k ≡ due → outcome (says s) l ≡ due → (r ≡ s) × (k ≡ l)
+only says back undo due r s k l p q =
+    (sym (undo r) ∙ ap (λ (o : Outcome). back (answerOf o)) (p ∙ sym q) ∙ undo s, ap lentOf (p ∙ sym q))
+
+-- a refusal is told by its number and its place
+refusal-back : (f : Refusal) → refusalOf (numberOf (f .reason)) (f .place) ≡ f
+refusal-back f = ap (λ (x : Reason). record { reason = x; place = f .place }) (number-reason (f .reason))
+
+abbrev judgedBack : Answer → Judged
+judgedBack (given xs) = judged.Accepted
+judgedBack (refused n p) = judged.Refused (refusalOf n p)
+
+judged-undo : (r : Judged) → judgedBack (judgedSays r) ≡ r
+judged-undo judged.Accepted = refl
+judged-undo (judged.Refused f) = ap judged.Refused (refusal-back f)
+
+pub judged-only : (due : Outcome) (r s : Judged) (k l : List (List ℕ)) → outcome (judgedSays r) k ≡ due → outcome (judgedSays s) l ≡ due → (r ≡ s) × (k ≡ l)
+judged-only = only judgedSays judgedBack judged-undo
+
+abbrev truthBack : Answer → Truth
+truthBack (given []) = truth.No
+truthBack (given (zero ∷ xs)) = truth.No
+truthBack (given (suc n ∷ xs)) = truth.Yes
+truthBack (refused n p) = truth.Refused (refusalOf n p)
+
+truth-undo : (r : Truth) → truthBack (truthSays r) ≡ r
+truth-undo truth.Yes = refl
+truth-undo truth.No = refl
+truth-undo (truth.Refused f) = ap truth.Refused (refusal-back f)
+
+pub truth-only : (due : Outcome) (r s : Truth) (k l : List (List ℕ)) → outcome (truthSays r) k ≡ due → outcome (truthSays s) l ≡ due → (r ≡ s) × (k ≡ l)
+truth-only = only truthSays truthBack truth-undo
+
+abbrev foundBack : Answer → Found
+foundBack (given []) = found.Nothing
+foundBack (given (n ∷ xs)) = found.Number n
+foundBack (refused n p) = found.Refused (refusalOf n p)
+
+found-undo : (r : Found) → foundBack (foundSays r) ≡ r
+found-undo (found.Number n) = refl
+found-undo found.Nothing = refl
+found-undo (found.Refused f) = ap found.Refused (refusal-back f)
+
+pub found-only : (due : Outcome) (r s : Found) (k l : List (List ℕ)) → outcome (foundSays r) k ≡ due → outcome (foundSays s) l ≡ due → (r ≡ s) × (k ≡ l)
+found-only = only foundSays foundBack found-undo
+
+abbrev rangedBack : Answer → Ranged
+rangedBack (given []) = ranged.Nothing
+rangedBack (given (l ∷ [])) = ranged.Nothing
+rangedBack (given (l ∷ h ∷ xs)) = ranged.Range l h
+rangedBack (refused n p) = ranged.Refused (refusalOf n p)
+
+ranged-undo : (r : Ranged) → rangedBack (rangedSays r) ≡ r
+ranged-undo (ranged.Range l h) = refl
+ranged-undo ranged.Nothing = refl
+ranged-undo (ranged.Refused f) = ap ranged.Refused (refusal-back f)
+
+pub ranged-only : (due : Outcome) (r s : Ranged) (k l : List (List ℕ)) → outcome (rangedSays r) k ≡ due → outcome (rangedSays s) l ≡ due → (r ≡ s) × (k ≡ l)
+ranged-only = only rangedSays rangedBack ranged-undo
+
+abbrev sizedBack : Answer → Sized
+sizedBack (given []) = sized.Empty
+sizedBack (given (n ∷ xs)) = sized.LessOne n
+sizedBack (refused n p) = sized.Refused (refusalOf n p)
+
+sized-undo : (r : Sized) → sizedBack (sizedSays r) ≡ r
+sized-undo sized.Empty = refl
+sized-undo (sized.LessOne n) = refl
+sized-undo (sized.Refused f) = ap sized.Refused (refusal-back f)
+
+pub sized-only : (due : Outcome) (r s : Sized) (k l : List (List ℕ)) → outcome (sizedSays r) k ≡ due → outcome (sizedSays s) l ≡ due → (r ≡ s) × (k ≡ l)
+sized-only = only sizedSays sizedBack sized-undo

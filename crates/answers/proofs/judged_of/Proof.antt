@@ -1,0 +1,22 @@
+use mathlib.Core.Path.{ap, _∙_}
+use Rattle.answers.specs.declared.Judged.the-variants as judged
+use Rattle.answers.proofs.Numbers.{judged-refused}
+use native.Mathlib.Omega.{arith}
+use borrow.Author.Needs.{needs}
+use Rattle.answers.proofs.judged_of.Statement.{statement}
+use Rattle.answers.proofs.judged_of.Tie as tie
+use Rattle.answers.proofs.judged_of.Reads as reads
+use Rattle.answers.proofs.judged_of.Lts as lts
+use Rattle.answers.proofs.refusal_of.Reads as refusal-of-reads
+
+returns : tie.Need-returns
+returns c = search needs
+
+refusal-of-requires : tie.Need-refusal-of-requires
+refusal-of-requires c κs = search needs
+
+returns-2 : tie.Need-returns-2
+returns-2 c = ap judged.Refused (c .refusal-of .ensures) ∙ judged-refused _ _ (c .before .if1 .left)
+
+pub judged-of-spec : {M : Type 1} → statement M
+judged-of-spec = tie.close (tie.spec returns refusal-of-requires returns-2)

@@ -1,0 +1,26 @@
+-- Answers in the paper's numbers, and outcomes: what a call answers and what it leaves in everything lent to it.
+use mathlib.Core.List.{List, []}
+use Prim.Native.Nat.{ℕ, zero, suc}
+
+-- given, with the values that the question asks for; or refused: «A refusal returns its number and a place.»
+pub data Answer : Type 0 where
+  given : List ℕ → Answer
+  refused : ℕ → ℕ → Answer
+
+-- an answer, and the words or bytes of each block or buffer lent to be written, as they then are, in the order of the call
+pub data Outcome : Type 0 where
+  outcome : Answer → List (List ℕ) → Outcome
+
+-- refused with a number and a place: «It changes nothing lent to the call, even where a call has two blocks to write.»
+abbrev pub refuse : ℕ → ℕ → List (List ℕ) → Outcome
+refuse number place lent = outcome (refused number place) lent
+
+-- By a verdict on the block at a position: 0, go on; else refused with that number and the position as its place.
+abbrev pub judged : ℕ → ℕ → List (List ℕ) → Outcome → Outcome
+judged zero position lent x = x
+judged (suc v) position lent x = refuse (suc v) position lent
+
+-- what an answer from a verdict says: 0, accepted with no value
+abbrev pub numberSays : ℕ → ℕ → Answer
+numberSays zero place = given []
+numberSays (suc v) place = refused (suc v) place

@@ -1,0 +1,91 @@
+-- The paper's number and values for each case of an answer.
+use mathlib.Core.List.{List, [], _∷_}
+use Prim.Native.Nat.{ℕ, zero, suc}
+use lib.Dec.{eqb}
+use Rattle.entries.specs.Build.{pick}
+use Rattle.answers.specs.declared.Reason.{Reason}
+use Rattle.answers.specs.declared.Reason.the-variants.{NoBlock, Count, Order, Backwards, Room, ZeroRun, NoGap, Short, Mark, Kind, Check, Content, Trailing, Overlap, NoSpace}
+use Rattle.answers.specs.declared.Refusal.{Refusal}
+use Rattle.answers.specs.declared.Judged.{Judged}
+use Rattle.answers.specs.declared.Judged.the-variants as judged
+use Rattle.answers.specs.declared.Truth.{Truth}
+use Rattle.answers.specs.declared.Truth.the-variants as truth
+use Rattle.answers.specs.declared.Found.{Found}
+use Rattle.answers.specs.declared.Found.the-variants as found
+use Rattle.answers.specs.declared.Ranged.{Ranged}
+use Rattle.answers.specs.declared.Ranged.the-variants as ranged
+use Rattle.answers.specs.declared.Sized.{Sized}
+use Rattle.answers.specs.declared.Sized.the-variants as sized
+use Rattle.answers.specs.Answers.{Answer, given, refused}
+
+-- «no. | name»
+abbrev pub numberOf : Reason → ℕ
+numberOf NoBlock = 1
+numberOf Count = 2
+numberOf Order = 3
+numberOf Backwards = 4
+numberOf Room = 5
+numberOf ZeroRun = 6
+numberOf NoGap = 7
+numberOf Short = 8
+numberOf Mark = 9
+numberOf Kind = 10
+numberOf Check = 11
+numberOf Content = 12
+numberOf Trailing = 13
+numberOf Overlap = 14
+numberOf NoSpace = 15
+
+abbrev pub refusalSays : Refusal → Answer
+refusalSays f = refused (numberOf (f .reason)) (f .place)
+
+abbrev pub judgedSays : Judged → Answer
+judgedSays judged.Accepted = given []
+judgedSays (judged.Refused f) = refusalSays f
+
+abbrev pub truthSays : Truth → Answer
+truthSays truth.Yes = given (1 ∷ [])
+truthSays truth.No = given (0 ∷ [])
+truthSays (truth.Refused f) = refusalSays f
+
+abbrev pub foundSays : Found → Answer
+foundSays (found.Number n) = given (n ∷ [])
+foundSays found.Nothing = given []
+foundSays (found.Refused f) = refusalSays f
+
+abbrev pub rangedSays : Ranged → Answer
+rangedSays (ranged.Range low high) = given (low ∷ high ∷ [])
+rangedSays ranged.Nothing = given []
+rangedSays (ranged.Refused f) = refusalSays f
+
+-- «Size: empty, or the size less one»
+abbrev pub sizedSays : Sized → Answer
+sizedSays sized.Empty = given []
+sizedSays (sized.LessOne n) = given (n ∷ [])
+sizedSays (sized.Refused f) = refusalSays f
+
+-- The other way, for code that has a number: the reason of a number of the table.
+abbrev pub reasonOf : ℕ → Reason
+reasonOf number =
+    pick (eqb number 1) NoBlock
+    (pick (eqb number 2) Count
+    (pick (eqb number 3) Order
+    (pick (eqb number 4) Backwards
+    (pick (eqb number 5) Room
+    (pick (eqb number 6) ZeroRun
+    (pick (eqb number 7) NoGap
+    (pick (eqb number 8) Short
+    (pick (eqb number 9) Mark
+    (pick (eqb number 10) Kind
+    (pick (eqb number 11) Check
+    (pick (eqb number 12) Content
+    (pick (eqb number 13) Trailing
+    (pick (eqb number 14) Overlap
+    NoSpace)))))))))))))
+
+abbrev pub refusalOf : ℕ → ℕ → Refusal
+refusalOf number place = record { reason = reasonOf number; place = place }
+
+abbrev pub judgedOf : ℕ → ℕ → Judged
+judgedOf zero place = judged.Accepted
+judgedOf (suc v) place = judged.Refused (refusalOf (suc v) place)

@@ -1,0 +1,96 @@
+// What a call can answer: the fifteen refusals of the table, and the answers of the questions and the changes.
+ghost use mathlib.Core.Path.{_≡_};
+ghost use Rattle.answers.specs.Says.{refusalOf, judgedOf};
+
+// Why a call was refused. The paper's number of each is `numberOf` in specs/Says.
+pub enum Reason {
+    NoBlock,
+    Count,
+    Order,
+    Backwards,
+    Room,
+    ZeroRun,
+    NoGap,
+    Short,
+    Mark,
+    Kind,
+    Check,
+    Content,
+    Trailing,
+    Overlap,
+    NoSpace,
+}
+
+// A refusal: the reason, and the place that the table gives for it.
+pub struct Refusal {
+    pub reason: Reason,
+    pub place: usize,
+}
+
+// Whether a call was accepted; the answer of a change, and of the companion of a question that hands back a part.
+pub enum Judged {
+    Accepted,
+    Refused(Refusal),
+}
+
+// The answer of a question that is true or not.
+pub enum Truth {
+    Yes,
+    No,
+    Refused(Refusal),
+}
+
+// The number that was asked for, or none.
+pub enum Found {
+    Number(u64),
+    Nothing,
+    Refused(Refusal),
+}
+
+// The low and the high of the range that was asked for, or none.
+pub enum Ranged {
+    Range(u64, u64),
+    Nothing,
+    Refused(Refusal),
+}
+
+// The size of a set: empty, or the size less one.
+pub enum Sized {
+    Empty,
+    LessOne(u64),
+    Refused(Refusal),
+}
+
+// The refusal with a number of the table.
+pub fn refusal_of(number: u8, place: usize) -> Refusal
+    ensures { λ r. ⌜ r ≡ refusalOf number place ⌝ }
+{
+    let reason = match number {
+        1 => Reason::NoBlock,
+        2 => Reason::Count,
+        3 => Reason::Order,
+        4 => Reason::Backwards,
+        5 => Reason::Room,
+        6 => Reason::ZeroRun,
+        7 => Reason::NoGap,
+        8 => Reason::Short,
+        9 => Reason::Mark,
+        10 => Reason::Kind,
+        11 => Reason::Check,
+        12 => Reason::Content,
+        13 => Reason::Trailing,
+        14 => Reason::Overlap,
+        _ => Reason::NoSpace,
+    };
+    Refusal { reason, place }
+}
+
+// Accepted for 0, else the refusal with that number.
+pub fn judged_of(number: u8, place: usize) -> Judged
+    ensures { λ r. ⌜ r ≡ judgedOf number place ⌝ }
+{
+    if number == 0 {
+        return Judged::Accepted;
+    }
+    Judged::Refused(refusal_of(number, place))
+}

@@ -1,0 +1,5 @@
+pub mod Words
+pub mod Judging
+pub mod Moves
+pub mod Copying
+pub mod Tests

@@ -1,0 +1,82 @@
+use Prim.Native.Nat.{_+_, _-_}
+use mathlib.Core.Path.{sym, _∙_}
+use mathlib.Core.Bool.{true, false}
+use Rattle.blocks.specs.Steps.{itemFrom}
+use Rattle.blocks.proofs.Tests.{backwards, overlaps, apart, touching}
+use native.Mathlib.Omega.{arith}
+use borrow.Author.Needs.{needs}
+use Rattle.blocks.proofs.follows.Statement.{statement}
+use Rattle.blocks.proofs.follows.Tie as tie
+use Rattle.blocks.proofs.follows.Reads as reads
+use Rattle.blocks.proofs.follows.Lts as lts
+use Rattle.blocks.proofs.same_words.Reads as same-words-reads
+use Rattle.blocks.proofs.word.Reads as word-reads
+
+word-requires : tie.Need-word-requires
+word-requires c κs = search needs
+
+add-word : tie.Need-add-word
+add-word c = search needs
+
+word-requires-2 : tie.Need-word-requires-2
+word-requires-2 c κs = search needs
+
+returns : tie.Need-returns
+returns c = let s = c .before .before .before .before in let w = s .args .block .now in let e = itemFrom (s .args .s) w (s .args .p) in let f = itemFrom (s .args .s) w (s .args .p + s .args .s) in backwards e f (omega arith)
+
+add-word-2 : tie.Need-add-word-2
+add-word-2 c = search needs
+
+word-requires-3 : tie.Need-word-requires-3
+word-requires-3 c κs = search needs
+
+returns-2 : tie.Need-returns-2
+returns-2 c = let s = c .before .before .before .before .before .before in let w = s .args .block .now in let e = itemFrom (s .args .s) w (s .args .p) in let f = itemFrom (s .args .s) w (s .args .p + s .args .s) in overlaps e f (omega arith) (omega arith)
+
+sub-if3 : tie.Need-sub-if3
+sub-if3 c = search needs
+
+returns-3 : tie.Need-returns-3
+returns-3 c = let s = c .before .before .before .before .before .before .before in let w = s .args .block .now in let e = itemFrom (s .args .s) w (s .args .p) in let f = itemFrom (s .args .s) w (s .args .p + s .args .s) in apart e f (omega arith) (omega arith) (omega arith)
+
+add-same-words : tie.Need-add-same-words
+add-same-words c = search needs
+
+add-same-words-2 : tie.Need-add-same-words-2
+add-same-words-2 c = search needs
+
+add-same-words-3 : tie.Need-add-same-words-3
+add-same-words-3 c = search needs
+
+sub-same-words : tie.Need-sub-same-words
+sub-same-words c = search needs
+
+same-words-requires : tie.Need-same-words-requires
+same-words-requires c κs = search needs
+
+returns-4 : tie.Need-returns-4
+returns-4 c = let s = c .before .before .before .before .before .before .before .before .before in let w = s .args .block .now in let e = itemFrom (s .args .s) w (s .args .p) in let f = itemFrom (s .args .s) w (s .args .p + s .args .s) in touching e f (omega arith) (omega arith) (omega arith) true (sym (c .before .same-words .ensures) ∙ c .if4 .taken)
+
+returns-5 : tie.Need-returns-5
+returns-5 c = let s = c .before .before .before .before .before .before .before .before .before in let w = s .args .block .now in let e = itemFrom (s .args .s) w (s .args .p) in let f = itemFrom (s .args .s) w (s .args .p + s .args .s) in touching e f (omega arith) (omega arith) (omega arith) false (sym (c .before .same-words .ensures) ∙ c .if4 .left)
+
+pub follows-spec : {M : Type 1} → statement M
+follows-spec =
+    tie.close
+    (tie.spec
+    word-requires
+    add-word
+    word-requires-2
+    returns
+    add-word-2
+    word-requires-3
+    returns-2
+    sub-if3
+    returns-3
+    add-same-words
+    add-same-words-2
+    add-same-words-3
+    sub-same-words
+    same-words-requires
+    returns-4
+    returns-5)

@@ -1,0 +1,52 @@
+use mathlib.Core.Path.{sym, _∙_, ap}
+use mathlib.Core.Bool.{Bool}
+use Rattle.entries.specs.Build.{pick}
+use Rattle.blocks.proofs.Judging.{room}
+use Rattle.blocks.proofs.Tests.{v1, v2, v03}
+use native.Mathlib.Omega.{arith}
+use borrow.Author.Needs.{needs}
+use Rattle.blocks.proofs.judge.Statement.{statement}
+use Rattle.blocks.proofs.judge.Tie as tie
+use Rattle.blocks.proofs.judge.Reads as reads
+use Rattle.blocks.proofs.judge.Lts as lts
+use Rattle.blocks.proofs.all_sound.Reads as all-sound-reads
+use Rattle.blocks.proofs.room_for.Reads as room-for-reads
+use Rattle.blocks.proofs.wide.Reads as wide-reads
+use Rattle.blocks.proofs.word.Reads as word-reads
+
+returns : tie.Need-returns
+returns c = let s = c .before .before in v1 (s .args .s) (s .args .limit) (s .args .block .now) (c .if1 .taken)
+
+word-requires : tie.Need-word-requires
+word-requires c κs = search needs
+
+wide-requires : tie.Need-wide-requires
+wide-requires c κs = search needs
+
+room-for-requires : tie.Need-room-for-requires
+room-for-requires c κs = search needs
+
+returns-2 : tie.Need-returns-2
+returns-2 c = let s = c .before .before .before .before .before .before in v2 (s .args .s) (s .args .limit) (s .args .block .now) (c .before .before .before .before .if1 .left) (c .before .room-for .result) (c .before .before .wide .result) (c .before .room-for .ensures) (c .before .before .wide .ensures ∙ c .before .before .before .word .ensures) (c .if2 .taken)
+
+all-sound-requires : tie.Need-all-sound-requires
+all-sound-requires c κs = let s = c .before .before .before .before .before .before in record { two = s .pre; held = room (s .args .s) (s .args .limit) _ (c .before .before .wide .result) (omega arith) (omega arith) }
+
+returns-3 : tie.Need-returns-3
+returns-3 c = let s = c .before .before .before .before .before .before .before .before in sym (ap (λ (t : Bool). pick t 0 3) (c .if3 .taken)) ∙ v03 (s .args .s) (s .args .limit) (s .args .block .now) (c .before .before .before .before .before .before .if1 .left) (c .before .before .before .room-for .result) (c .before .before .before .before .wide .result) (c .before .before .before .room-for .ensures) (c .before .before .before .before .wide .ensures ∙ c .before .before .before .before .before .word .ensures) (c .before .before .if2 .left) (c .before .all-sound .result) (c .before .all-sound .ensures)
+
+returns-4 : tie.Need-returns-4
+returns-4 c = let s = c .before .before .before .before .before .before .before .before in sym (ap (λ (t : Bool). pick t 0 3) (c .if3 .left)) ∙ v03 (s .args .s) (s .args .limit) (s .args .block .now) (c .before .before .before .before .before .before .if1 .left) (c .before .before .before .room-for .result) (c .before .before .before .before .wide .result) (c .before .before .before .room-for .ensures) (c .before .before .before .before .wide .ensures ∙ c .before .before .before .before .before .word .ensures) (c .before .before .if2 .left) (c .before .all-sound .result) (c .before .all-sound .ensures)
+
+pub judge-spec : {M : Type 1} → statement M
+judge-spec =
+    tie.close
+    (tie.spec
+    returns
+    word-requires
+    wide-requires
+    room-for-requires
+    returns-2
+    all-sound-requires
+    returns-3
+    returns-4)

@@ -1,0 +1,64 @@
+use Prim.Native.Nat.{_≤_, _-_}
+use mathlib.Core.Path.{_≡_, sym, _∙_}
+use lib.ListN.{take, drop}
+use Rattle.entries.specs.Build.{sameWords}
+use Rattle.blocks.proofs.Tests.{left, left-all, left-none, left-more, left-differ}
+use borrow.Author.Needs.{needs}
+use Rattle.blocks.proofs.same_words.Statement.{statement}
+use Rattle.blocks.proofs.same_words.Tie as tie
+use Rattle.blocks.proofs.same_words.Reads as reads
+use Rattle.blocks.proofs.same_words.Lts as lts
+use Rattle.blocks.proofs.word.Reads as word-reads
+
+abbrev Inv-loop : tie.InvT-loop
+Inv-loop a p b q len k₀ k = (k ≤ len) × (left a b p q len k ≡ sameWords (take len (drop p a)) (take len (drop q b)))
+
+abbrev μ-loop : tie.MeasureT-loop
+μ-loop a p b q len k₀ k = len - k
+
+loop-holds : tie.Need-loop-holds Inv-loop μ-loop
+loop-holds c = let s = c .before .before in (search needs, left-all (s .args .a .now) (s .args .b .now) (s .args .p) (s .args .q) (s .args .len))
+
+add-word : tie.Need-add-word Inv-loop μ-loop
+add-word c = search needs
+
+word-requires : tie.Need-word-requires Inv-loop μ-loop
+word-requires c κs = search needs
+
+add-word-2 : tie.Need-add-word-2 Inv-loop μ-loop
+add-word-2 c = search needs
+
+word-requires-2 : tie.Need-word-requires-2 Inv-loop μ-loop
+word-requires-2 c κs = search needs
+
+add-k : tie.Need-add-k Inv-loop μ-loop
+add-k c = search needs
+
+loop-less : tie.Need-loop-less Inv-loop μ-loop
+loop-less c = search needs
+
+loop-again : tie.Need-loop-again Inv-loop μ-loop
+loop-again c = let s = c .before .before .before .before .before .before .before in (search needs, left-more _ _ _ _ _ (s .pre .0) (s .pre .1) _ (c .before .before .before .loop-test .taken) (sym (c .before .before .word .ensures) ∙ c .if1 .taken ∙ c .before .word2 .ensures) ∙ c .before .before .before .before .loop .inv .1)
+
+returns : tie.Need-returns Inv-loop μ-loop
+returns c = let s = c .before .before .before .before .before .before .before in left-differ _ _ _ _ _ (s .pre .0) (s .pre .1) _ (c .before .before .before .loop-test .taken) (λ e. c .if1 .left (c .before .before .word .ensures ∙ e ∙ sym (c .before .word2 .ensures))) ∙ c .before .before .before .before .loop .inv .1
+
+returns-2 : tie.Need-returns-2 Inv-loop μ-loop
+returns-2 c = sym (left-none _ _ _ _ _ _ (c .loop-test .left)) ∙ c .before .loop .inv .1
+
+pub same-words-spec : {M : Type 1} → statement M
+same-words-spec =
+    tie.close
+    (tie.spec
+    Inv-loop
+    μ-loop
+    loop-holds
+    add-word
+    word-requires
+    add-word-2
+    word-requires-2
+    add-k
+    loop-less
+    loop-again
+    returns
+    returns-2)

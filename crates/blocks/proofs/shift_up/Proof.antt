@@ -1,0 +1,71 @@
+use mathlib.Core.Path.{_≡_}
+use Prim.Native.Nat.{_≤_, _-_}
+use Rattle.blocks.specs.Steps.{Copied}
+use Rattle.blocks.proofs.Copying.{copied-none, copied-more}
+use native.Mathlib.Omega.{arith}
+use borrow.Author.Needs.{needs}
+use Rattle.blocks.proofs.shift_up.Statement.{statement}
+use Rattle.blocks.proofs.shift_up.Tie as tie
+use Rattle.blocks.proofs.shift_up.Reads as reads
+use Rattle.blocks.proofs.shift_up.Lts as lts
+
+abbrev Inv-loop : tie.InvT-loop
+Inv-loop block₀ from to len k₀ block k = (k ≤ len) × Copied block₀ block₀ from to k len block
+
+abbrev μ-loop : tie.MeasureT-loop
+μ-loop block₀ from to len k₀ block k = k
+
+loop-holds : tie.Need-loop-holds Inv-loop μ-loop
+loop-holds c = (search needs, copied-none _ _ _ _ _)
+
+sub-k : tie.Need-sub-k Inv-loop μ-loop
+sub-k c = search needs
+
+add-block : tie.Need-add-block Inv-loop μ-loop
+add-block c = search needs
+
+mul-block : tie.Need-mul-block Inv-loop μ-loop
+mul-block c = search needs
+
+slice-read-block : tie.Need-slice-read-block Inv-loop μ-loop
+slice-read-block c = search needs
+
+add-block-2 : tie.Need-add-block-2 Inv-loop μ-loop
+add-block-2 c = search needs
+
+mul-block-2 : tie.Need-mul-block-2 Inv-loop μ-loop
+mul-block-2 c = search needs
+
+slice-write-block : tie.Need-slice-write-block Inv-loop μ-loop
+slice-write-block c = search needs
+
+loop-less : tie.Need-loop-less Inv-loop μ-loop
+loop-less c = search needs
+
+loop-again : tie.Need-loop-again Inv-loop μ-loop
+loop-again c = (omega arith, copied-more _ _ _ _ _ _ _ _ _ _ _ (c .before .before .loop .inv .1) (c .before .before .loop .inv .1 .before _ (omega arith)) (omega arith) (omega arith) (omega arith) (omega arith) (omega arith) (omega arith))
+
+same-length : tie.Need-same-length Inv-loop μ-loop
+same-length c = c .before .loop .inv .1 .same
+
+returns : tie.Need-returns Inv-loop μ-loop
+returns c = let e : c .before .loop .k ≡ 0 = omega arith in rw e at (c .before .loop .inv .1)
+
+pub shift-up-spec : {M : Type 1} → statement M
+shift-up-spec =
+    tie.close
+    (tie.spec
+    Inv-loop
+    μ-loop
+    loop-holds
+    sub-k
+    add-block
+    mul-block
+    slice-read-block
+    add-block-2
+    mul-block-2
+    slice-write-block
+    loop-less
+    loop-again
+    same-length
+    returns)

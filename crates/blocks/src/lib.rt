@@ -1,0 +1,220 @@
+// Blocks of words, s words an item: judged, searched, and moved within. One code for sets (s = 2) and maps (s = 3).
+ghost use mathlib.Core.Path.{_≡_};
+ghost use Prim.Native.Nat.{ℕ, _+_, _*_, _<_, _≤_};
+ghost use mathlib.Core.List.{[], _∷_};
+ghost use lib.ListN.{length, getD, take, drop};
+ghost use Rattle.entries.specs.Build.{sameWords};
+ghost use Rattle.blocks.specs.Blocks.{itemsOf, capacity, fine, soundb, verdict};
+ghost use Rattle.blocks.specs.Steps.{itemFrom, Held, FirstFrom, Copied, Cleared, Spliced};
+
+// The most ranges of a set, and the most entries of a map.
+pub const SET_LIMIT: usize = 4095;
+
+pub const MAP_LIMIT: usize = 2730;
+
+pub fn room_for(s: usize, limit: usize, len: usize) -> usize
+    requires { ⌜ (2 ≤ s) × (0 < len) ⌝ }
+    ensures { λ r. ⌜ r ≡ capacity s limit len ⌝ }
+{
+    let c = (len - 1) / s;
+    if c < limit { c } else { limit }
+}
+
+pub fn wide(x: u64) -> usize
+    ensures { λ r. ⌜ r ≡ x ⌝ }
+{
+    x as usize
+}
+
+pub fn narrow(x: usize) -> u64
+    ensures { λ r. ⌜ r ≡ x ⌝ }
+{
+    x as u64
+}
+
+pub fn word(block: &[u64], k: usize) -> u64
+    requires { ⌜ k < length (now block) ⌝ }
+    ensures { λ r. ⌜ r ≡ getD (now (block .entry)) k 0 ⌝ }
+{
+    block[k]
+}
+
+// Whether len words of a from p on are those of b from q on.
+pub fn same_words(a: &[u64], p: usize, b: &[u64], q: usize, len: usize) -> bool
+    requires { ⌜ (p + len ≤ length (now a)) × (q + len ≤ length (now b)) ⌝ }
+    ensures { λ r. ⌜ r ≡ sameWords (take len (drop p (now (a .entry)))) (take len (drop q (now (b .entry)))) ⌝ }
+{
+    let mut k: usize = 0;
+    while k < len {
+        if word(a, p + k) == word(b, q + k) {
+            k += 1;
+        } else {
+            return false;
+        }
+    }
+    true
+}
+
+// Whether the item at word p has its ends in order and the next one may stand after it.
+fn follows(block: &[u64], s: usize, p: usize) -> bool
+    requires { ⌜ (2 ≤ s) × (p + s + s ≤ length (now block)) ⌝ }
+    ensures { λ r. ⌜ r ≡ fine (itemFrom s (now (block .entry)) p) (itemFrom s (now (block .entry)) (p + s) ∷ []) ⌝ }
+{
+    let low = word(block, p);
+    let high = word(block, p + 1);
+    if high < low {
+        return false;
+    }
+    let next = word(block, p + s);
+    if next <= high {
+        return false;
+    }
+    if 1 < next - high {
+        return true;
+    }
+    if same_words(block, p + 2, block, p + s + 2, s - 2) {
+        return false;
+    }
+    true
+}
+
+// Whether the n items are sound.
+fn all_sound(block: &[u64], s: usize, n: usize) -> bool
+    requires { ⌜ Held s n (now block) ⌝ }
+    ensures { λ r. ⌜ r ≡ soundb (itemsOf s n (drop 1 (now (block .entry)))) ⌝ }
+{
+    let mut p: usize = 1;
+    let mut left = n;
+    while 1 < left {
+        if follows(block, s, p) {
+            p += s;
+            left -= 1;
+        } else {
+            return false;
+        }
+    }
+    if left == 0 {
+        return true;
+    }
+    let low = word(block, p);
+    low <= word(block, p + 1)
+}
+
+// 0 where the block is sound, else the number of the refusal.
+pub fn judge(block: &[u64], s: usize, limit: usize) -> u8
+    requires { ⌜ 2 ≤ s ⌝ }
+    ensures { λ r. ⌜ r ≡ verdict s limit (now (block .entry)) ⌝ }
+{
+    if block.len() == 0 {
+        return 1;
+    }
+    let n = wide(word(block, 0));
+    if room_for(s, limit, block.len()) < n {
+        return 2;
+    }
+    if all_sound(block, s, n) {
+        return 0;
+    }
+    3
+}
+
+const MAX: u64 = 18446744073709551615;
+
+// The first of n items of s words whose word at off is at least x, or n.
+pub fn first_from(block: &[u64], s: usize, off: usize, n: usize, x: u64) -> usize
+    requires { ⌜ Held s n (now block) × (off ≤ s) ⌝ }
+    ensures { λ r. ⌜ FirstFrom (now (block .entry)) s off n x r ⌝ }
+{
+    let mut i: usize = 0;
+    while i < n {
+        if word(block, s * i + off) < x {
+            i += 1;
+        } else {
+            return i;
+        }
+    }
+    i
+}
+
+// The first whose word at off is above x.
+pub fn first_past(block: &[u64], s: usize, off: usize, n: usize, x: u64) -> usize
+    requires { ⌜ Held s n (now block) × (off ≤ s) ⌝ }
+    ensures { λ r. ⌜ FirstFrom (now (block .entry)) s off n (x + 1) r ⌝ }
+{
+    if x == MAX {
+        return n;
+    }
+    first_from(block, s, off, n, x + 1)
+}
+
+// Moves the len words from `from` on down to `to`.
+fn shift_down(block: &mut [u64], from: usize, to: usize, len: usize)
+    requires { ⌜ (to ≤ from) × (from + len ≤ length (now block)) ⌝ }
+    ensures { λ _. ⌜ Copied (now (block .entry)) (now (block .entry)) from to 0 len (now (block .exit)) ⌝ }
+{
+    let mut k: usize = 0;
+    while k < len {
+        block[to + k] = block[from + k];
+        k += 1;
+    }
+}
+
+// Moves the len words from `from` on up to `to`.
+fn shift_up(block: &mut [u64], from: usize, to: usize, len: usize)
+    requires { ⌜ (from ≤ to) × (to + len ≤ length (now block)) ⌝ }
+    ensures { λ _. ⌜ Copied (now (block .entry)) (now (block .entry)) from to 0 len (now (block .exit)) ⌝ }
+{
+    let mut k = len;
+    while 0 < k {
+        k -= 1;
+        block[to + k] = block[from + k];
+    }
+}
+
+// Moves the len words from `from` on to `to`.
+fn shift(block: &mut [u64], from: usize, to: usize, len: usize)
+    requires { ⌜ (from + len ≤ length (now block)) × (to + len ≤ length (now block)) ⌝ }
+    ensures { λ _. ⌜ Copied (now (block .entry)) (now (block .entry)) from to 0 len (now (block .exit)) ⌝ }
+{
+    if to < from {
+        shift_down(block, from, to, len);
+        return;
+    }
+    shift_up(block, from, to, len);
+}
+
+// Writes new to block from `to` on.
+fn paste(block: &mut [u64], to: usize, new: &[u64])
+    requires { ⌜ to + length (now new) ≤ length (now block) ⌝ }
+    ensures { λ _. ⌜ Copied (now (new .entry)) (now (block .entry)) 0 to 0 (length (now (new .entry))) (now (block .exit)) ⌝ }
+{
+    let mut k: usize = 0;
+    while k < new.len() {
+        block[to + k] = new[k];
+        k += 1;
+    }
+}
+
+// Writes 0 to every word from `from` on.
+pub fn clear(block: &mut [u64], from: usize)
+    ensures { λ _. ⌜ Cleared (now (block .entry)) from (now (block .exit)) ⌝ }
+{
+    let mut k = from;
+    while k < block.len() {
+        block[k] = 0;
+        k += 1;
+    }
+}
+
+// The words before `at`, then new, then the words from `from` up to `end`; count into word 0, and 0 into every later word.
+pub fn splice(block: &mut [u64], new: &[u64], at: usize, from: usize, end: usize, count: u64)
+    requires { ⌜ (0 < at) × (from ≤ end) × (end ≤ length (now block)) × (end + at + length (now new) ≤ length (now block) + from) ⌝ }
+    ensures { λ _. ⌜ (length (now (block .exit)) ≡ length (now (block .entry))) × Spliced (now (block .entry)) (now (new .entry)) at from end count (now (block .exit)) ⌝ }
+{
+    let to = at + new.len();
+    let len = end - from;
+    shift(block, from, to, len);
+    paste(block, at, new);
+    block[0] = count;
+    clear(block, to + len);
+}

@@ -1,0 +1,36 @@
+use Prim.Native.Nat.{_-_}
+use mathlib.Core.Path.{_∙_}
+use Rattle.blocks.proofs.Tests.{less-one}
+use Rattle.edits.proofs.Cuts.{no-end, an-end}
+use native.Mathlib.Omega.{arith}
+use borrow.Author.Needs.{needs}
+use Rattle.edits.proofs.cut_end.Statement.{statement}
+use Rattle.edits.proofs.cut_end.Tie as tie
+use Rattle.edits.proofs.cut_end.Reads as reads
+use Rattle.edits.proofs.cut_end.Lts as lts
+use Rattle.edits.proofs.lower.Reads as lower-reads
+
+returns : tie.Need-returns
+returns c = let s = c .before .before in no-end (s .args .s) (s .args .i) (s .args .lo) (s .args .block .now) (c .if1 .taken)
+
+sub-lower : tie.Need-sub-lower
+sub-lower c = search needs
+
+mul-lower : tie.Need-mul-lower
+mul-lower c = let s = c .before .before .before in let k = less-one (s .args .s) (s .args .i) (omega arith) in omega (arith, k)
+
+add-lower : tie.Need-add-lower
+add-lower c = let s = c .before .before .before in let k = less-one (s .args .s) (s .args .i) (omega arith) in omega (arith, k)
+
+lower-requires : tie.Need-lower-requires
+lower-requires c κs = let s = c .before .before .before in let k = less-one (s .args .s) (s .args .i) (omega arith) in omega (arith, k)
+
+same-length : tie.Need-same-length
+same-length c = search needs
+
+returns-2 : tie.Need-returns-2
+returns-2 c = let s = c .before .before .before .before .before .before in c .before .before .lower .ensures ∙ an-end (s .args .s) (s .args .i) (s .args .lo) (s .args .block .now) (c .before .before .before .before .if1 .left)
+
+pub cut-end-spec : {M : Type 1} → statement M
+cut-end-spec =
+    tie.close (tie.spec returns sub-lower mul-lower add-lower lower-requires same-length returns-2)

@@ -1,0 +1,33 @@
+use Prim.Native.Nat.{_-_}
+use mathlib.Core.Path.{_∙_}
+use Rattle.blocks.proofs.Tests.{item-in}
+use Rattle.edits.proofs.Cuts.{no-start, a-start}
+use native.Mathlib.Omega.{arith}
+use borrow.Author.Needs.{needs}
+use Rattle.edits.proofs.cut_start.Statement.{statement}
+use Rattle.edits.proofs.cut_start.Tie as tie
+use Rattle.edits.proofs.cut_start.Reads as reads
+use Rattle.edits.proofs.cut_start.Lts as lts
+use Rattle.edits.proofs.raise.Reads as raise-reads
+
+returns : tie.Need-returns
+returns c = let s = c .before .before in no-start (s .args .s) (s .args .k) (s .args .m) (s .args .hi) (s .args .block .now) (c .if1 .taken)
+
+mul-raise : tie.Need-mul-raise
+mul-raise c = let s = c .before .before .before in let k = item-in (s .args .s) (s .args .k) (s .args .m) (omega arith) in omega (arith, k, s .pre .held, s .pre .two)
+
+add-raise : tie.Need-add-raise
+add-raise c = let s = c .before .before .before in let k = item-in (s .args .s) (s .args .k) (s .args .m) (omega arith) in omega (arith, k, s .pre .held, s .pre .two)
+
+raise-requires : tie.Need-raise-requires
+raise-requires c κs = let s = c .before .before .before in let k = item-in (s .args .s) (s .args .k) (s .args .m) (omega arith) in (omega (arith, k, s .pre .held, s .pre .two), s .pre .from (omega arith))
+
+same-length : tie.Need-same-length
+same-length c = search needs
+
+returns-2 : tie.Need-returns-2
+returns-2 c = let s = c .before .before .before .before .before .before in c .before .before .raise .ensures ∙ a-start (s .args .s) (s .args .k) (s .args .m) (s .args .hi) (s .args .block .now) (c .before .before .before .before .if1 .left)
+
+pub cut-start-spec : {M : Type 1} → statement M
+cut-start-spec =
+    tie.close (tie.spec returns mul-raise add-raise raise-requires same-length returns-2)

@@ -1,0 +1,83 @@
+use Prim.Native.Nat.{_+_, _-_}
+use mathlib.Core.Path.{refl}
+use Rattle.blocks.proofs.Tests.{span}
+use Rattle.edits.proofs.Sides.{cut-ok, place-law}
+use native.Mathlib.Omega.{arith}
+use borrow.Author.Needs.{needs}
+use Rattle.edits.proofs.place.Statement.{statement}
+use Rattle.edits.proofs.place.Tie as tie
+use Rattle.edits.proofs.place.Reads as reads
+use Rattle.edits.proofs.place.Lts as lts
+use Rattle.edits.proofs.cut_end.Reads as cut-end-reads
+use Rattle.edits.proofs.cut_start.Reads as cut-start-reads
+use Rattle.blocks.proofs.narrow.Reads as narrow-reads
+use Rattle.blocks.proofs.splice.Reads as splice-reads
+
+add-m : tie.Need-add-m
+add-m c = let s = c .before .before in let k = span (s .args .s) (s .args .n) (s .args .i) (s .args .j) (s .args .c) (s .pre .two) (s .pre .i-le) (s .pre .j-le) in omega (arith, k .si, k .sj, k .back, k .c2, k .i2, k .b2, s .pre .room, s .pre .held, s .pre .whole, s .pre .j-le, s .pre .i-le)
+
+sub-m : tie.Need-sub-m
+sub-m c = search needs
+
+add-m-2 : tie.Need-add-m-2
+add-m-2 c = let s = c .before .before in let k = span (s .args .s) (s .args .n) (s .args .i) (s .args .j) (s .args .c) (s .pre .two) (s .pre .i-le) (s .pre .j-le) in omega (arith, k .si, k .sj, k .back, k .c2, k .i2, k .b2, s .pre .room, s .pre .held, s .pre .whole, s .pre .j-le, s .pre .i-le)
+
+mul-splice : tie.Need-mul-splice
+mul-splice c = search needs
+
+add-splice : tie.Need-add-splice
+add-splice c = search needs
+
+mul-splice-2 : tie.Need-mul-splice-2
+mul-splice-2 c = let s = c .before .before .before in let k = span (s .args .s) (s .args .n) (s .args .i) (s .args .j) (s .args .c) (s .pre .two) (s .pre .i-le) (s .pre .j-le) in omega (arith, k .si, k .sj, k .back, k .c2, k .i2, k .b2, s .pre .room, s .pre .held, s .pre .whole, s .pre .j-le, s .pre .i-le)
+
+add-splice-2 : tie.Need-add-splice-2
+add-splice-2 c = let s = c .before .before .before in let k = span (s .args .s) (s .args .n) (s .args .i) (s .args .j) (s .args .c) (s .pre .two) (s .pre .i-le) (s .pre .j-le) in omega (arith, k .si, k .sj, k .back, k .c2, k .i2, k .b2, s .pre .room, s .pre .held, s .pre .whole, s .pre .j-le, s .pre .i-le)
+
+mul-splice-3 : tie.Need-mul-splice-3
+mul-splice-3 c = search needs
+
+add-splice-3 : tie.Need-add-splice-3
+add-splice-3 c = search needs
+
+narrow-requires : tie.Need-narrow-requires
+narrow-requires c κs = search needs
+
+splice-requires : tie.Need-splice-requires
+splice-requires c κs = let s = c .before .before .before .before in let k = span (s .args .s) (s .args .n) (s .args .i) (s .args .j) (s .args .c) (s .pre .two) (s .pre .i-le) (s .pre .j-le) in omega (arith, k .si, k .sj, k .back, k .c2, k .i2, k .b2, s .pre .room, s .pre .held, s .pre .whole, s .pre .j-le, s .pre .i-le)
+
+cut-end-requires : tie.Need-cut-end-requires
+cut-end-requires c κs = search needs
+
+add-cut-start : tie.Need-add-cut-start
+add-cut-start c = search needs
+
+cut-start-requires : tie.Need-cut-start-requires
+cut-start-requires c κs = let s = c .before .before .before .before .before .before .before .before .before .before .before .before in cut-ok (s .pre) (s .args .lo) (s .args .i + s .args .c + (s .args .n - s .args .j)) refl (c .before .before .before .before .before .before .before .splice .ensures) _ (c .before .before .before .cut-end .ensures)
+
+same-length : tie.Need-same-length
+same-length c = search needs
+
+returns : tie.Need-returns
+returns c = let s = c .before .before .before .before .before .before .before .before .before .before .before .before .before .before .before in place-law (s .pre) (s .args .lo) (s .args .i + s .args .c + (s .args .n - s .args .j)) refl (c .before .before .before .before .before .before .before .before .before .before .splice .ensures) _ _ (c .before .before .before .before .before .before .before .before .before .before .before .narrow .ensures) (c .before .before .before .before .before .before .cut-end .ensures) (c .before .before .cut-start .ensures)
+
+pub place-spec : {M : Type 1} → statement M
+place-spec =
+    tie.close
+    (tie.spec
+    add-m
+    sub-m
+    add-m-2
+    mul-splice
+    add-splice
+    mul-splice-2
+    add-splice-2
+    mul-splice-3
+    add-splice-3
+    narrow-requires
+    splice-requires
+    cut-end-requires
+    add-cut-start
+    cut-start-requires
+    same-length
+    returns)

@@ -1,0 +1,242 @@
+// One edit in place for sets and maps: an entry put in, or a range taken out, of a block of s words an item.
+ghost use mathlib.Core.Path.{_≡_};
+ghost use mathlib.Core.Option.{none, some};
+ghost use Prim.Native.Nat.{ℕ, suc, _+_, _-_, _*_, _<_, _≤_, min, max};
+ghost use mathlib.Core.List.{_++_, [], _∷_};
+ghost use lib.Dec.{ltb};
+ghost use lib.ListN.{length, getD, take, drop};
+ghost use Rattle.entries.specs.Build.{put};
+ghost use Rattle.entries.proofs.Put.{trimEnd, trimStart, JoinsLeft, JoinsRight};
+ghost use Rattle.answers.specs.Answers.{outcome, numberSays};
+ghost use Rattle.blocks.specs.Blocks.{itemsOf, entriesOf, capacity, blockOf};
+ghost use Rattle.blocks.specs.Steps.{zero-item};
+ghost use Rattle.edits.specs.Calls.{stored, editCall};
+ghost use Rattle.edits.specs.Steps.{cutEnd, cutStart, update, CutOk, PlaceOk, SideOk, EditOk, roomSays};
+
+fn below(high: u64, lo: u64) -> u64
+    ensures { λ r. ⌜ r ≡ min high (lo - 1) ⌝ }
+{
+    if high < lo {
+        return high;
+    }
+    if lo == 0 { 0 } else { lo - 1 }
+}
+
+fn above(low: u64, hi: u64, high: u64) -> u64
+    requires { ⌜ hi < high ⌝ }
+    ensures { λ r. ⌜ r ≡ max low (suc hi) ⌝ }
+{
+    if hi < low { low } else { hi + 1 }
+}
+
+// Brings word `at` below lo.
+fn lower(block: &mut [u64], at: usize, lo: u64)
+    requires { ⌜ at < length (now block) ⌝ }
+    ensures { λ _. ⌜ now (block .exit) ≡ update (now (block .entry)) at (λ h. min h (lo - 1)) ⌝ }
+{
+    block[at] = below(block[at], lo);
+}
+
+// Brings word `at`, the low end of an item that ends past hi, past hi.
+fn raise(block: &mut [u64], at: usize, hi: u64)
+    requires { ⌜ (at + 1 < length (now block)) × (hi < getD (now block) (at + 1) 0) ⌝ }
+    ensures { λ _. ⌜ now (block .exit) ≡ update (now (block .entry)) at (λ l. max l (suc hi)) ⌝ }
+{
+    block[at] = above(block[at], hi, block[at + 1]);
+}
+
+// Brings the high end of item i - 1 below lo.
+fn cut_end(block: &mut [u64], s: usize, i: usize, lo: u64)
+    requires { ⌜ (2 ≤ s) × (1 + s * i ≤ length (now block)) ⌝ }
+    ensures { λ _. ⌜ now (block .exit) ≡ cutEnd s i lo (now (block .entry)) ⌝ }
+{
+    if i == 0 {
+        return;
+    }
+    lower(block, s * (i - 1) + 2, lo);
+}
+
+// Brings the low end of item k of m past hi.
+fn cut_start(block: &mut [u64], s: usize, k: usize, m: usize, hi: u64)
+    requires { ⌜ CutOk s k m hi (now block) ⌝ }
+    ensures { λ _. ⌜ now (block .exit) ≡ cutStart s k m hi (now (block .entry)) ⌝ }
+{
+    if m <= k {
+        return;
+    }
+    raise(block, s * k + 1, hi);
+}
+
+// The first i items, cut below lo; then the c new ones; then the items from j on, cut past hi.
+fn place(
+    block: &mut [u64],
+    new: &[u64],
+    s: usize,
+    n: usize,
+    i: usize,
+    j: usize,
+    c: usize,
+    lo: u64,
+    hi: u64,
+)
+    requires { ⌜ PlaceOk (now block) (now new) s n i j c hi ⌝ }
+    ensures { λ _. ⌜ now (block .exit) ≡ blockOf (length (now (block .entry)))
+        (trimEnd lo (take i (itemsOf s n (drop 1 (now (block .entry))))) ++ (itemsOf s c (now (new .entry)) ++ trimStart hi (drop j (itemsOf s n (drop 1 (now (block .entry))))))) ⌝ }
+{
+    let m = i + c + (n - j);
+    blocks::splice(
+        block,
+        new,
+        s * i + 1,
+        s * j + 1,
+        s * n + 1,
+        blocks::narrow(m),
+    );
+    cut_end(block, s, i, lo);
+    cut_start(block, s, i + c, m, hi);
+}
+
+// Whether y is beyond x + 1.
+fn beyond(x: u64, y: u64) -> bool
+    ensures { λ r. ⌜ r ≡ ltb (suc x) y ⌝ }
+{
+    if y <= x {
+        return false;
+    }
+    if 1 < y - x {
+        return true;
+    }
+    false
+}
+
+// Where the left or the right part of a list ends, and the end of the new entry there.
+pub struct Side {
+    pub at: usize,
+    pub end: u64,
+}
+
+// The new entry joins the entry that ends right before it or within it, if that has the same value.
+fn left_of(block: &[u64], new: &[u64], s: usize, n: usize) -> Side
+    requires { ⌜ SideOk (now block) (now new) s n ⌝ }
+    ensures { λ r. ⌜ JoinsLeft zero-item (itemsOf s n (drop 1 (now (block .entry)))) (r .at) (r .end) (getD (now (new .entry)) 0 0) (take (s - 2) (drop 2 (now (new .entry)))) ⌝ }
+{
+    let a = blocks::word(new, 0);
+    let i = blocks::first_from(block, s, 1, n, a);
+    if i == 0 {
+        return Side { at: 0, end: a };
+    }
+    let k = i - 1;
+    if beyond(blocks::word(block, s * k + 2), a) {
+        return Side { at: i, end: a };
+    }
+    if blocks::same_words(block, s * k + 3, new, 2, s - 2) {
+        let low = blocks::word(block, s * k + 1);
+        return Side { at: k, end: low };
+    }
+    Side { at: i, end: a }
+}
+
+fn right_of(block: &[u64], new: &[u64], s: usize, n: usize) -> Side
+    requires { ⌜ SideOk (now block) (now new) s n ⌝ }
+    ensures { λ r. ⌜ JoinsRight zero-item (itemsOf s n (drop 1 (now (block .entry)))) (r .at) (r .end) (getD (now (new .entry)) 1 0) (take (s - 2) (drop 2 (now (new .entry)))) ⌝ }
+{
+    let b = blocks::word(new, 1);
+    let j = blocks::first_past(block, s, 2, n, b);
+    if n <= j {
+        return Side { at: j, end: b };
+    }
+    if beyond(b, blocks::word(block, s * j + 1)) {
+        return Side { at: j, end: b };
+    }
+    if blocks::same_words(block, s * j + 3, new, 2, s - 2) {
+        let high = blocks::word(block, s * j + 2);
+        return Side {
+            at: j + 1,
+            end: high,
+        };
+    }
+    Side { at: j, end: b }
+}
+
+fn set_ends(new: &mut [u64], lo: u64, hi: u64)
+    requires { ⌜ 2 ≤ length (now new) ⌝ }
+    ensures { λ _. ⌜ now (new .exit) ≡ lo ∷ hi ∷ drop 2 (now (new .entry)) ⌝ }
+{
+    new[0] = lo;
+    new[1] = hi;
+}
+
+// Puts the new entry into a sound block of n items; false where there is no room.
+fn put_value(block: &mut [u64], new: &mut [u64], n: usize, limit: usize) -> bool
+    requires { ⌜ EditOk (now block) (length (now new)) limit n × (getD (now new) 0 0 ≤ getD (now new) 1 0) ⌝ }
+    ensures { λ r. ⌜ outcome (roomSays r) (now (block .exit) ∷ []) ≡ stored (capacity (length (now (new .entry))) limit (length (now (block .entry)))) (now (block .entry))
+        (put (entriesOf (length (now (new .entry))) (now (block .entry))) (getD (now (new .entry)) 0 0) (getD (now (new .entry)) 1 0) (some (take (length (now (new .entry)) - 2) (drop 2 (now (new .entry)))))) ⌝ }
+{
+    let s = new.len();
+    let l = left_of(block, new, s, n);
+    let r = right_of(block, new, s, n);
+    let i = l.at;
+    let j = r.at;
+    let lo = l.end;
+    let hi = r.end;
+    if blocks::room_for(s, limit, block.len()) < i + 1 + (n - j) {
+        return false;
+    }
+    set_ends(new, lo, hi);
+    place(block, new, s, n, i, j, 1, lo, hi);
+    true
+}
+
+// Takes a..b out of a sound block of n items; false where there is no room.
+fn take_out(block: &mut [u64], s: usize, n: usize, limit: usize, a: u64, b: u64) -> bool
+    requires { ⌜ EditOk (now block) s limit n × (a ≤ b) ⌝ }
+    ensures { λ r. ⌜ outcome (roomSays r) (now (block .exit) ∷ []) ≡ stored (capacity s limit (length (now (block .entry)))) (now (block .entry))
+        (put (entriesOf s (now (block .entry))) a b none) ⌝ }
+{
+    let i = blocks::first_from(block, s, 1, n, a);
+    let j = blocks::first_past(block, s, 2, n, b);
+    if blocks::room_for(s, limit, block.len()) < i + (n - j) {
+        return false;
+    }
+    let nothing = [0; 1];
+    place(block, &nothing[0..0], s, n, i, j, 0, a, b);
+    true
+}
+
+// The number of the refusal, or 0 and the new entry is in.
+pub fn edit_put(block: &mut [u64], new: &mut [u64], limit: usize) -> u8
+    requires { ⌜ 2 ≤ length (now new) ⌝ }
+    ensures { λ r. ⌜ outcome (numberSays r 0) (now (block .exit) ∷ []) ≡ editCall (length (now (new .entry))) limit (now (block .entry)) (getD (now (new .entry)) 0 0) (getD (now (new .entry)) 1 0) (some (take (length (now (new .entry)) - 2) (drop 2 (now (new .entry))))) ⌝ }
+{
+    let v = blocks::judge(block, new.len(), limit);
+    if v != 0 {
+        return v;
+    }
+    if blocks::word(new, 1) < blocks::word(new, 0) {
+        return 4;
+    }
+    let n = blocks::wide(blocks::word(block, 0));
+    if put_value(block, new, n, limit) {
+        return 0;
+    }
+    5
+}
+
+// The number of the refusal, or 0 and a..b is out.
+pub fn edit_out(block: &mut [u64], s: usize, limit: usize, a: u64, b: u64) -> u8
+    requires { ⌜ 2 ≤ s ⌝ }
+    ensures { λ r. ⌜ outcome (numberSays r 0) (now (block .exit) ∷ []) ≡ editCall s limit (now (block .entry)) a b none ⌝ }
+{
+    let v = blocks::judge(block, s, limit);
+    if v != 0 {
+        return v;
+    }
+    if b < a {
+        return 4;
+    }
+    let n = blocks::wide(blocks::word(block, 0));
+    if take_out(block, s, n, limit, a, b) {
+        return 0;
+    }
+    5
+}

@@ -1,0 +1,16 @@
+pub mod Values
+pub mod Sides
+pub mod Canon
+pub mod Cuts
+pub mod Building
+pub mod Append
+pub mod Operations
+pub mod Index
+pub mod Put
+pub mod Plain
+pub mod Step
+pub mod Extend
+pub mod Bounds
+pub mod Taut
+pub mod Sets
+pub mod Limits

@@ -1,0 +1,59 @@
+-- Entries and lists of entries: what they name, and when they are sound.
+-- A value is a list of words: none in a set, one in a map.
+use mathlib.Core.Path.{_≡_}
+use mathlib.Core.Logic.{_≢_}
+use mathlib.Core.Bool.{Bool, true, false}
+use mathlib.Core.Option.{Option, none, some}
+use mathlib.Core.List.{List, [], _∷_}
+use Prim.Native.Nat.{ℕ, suc, _≤_, _<_}
+use lib.Dec.{leb}
+
+abbrev pub Value : Type 0
+Value = List ℕ
+
+-- «Both ends belong to the range.»
+pub record Entry : Type 0 where
+  pub low : ℕ
+  pub high : ℕ
+  pub value : Value
+
+abbrev pub entry : ℕ → ℕ → Value → Entry
+entry l h v = record { low = l; high = h; value = v }
+
+abbrev pub orElse : {A : Type 0} → Option A → Option A → Option A
+orElse none p = p
+orElse (some a) p = some a
+
+-- the value where both tests pass
+abbrev pub both : Bool → Bool → Value → Option Value
+both true true v = some v
+both true false v = none
+both false t v = none
+
+-- the value that an entry gives to the number x
+abbrev pub at : Entry → ℕ → Option Value
+at e x = both (leb (e .low) x) (leb x (e .high)) (e .value)
+
+-- The value that a list gives to x. «A number in no entry has no value.»
+abbrev pub valueAt : List Entry → ℕ → Option Value
+valueAt [] x = none
+valueAt (e ∷ es) x = orElse (at e x) (valueAt es x)
+
+-- q may stand right after p: «each low but the first exceeds the high before it, and where it exceeds it by exactly 1 the two
+-- values differ». Where no entry has a value this is «at least the high before it plus 2» (`plain-sound` in proofs/Plain).
+abbrev pub After : Entry → Entry → Type 0
+After p q = (p .high < q .low) × (q .low ≡ suc (p .high) → p .value ≢ q .value)
+
+abbrev pub Link : Entry → List Entry → Type 0
+Link p [] = Unit {0}
+Link p (q ∷ qs) = After p q
+
+-- «each low is at most its high», and each entry may stand after the one before it
+abbrev pub Sound : List Entry → Type 0
+Sound [] = Unit {0}
+Sound (e ∷ es) = (e .low ≤ e .high) × Link e es × Sound es
+
+-- es is sound and gives every number the value that F gives it
+pub record ListOf (F : ℕ → Option Value) (es : List Entry) : Type 0 where
+  pub sound : Sound es
+  pub names : (x : ℕ) → valueAt es x ≡ F x

@@ -1,0 +1,5 @@
+pub mod Entries
+pub mod Build
+pub mod Sets
+pub mod Maps
+pub mod Bulletins
