@@ -24,7 +24,8 @@ use Rattle.blocks.proofs.Moves.{entry-at, splice-entries, entries-count}
 use Rattle.edits.proofs.Cuts.{trim-length, placed}
 use Rattle.edits.specs.Steps.{cutEnd, cutStart, PlaceOk, SideOk, EditOk, CutOk, roomSays}
 use Rattle.answers.specs.Answers.{Outcome, outcome, given, refused, judged, numberSays}
-use Rattle.edits.specs.Calls.{stored, editCall}
+use Rattle.blocks.specs.Calls.{stored}
+use Rattle.edits.specs.Calls.{editCall}
 use Rattle.blocks.proofs.Tests.{span, item-in}
 
 module _ (s : ℕ) (two : 2 ≤ s) (n : ℕ) (w : List ℕ) where
@@ -171,10 +172,10 @@ module _ {w : List ℕ} {s limit n : ℕ} (ok : EditOk w s limit n) where
   start-length hi [] = refl
   start-length hi (x ∷ l) = refl
 
-  answer-no : (X Y : List Entry) (cap m : ℕ) → X ≡ Y → m ≡ length Y → cap ≡ capacity s limit (length w) → cap < m → outcome (roomSays false) (w ∷ []) ≡ stored (capacity s limit (length w)) w X
+  answer-no : (X Y : List Entry) (cap m : ℕ) → X ≡ Y → m ≡ length Y → cap ≡ capacity s limit (length w) → cap < m → outcome (roomSays false) (w ∷ []) ≡ stored 0 s limit w X
   answer-no X Y cap m e f g h = let k : capacity s limit (length w) < length X = omega (arith, ap length e) in rw (lt-ltb (capacity s limit (length w)) (length X) k)
 
-  answer-yes : (X Y : List Entry) (cap m : ℕ) (w' : List ℕ) → X ≡ Y → m ≡ length Y → cap ≡ capacity s limit (length w) → m ≤ cap → w' ≡ blockOf (length w) Y → outcome (roomSays true) (w' ∷ []) ≡ stored (capacity s limit (length w)) w X
+  answer-yes : (X Y : List Entry) (cap m : ℕ) (w' : List ℕ) → X ≡ Y → m ≡ length Y → cap ≡ capacity s limit (length w) → m ≤ cap → w' ≡ blockOf (length w) Y → outcome (roomSays true) (w' ∷ []) ≡ stored 0 s limit w X
   answer-yes X Y cap m w' e f g h b =
       let k : length X ≤ capacity s limit (length w) = omega (arith, ap length e) in
       rw (le-ltb (capacity s limit (length w)) (length X) k) (ap (λ (l : List ℕ). outcome (given []) (l ∷ [])) (b ∙ ap (blockOf (length w)) (sym e)))
@@ -197,15 +198,15 @@ module _ {w : List ℕ} {s limit n : ℕ} (ok : EditOk w s limit n) where
     result-count = omega (arith, length-append (trimEnd lo (take i list)) (entry lo hi v ∷ trimStart hi (drop j list)), trim-length lo (take i list), length-take i list, start-length hi (drop j list), length-drop j list, list-count, p .left .within)
 
     module _ (cap : ℕ) (g : cap ≡ capacity s limit (length w)) where
-      pub put-no : cap < i + 1 + (n - j) → outcome (roomSays false) (w ∷ []) ≡ stored (capacity s limit (length w)) w (put (entriesOf s w) a b (some v))
+      pub put-no : cap < i + 1 + (n - j) → outcome (roomSays false) (w ∷ []) ≡ stored 0 s limit w (put (entriesOf s w) a b (some v))
       put-no h = answer-no _ result cap (i + 1 + (n - j)) put-result result-count g h
 
-      pub put-yes : (w' : List ℕ) → i + 1 + (n - j) ≤ cap → w' ≡ blockOf (length w) result → outcome (roomSays true) (w' ∷ []) ≡ stored (capacity s limit (length w)) w (put (entriesOf s w) a b (some v))
+      pub put-yes : (w' : List ℕ) → i + 1 + (n - j) ≤ cap → w' ≡ blockOf (length w) result → outcome (roomSays true) (w' ∷ []) ≡ stored 0 s limit w (put (entriesOf s w) a b (some v))
       put-yes w' h e = answer-yes _ result cap (i + 1 + (n - j)) w' put-result result-count g h e
 
       pub put-done : (new new' w' : List ℕ) → v ≡ take (s - 2) (drop 2 new) → new' ≡ lo ∷ hi ∷ drop 2 new → i + 1 + (n - j) ≤ cap
           → w' ≡ blockOf (length w) (trimEnd lo (take i list) ++ (itemsOf s 1 new' ++ trimStart hi (drop j list)))
-          → outcome (roomSays true) (w' ∷ []) ≡ stored (capacity s limit (length w)) w (put (entriesOf s w) a b (some v))
+          → outcome (roomSays true) (w' ∷ []) ≡ stored 0 s limit w (put (entriesOf s w) a b (some v))
       put-done new new' w' ve e h b =
           put-yes w' h (b ∙ ap (λ (l : List ℕ). blockOf (length w) (trimEnd lo (take i list) ++ (itemsOf s 1 l ++ trimStart hi (drop j list)))) e
           ∙ ap (λ (x : List ℕ). blockOf (length w) (trimEnd lo (take i list) ++ (entry lo hi x ∷ trimStart hi (drop j list)))) (sym ve))
@@ -228,10 +229,10 @@ module _ {w : List ℕ} {s limit n : ℕ} (ok : EditOk w s limit n) where
     rest-count = omega (arith, length-append (trimEnd a (take i list)) (trimStart b (drop j list)), trim-length a (take i list), length-take i list, start-length b (drop j list), length-drop j list, list-count, f .within)
 
     module _ (cap : ℕ) (g : cap ≡ capacity s limit (length w)) where
-      pub out-no : cap < i + (n - j) → outcome (roomSays false) (w ∷ []) ≡ stored (capacity s limit (length w)) w (put (entriesOf s w) a b none)
+      pub out-no : cap < i + (n - j) → outcome (roomSays false) (w ∷ []) ≡ stored 0 s limit w (put (entriesOf s w) a b none)
       out-no m = answer-no _ rest cap (i + (n - j)) out-result rest-count g m
 
-      pub out-yes : (w' : List ℕ) → i + (n - j) ≤ cap → w' ≡ blockOf (length w) rest → outcome (roomSays true) (w' ∷ []) ≡ stored (capacity s limit (length w)) w (put (entriesOf s w) a b none)
+      pub out-yes : (w' : List ℕ) → i + (n - j) ≤ cap → w' ≡ blockOf (length w) rest → outcome (roomSays true) (w' ∷ []) ≡ stored 0 s limit w (put (entriesOf s w) a b none)
       out-yes w' m e = answer-yes _ rest cap (i + (n - j)) w' out-result rest-count g m e
 
       pub out-ok : (new : List ℕ) → length new ≡ 0 → i + (n - j) ≤ cap → PlaceOk w new s n i j 0 b
@@ -241,7 +242,7 @@ module _ {w : List ℕ} {s limit n : ℕ} (ok : EditOk w s limit n) where
 -- the call, by the tests of the code
 module _ (s limit : ℕ) (w : List ℕ) (a b : ℕ) (o : Option (List ℕ)) (v : ℕ) (e : v ≡ verdict s limit w) where
   abbrev kept : Outcome
-  kept = stored (capacity s limit (length w)) w (put (entriesOf s w) a b o)
+  kept = stored 0 s limit w (put (entriesOf s w) a b o)
 
   by-verdict : (x : Outcome) → x ≡ judged v 0 (w ∷ []) (pick (ltb b a) (outcome (refused 4 0) (w ∷ [])) kept) → x ≡ editCall s limit w a b o
   unfolding editCall

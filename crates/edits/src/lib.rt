@@ -8,9 +8,10 @@ ghost use lib.ListN.{length, getD, take, drop};
 ghost use Rattle.entries.specs.Build.{put};
 ghost use Rattle.entries.proofs.Put.{trimEnd, trimStart, JoinsLeft, JoinsRight};
 ghost use Rattle.answers.specs.Answers.{outcome, numberSays};
-ghost use Rattle.blocks.specs.Blocks.{itemsOf, entriesOf, capacity, blockOf};
+ghost use Rattle.blocks.specs.Blocks.{itemsOf, entriesOf, blockOf};
 ghost use Rattle.blocks.specs.Steps.{zero-item};
-ghost use Rattle.edits.specs.Calls.{stored, editCall};
+ghost use Rattle.blocks.specs.Calls.{stored};
+ghost use Rattle.edits.specs.Calls.{editCall};
 ghost use Rattle.edits.specs.Steps.{cutEnd, cutStart, update, CutOk, PlaceOk, SideOk, EditOk, roomSays};
 
 fn below(high: u64, lo: u64) -> u64
@@ -169,7 +170,7 @@ fn set_ends(new: &mut [u64], lo: u64, hi: u64)
 // Puts the new entry into a sound block of n items; false where there is no room.
 fn put_value(block: &mut [u64], new: &mut [u64], n: usize, limit: usize) -> bool
     requires { ⌜ EditOk (now block) (length (now new)) limit n × (getD (now new) 0 0 ≤ getD (now new) 1 0) ⌝ }
-    ensures { λ r. ⌜ outcome (roomSays r) (now (block .exit) ∷ []) ≡ stored (capacity (length (now (new .entry))) limit (length (now (block .entry)))) (now (block .entry))
+    ensures { λ r. ⌜ outcome (roomSays r) (now (block .exit) ∷ []) ≡ stored 0 (length (now (new .entry))) limit (now (block .entry))
         (put (entriesOf (length (now (new .entry))) (now (block .entry))) (getD (now (new .entry)) 0 0) (getD (now (new .entry)) 1 0) (some (take (length (now (new .entry)) - 2) (drop 2 (now (new .entry)))))) ⌝ }
 {
     let s = new.len();
@@ -190,7 +191,7 @@ fn put_value(block: &mut [u64], new: &mut [u64], n: usize, limit: usize) -> bool
 // Takes a..b out of a sound block of n items; false where there is no room.
 fn take_out(block: &mut [u64], s: usize, n: usize, limit: usize, a: u64, b: u64) -> bool
     requires { ⌜ EditOk (now block) s limit n × (a ≤ b) ⌝ }
-    ensures { λ r. ⌜ outcome (roomSays r) (now (block .exit) ∷ []) ≡ stored (capacity s limit (length (now (block .entry)))) (now (block .entry))
+    ensures { λ r. ⌜ outcome (roomSays r) (now (block .exit) ∷ []) ≡ stored 0 s limit (now (block .entry))
         (put (entriesOf s (now (block .entry))) a b none) ⌝ }
 {
     let i = blocks::first_from(block, s, 1, n, a);
