@@ -3,3 +3,4 @@ pub mod Judging
 pub mod Moves
 pub mod Copying
 pub mod Tests
+pub mod Finding

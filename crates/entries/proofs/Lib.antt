@@ -14,3 +14,6 @@ pub mod Bounds
 pub mod Taut
 pub mod Sets
 pub mod Limits
+pub mod Questions
+pub mod Windows
+pub mod Finding

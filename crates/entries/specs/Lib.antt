@@ -3,3 +3,4 @@ pub mod Build
 pub mod Sets
 pub mod Maps
 pub mod Bulletins
+pub mod Questions

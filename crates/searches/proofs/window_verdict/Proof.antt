@@ -1,0 +1,23 @@
+use Rattle.searches.proofs.Windows.{window-refused, window-backwards, window-right}
+use native.Mathlib.Omega.{arith}
+use borrow.Author.Needs.{needs}
+use Rattle.searches.proofs.window_verdict.Statement.{statement}
+use Rattle.searches.proofs.window_verdict.Tie as tie
+use Rattle.searches.proofs.window_verdict.Reads as reads
+use Rattle.searches.proofs.window_verdict.Lts as lts
+use Rattle.blocks.proofs.judge.Reads as judge-reads
+
+judge-requires : tie.Need-judge-requires
+judge-requires c κs = search needs
+
+returns : tie.Need-returns
+returns c = window-refused _ _ _ _ _ _ (c .before .judge .ensures) (c .if1 .taken)
+
+returns-2 : tie.Need-returns-2
+returns-2 c = window-backwards _ _ _ _ _ _ (c .before .before .judge .ensures) (c .before .if1 .left) (c .if2 .taken)
+
+returns-3 : tie.Need-returns-3
+returns-3 c = window-right _ _ _ _ _ _ (c .before .before .judge .ensures) (c .before .if1 .left) (c .if2 .left)
+
+pub window-verdict-spec : {M : Type 1} → statement M
+window-verdict-spec = tie.close (tie.spec judge-requires returns returns-2 returns-3)

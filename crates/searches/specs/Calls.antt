@@ -1,0 +1,27 @@
+-- Windows: what is handed back, and the refusal of the companion question. For sets and for maps.
+use mathlib.Core.List.{List, [], _∷_}
+use Prim.Native.Nat.{ℕ, _+_, _*_}
+use lib.Dec.{ltb, eqb}
+use lib.ListN.{length, take, drop}
+use Rattle.entries.specs.Build.{pick}
+use Rattle.entries.specs.Questions.{meeting, whollyBelow}
+use Rattle.answers.specs.Answers.{Outcome, outcome, given, refuse, judged}
+use Rattle.blocks.specs.Blocks.{entriesOf, verdict}
+
+-- «Window a..b: all ranges that share a number with a..b, unclipped, handed back as that part of the caller's own block»: behind
+-- the count and the ranges wholly below a, as many words as the ranges that meet a..b take. (`window-words` in proofs/Windows: these
+-- are exactly the words of those ranges, in order.) «If there are none, an empty part.»
+abbrev pub windowPart : ℕ → List ℕ → ℕ → ℕ → List ℕ
+windowPart s w a b = take (s * length (meeting a b (entriesOf s w))) (drop (1 + s * length (whollyBelow a (entriesOf s w))) w)
+
+-- by 1, 2, 3 of the block, then 4
+unfoldable pub windowVerdict : ℕ → ℕ → List ℕ → ℕ → ℕ → ℕ
+windowVerdict s limit w a b = pick (eqb (verdict s limit w) 0) (pick (ltb b a) 4 0) (verdict s limit w)
+
+-- «refused, they hand back a part of length 0»
+unfoldable pub windowCall : ℕ → ℕ → List ℕ → ℕ → ℕ → List ℕ
+windowCall s limit w a b = pick (eqb (windowVerdict s limit w a b) 0) (windowPart s w a b) []
+
+-- «a companion question on the same inputs gives the refusal, or says that there is none»
+abbrev pub windowRefusalCall : ℕ → ℕ → List ℕ → ℕ → ℕ → Outcome
+windowRefusalCall s limit w a b = judged (windowVerdict s limit w a b) 0 [] (outcome (given []) [])
