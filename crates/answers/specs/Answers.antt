@@ -1,6 +1,10 @@
 -- Answers in the paper's numbers, and outcomes: what a call answers and what it leaves in everything lent to it.
-use mathlib.Core.List.{List, []}
-use Prim.Native.Nat.{ℕ, zero, suc}
+use mathlib.Core.Bool.{Bool, true, false}
+use mathlib.Core.Option.{Option, none, some}
+use mathlib.Core.List.{List, [], _∷_}
+use Prim.Native.Nat.{ℕ, zero, suc, _-_}
+use lib.Dec.{eqb}
+use Rattle.entries.specs.Build.{pick}
 
 -- given, with the values that the question asks for; or refused: «A refusal returns its number and a place.»
 pub data Answer : Type 0 where
@@ -24,3 +28,17 @@ judged (suc v) position lent x = refuse (suc v) position lent
 abbrev pub numberSays : ℕ → ℕ → Answer
 numberSays zero place = given []
 numberSays (suc v) place = refused (suc v) place
+
+-- the answer of a question that is true (1) or not (0)
+abbrev pub truth : Bool → Answer
+truth true = given (1 ∷ [])
+truth false = given (0 ∷ [])
+
+-- a number, or none
+abbrev pub optional : Option ℕ → Answer
+optional (some n) = given (n ∷ [])
+optional none = given []
+
+-- «empty, or the size less one»
+abbrev pub lessOne : ℕ → Answer
+lessOne n = pick (eqb n 0) (given []) (given ((n - 1) ∷ []))

@@ -75,3 +75,14 @@ pub room : (s limit L n : ℕ) → 0 < L → n ≤ capacity s limit L → 1 + s 
 room s limit L n p h =
     let k : n ≤ (L - 1) / s = omega arith in
     omega (arith, mul-le-mul-left s k, div-mul-le-self (L - 1) s, mul-comm s ((L - 1) / s))
+
+-- a block's refusals are 1, 2, 3
+pub verdict-most : (s limit : ℕ) (w : List ℕ) → verdict s limit w ≤ 3
+unfolding verdict
+verdict-most s limit w = go (eqb (length w) 0) (ltb (capacity s limit (length w)) (getD w 0 0)) (soundb (entriesOf s w))
+  where
+    go : (a b c : Bool) → pick a 1 (pick b 2 (pick c 0 3)) ≤ 3
+    go true b c = omega arith
+    go false true c = omega arith
+    go false false true = omega arith
+    go false false false = omega arith

@@ -1,12 +1,12 @@
 -- Words moved, pasted, cleared and stored, and what that makes of the entries.
-use mathlib.Core.Path.{_≡_, sym, _∙_, ap, ap₂}
+use mathlib.Core.Path.{_≡_, refl, sym, _∙_, ap, ap₂}
 use mathlib.Core.List.{List, [], _∷_, _++_, append-assoc}
 use Prim.Native.Nat.{ℕ, suc, _+_, _*_, _-_, _≤_, _<_}
 use native.Mathlib.Omega.{arith}
 use native.Mathlib.Nat.{mul-add, mul-le-mul-left}
 use lib.ListN.{length, getD, take, drop, replicate, length-append, length-take, length-drop, length-replicate, getD-replicate, take-append-drop}
 use Rattle.entries.specs.Entries.{Entry, entry}
-use Rattle.blocks.specs.Steps.{itemAt, Spliced}
+use Rattle.blocks.specs.Steps.{Cleared, itemAt, Spliced}
 use Rattle.blocks.specs.Blocks.{itemOf, itemsOf, wordsOf, blockOf}
 use Rattle.blocks.proofs.Words.{words-append, items-length, write-back, items-take, items-drop, item-at}
 use lib.Seq.{drop-drop, take-all, drop-cons, getD-drop, getD-take, ext-getD, length-take-le}
@@ -143,3 +143,9 @@ module _ (s : ℕ) (two : 2 ≤ s) (w new : List ℕ) (n i j c : ℕ) (held : 1 
         length-take-le (s * c) (drop (1 + s * i) w') (omega (arith, length-drop (1 + s * i) w')),
         length-take-le (s * (n - j)) (drop (1 + s * i + s * c) w') (omega (arith, length-drop (1 + s * i + s * c) w')),
       )
+
+-- a block of zeros says nothing
+pub cleared-block : (w w' : List ℕ) → 0 < length w → Cleared w 0 w' → w' ≡ blockOf (length w) []
+cleared-block w w' h c =
+    drop-cons w' 0 0 (omega (arith, c .same)) ∙ ap₂ _∷_ (c .zero 0 (omega arith)) (zeros w' 1 (λ k p. c .zero k (omega arith)))
+    ∙ block-path (length w) [] 0 (length w' - 1) [] refl refl (omega (arith, c .same))

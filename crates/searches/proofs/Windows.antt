@@ -17,7 +17,7 @@ use Rattle.blocks.specs.Blocks.{entriesOf, itemsOf, wordsOf, verdict}
 use Rattle.blocks.specs.Steps.{FirstFrom, zero-item}
 use Rattle.blocks.proofs.Finding.{entries-count, held}
 use Rattle.blocks.proofs.Finding.{passed, begun}
-use Rattle.blocks.proofs.Judging.{verdict-sound}
+use Rattle.blocks.proofs.Judging.{verdict-most, verdict-sound}
 use Rattle.blocks.proofs.Words.{items-drop, items-take, write-back}
 use Rattle.searches.specs.Calls.{windowPart, windowVerdict, windowCall}
 use Rattle.searches.specs.Steps.{Judged}
@@ -109,3 +109,13 @@ call-empty s limit w a b n = rw (ne-eqb (windowVerdict s limit w a b) 0 n)
 pub call-part : (s limit : ℕ) (w : List ℕ) (a b : ℕ) → windowVerdict s limit w a b ≡ 0 → windowPart s w a b ≡ windowCall s limit w a b
 unfolding windowCall
 call-part s limit w a b z = rw (eq-eqb (windowVerdict s limit w a b) 0 z)
+
+-- a window's refusals are 1 to 4
+pub window-most : (s limit : ℕ) (w : List ℕ) (a b : ℕ) → windowVerdict s limit w a b ≤ 15
+unfolding windowVerdict
+window-most s limit w a b = go (eqb (verdict s limit w) 0) (ltb b a) (verdict-most s limit w)
+  where
+    go : (t u : Bool) → verdict s limit w ≤ 3 → pick t (pick u 4 0) (verdict s limit w) ≤ 15
+    go true true h = omega arith
+    go true false h = omega arith
+    go false u h = omega arith

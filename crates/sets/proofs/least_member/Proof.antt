@@ -1,0 +1,39 @@
+use denote.Ref.{now}
+use mathlib.Core.Path.{sym, _∙_, ap}
+use mathlib.Core.List.{List}
+use Rattle.entries.specs.Entries.{Entry}
+use Rattle.entries.specs.Questions.{leastMember}
+use Rattle.answers.specs.Answers.{optional}
+use Rattle.blocks.proofs.Judging.{verdict-sound}
+use Rattle.sets.specs.Calls.{leastMemberCall}
+use Rattle.sets.proofs.Asking.{refuse-asked, give-asked}
+use native.Mathlib.Omega.{arith}
+use borrow.Author.Needs.{needs}
+use Rattle.sets.proofs.least_member.Statement.{statement}
+use Rattle.sets.proofs.least_member.Tie as tie
+use Rattle.sets.proofs.least_member.Reads as reads
+use Rattle.sets.proofs.least_member.Lts as lts
+use Rattle.answers.proofs.refusal_of.Reads as refusal-of-reads
+use Rattle.blocks.proofs.judge.Reads as judge-reads
+use Rattle.sets.proofs.least_in.Reads as least-in-reads
+
+judge-requires : tie.Need-judge-requires
+judge-requires c κs = search needs
+
+refusal-of-requires : tie.Need-refusal-of-requires
+refusal-of-requires c κs = search needs
+
+returns : tie.Need-returns
+unfolding leastMemberCall
+returns c = let a = c .before .before .before .before in refuse-asked (now (a .args .block)) (λ (es : List Entry). optional (leastMember es (a .args .x))) (c .before .before .judge .result) (c .refusal-of .result) (c .before .before .judge .ensures) (c .before .if1 .taken) (c .refusal-of .ensures)
+
+least-in-requires : tie.Need-least-in-requires
+least-in-requires c κs = verdict-sound 2 4095 (now (c .before .before .before .args .block)) (sym (c .before .judge .ensures) ∙ c .if1 .left)
+
+returns-2 : tie.Need-returns-2
+unfolding leastMemberCall
+returns-2 c = let a = c .before .before .before .before in give-asked (now (a .args .block)) (λ (es : List Entry). optional (leastMember es (a .args .x))) (c .before .before .judge .result) _ (c .before .before .judge .ensures) (c .before .if1 .left) (c .least-in .ensures)
+
+pub least-member-spec : {M : Type 1} → statement M
+least-member-spec =
+    tie.close (tie.spec judge-requires refusal-of-requires returns least-in-requires returns-2)

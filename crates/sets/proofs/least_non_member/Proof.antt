@@ -1,0 +1,38 @@
+use denote.Ref.{now}
+use mathlib.Core.Path.{sym, _∙_, ap}
+use mathlib.Core.List.{List}
+use Rattle.entries.specs.Entries.{Entry}
+use Rattle.answers.specs.Answers.{optional}
+use Rattle.blocks.proofs.Judging.{verdict-sound}
+use Rattle.sets.specs.Calls.{nonMember, leastNonMemberCall}
+use Rattle.sets.proofs.Asking.{refuse-asked, give-asked}
+use native.Mathlib.Omega.{arith}
+use borrow.Author.Needs.{needs}
+use Rattle.sets.proofs.least_non_member.Statement.{statement}
+use Rattle.sets.proofs.least_non_member.Tie as tie
+use Rattle.sets.proofs.least_non_member.Reads as reads
+use Rattle.sets.proofs.least_non_member.Lts as lts
+use Rattle.answers.proofs.refusal_of.Reads as refusal-of-reads
+use Rattle.blocks.proofs.judge.Reads as judge-reads
+use Rattle.sets.proofs.least_out.Reads as least-out-reads
+
+judge-requires : tie.Need-judge-requires
+judge-requires c κs = search needs
+
+refusal-of-requires : tie.Need-refusal-of-requires
+refusal-of-requires c κs = search needs
+
+returns : tie.Need-returns
+unfolding leastNonMemberCall
+returns c = let a = c .before .before .before .before in refuse-asked (now (a .args .block)) (λ (es : List Entry). optional (nonMember es (a .args .x))) (c .before .before .judge .result) (c .refusal-of .result) (c .before .before .judge .ensures) (c .before .if1 .taken) (c .refusal-of .ensures)
+
+least-out-requires : tie.Need-least-out-requires
+least-out-requires c κs = verdict-sound 2 4095 (now (c .before .before .before .args .block)) (sym (c .before .judge .ensures) ∙ c .if1 .left)
+
+returns-2 : tie.Need-returns-2
+unfolding leastNonMemberCall
+returns-2 c = let a = c .before .before .before .before in give-asked (now (a .args .block)) (λ (es : List Entry). optional (nonMember es (a .args .x))) (c .before .before .judge .result) _ (c .before .before .judge .ensures) (c .before .if1 .left) (c .least-out .ensures)
+
+pub least-non-member-spec : {M : Type 1} → statement M
+least-non-member-spec =
+    tie.close (tie.spec judge-requires refusal-of-requires returns least-out-requires returns-2)

@@ -1,0 +1,60 @@
+use denote.Ref.{now}
+use mathlib.Core.Path.{sym, _∙_, ap}
+use Rattle.entries.specs.Questions.{rangeAt}
+use Rattle.sets.specs.Calls.{ends}
+use Rattle.blocks.specs.Blocks.{entriesOf}
+use Rattle.sets.proofs.Asking.{range-none, range-is}
+use native.Mathlib.Omega.{arith}
+use borrow.Author.Needs.{needs}
+use Rattle.sets.proofs.range_in.Statement.{statement}
+use Rattle.sets.proofs.range_in.Tie as tie
+use Rattle.sets.proofs.range_in.Reads as reads
+use Rattle.sets.proofs.range_in.Lts as lts
+use Rattle.blocks.proofs.wide.Reads as wide-reads
+use Rattle.blocks.proofs.word.Reads as word-reads
+use Rattle.searches.proofs.count_of.Reads as count-of-reads
+
+count-of-requires : tie.Need-count-of-requires
+count-of-requires c κs = search needs
+
+wide-requires : tie.Need-wide-requires
+wide-requires c κs = search needs
+
+returns : tie.Need-returns
+returns c = let a = c .before .before .before .before in range-none (now (a .args .block)) (c .before .before .count-of .result) (c .before .wide .result) (c .before .before .count-of .ensures) (c .if1 .taken) ∙ ap (λ k. ends (rangeAt (entriesOf 2 (now (a .args .block))) k)) (c .before .wide .ensures)
+
+mul-word : tie.Need-mul-word
+mul-word c = search needs
+
+add-word : tie.Need-add-word
+add-word c = search needs
+
+word-requires : tie.Need-word-requires
+word-requires c κs = search needs
+
+mul-word-2 : tie.Need-mul-word-2
+mul-word-2 c = search needs
+
+add-word-2 : tie.Need-add-word-2
+add-word-2 c = search needs
+
+word-requires-2 : tie.Need-word-requires-2
+word-requires-2 c κs = search needs
+
+returns-2 : tie.Need-returns-2
+returns-2 c = let a = c .before .before .before .before .before .before in range-is (now (a .args .block)) (c .before .before .before .before .count-of .result) (c .before .before .before .wide .result) (c .before .before .before .before .count-of .ensures) (c .before .before .if1 .left) (c .before .word .result) (c .word2 .result) (c .before .word .ensures) (c .word2 .ensures) ∙ ap (λ k. ends (rangeAt (entriesOf 2 (now (a .args .block))) k)) (c .before .before .before .wide .ensures)
+
+pub range-in-spec : {M : Type 1} → statement M
+range-in-spec =
+    tie.close
+    (tie.spec
+    count-of-requires
+    wide-requires
+    returns
+    mul-word
+    add-word
+    word-requires
+    mul-word-2
+    add-word-2
+    word-requires-2
+    returns-2)

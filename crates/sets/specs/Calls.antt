@@ -1,0 +1,65 @@
+-- What each call on sets answers and leaves, from the words lent to it alone.
+use mathlib.Core.Bool.{Bool, true, false}
+use mathlib.Core.Option.{Option, none, some}
+use mathlib.Core.List.{List, [], _∷_}
+use Prim.Native.Nat.{ℕ}
+use lib.Dec.{leb}
+use lib.ListN.{length}
+use Rattle.entries.specs.Entries.{Entry}
+use Rattle.entries.specs.Build.{pick}
+use Rattle.entries.specs.Sets.{M, member}
+use Rattle.entries.specs.Questions.{rangeAt, sizeOf, leastMember, leastFree}
+use Rattle.answers.specs.Answers.{Answer, given, Outcome, outcome, judged, truth, optional, lessOne}
+use Rattle.blocks.specs.Blocks.{setLimit, entriesOf, blockOf, verdict}
+use Rattle.blocks.specs.Calls.{writable}
+use Rattle.edits.specs.Calls.{editCall}
+use Rattle.searches.specs.Calls.{windowCall, windowRefusalCall}
+
+-- a question about a set: 1, 2, 3 of its block, then the answer
+abbrev pub asked : List ℕ → (List Entry → Answer) → Outcome
+asked w answer = judged (verdict 2 setLimit w) 0 [] (outcome (answer (entriesOf 2 w)) [])
+
+-- «Make empty (refuses only with 1).»
+unfoldable pub makeEmptyCall : List ℕ → Outcome
+makeEmptyCall w = writable 0 w (outcome (given []) (blockOf (length w) [] ∷ []))
+
+-- «Is x a member.»
+unfoldable pub memberCall : List ℕ → ℕ → Outcome
+memberCall w x = asked w (λ es. truth (member es x))
+
+-- «The range at index i, or none if i is at least n.»
+abbrev pub ends : Option Entry → Answer
+ends (some e) = given (e .low ∷ e .high ∷ [])
+ends none = given []
+
+unfoldable pub rangeAtCall : List ℕ → ℕ → Outcome
+rangeAtCall w i = asked w (λ es. ends (rangeAt es i))
+
+-- «Size: empty, or the size less one (the full set has 2^64 members, size less one M).»
+unfoldable pub sizeCall : List ℕ → Outcome
+sizeCall w = asked w (λ es. lessOne (sizeOf es))
+
+-- «The least member at or above x, or none»
+unfoldable pub leastMemberCall : List ℕ → ℕ → Outcome
+leastMemberCall w x = asked w (λ es. optional (leastMember es x))
+
+-- «the least non-member at or above x, or none»: none where it would be above M
+abbrev pub nonMember : List Entry → ℕ → Option ℕ
+nonMember es x = pick (leb (leastFree es x) M) (some (leastFree es x)) none
+
+unfoldable pub leastNonMemberCall : List ℕ → ℕ → Outcome
+leastNonMemberCall w x = asked w (λ es. optional (nonMember es x))
+
+-- «Window a..b»: the part that is handed back, and its companion
+abbrev pub setWindowCall : List ℕ → ℕ → ℕ → List ℕ
+setWindowCall w a b = windowCall 2 setLimit w a b
+
+abbrev pub setWindowRefusalCall : List ℕ → ℕ → ℕ → Outcome
+setWindowRefusalCall w a b = windowRefusalCall 2 setLimit w a b
+
+-- «Insert a..b and remove a..b in place.»
+abbrev pub insertCall : List ℕ → ℕ → ℕ → Outcome
+insertCall w a b = editCall 2 setLimit w a b (some [])
+
+abbrev pub removeCall : List ℕ → ℕ → ℕ → Outcome
+removeCall w a b = editCall 2 setLimit w a b none

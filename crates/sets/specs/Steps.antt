@@ -1,0 +1,12 @@
+-- What the steps of the code promise each other. No public promise names these.
+use mathlib.Core.Path.{_≡_}
+use mathlib.Core.List.{List}
+use Prim.Native.Nat.{ℕ, _<_}
+use lib.ListN.{getD}
+use Rattle.blocks.specs.Blocks.{SoundBlock, setLimit}
+
+-- a sound set of n ranges, at least one
+pub record Counted (w : List ℕ) (n : ℕ) : Type 0 where
+  pub block : SoundBlock 2 setLimit w
+  pub count : n ≡ getD w 0 0
+  pub some : 0 < n

@@ -1,0 +1,210 @@
+// Sets of numbers from 0 to 2^64 - 1 in lent blocks of words: questions, and changes.
+// Every call takes any words at all. Its contract names the whole outcome by one definition of specs/Calls.
+ghost use mathlib.Core.Path.{_≡_};
+ghost use mathlib.Core.List.{[], _∷_};
+ghost use Prim.Native.Nat.{_+_};
+ghost use lib.ListN.{length};
+ghost use Rattle.entries.specs.Sets.{member};
+ghost use Rattle.entries.specs.Questions.{rangeAt, sizeOf, leastMember, leastFree};
+ghost use Rattle.answers.specs.Answers.{outcome, truth, optional, lessOne};
+ghost use Rattle.answers.specs.Says.{judgedSays, truthSays, foundSays, rangedSays, sizedSays};
+ghost use Rattle.blocks.specs.Blocks.{SoundBlock, setLimit, entriesOf};
+ghost use Rattle.sets.specs.Calls.{ends, nonMember, makeEmptyCall, memberCall, rangeAtCall, sizeCall, leastMemberCall, leastNonMemberCall, setWindowCall, setWindowRefusalCall, insertCall, removeCall};
+ghost use Rattle.sets.specs.Steps.{Counted};
+use answers::Found;
+use answers::Judged;
+use answers::Ranged;
+use answers::Sized;
+use answers::Truth;
+
+const M: u64 = 18446744073709551615;
+
+// Makes the block the empty set. Its old words are not judged.
+pub fn make_empty(block: &mut [u64]) -> Judged
+    ensures { λ r. ⌜ outcome (judgedSays r) (now (block .exit) ∷ []) ≡ makeEmptyCall (now (block .entry)) ⌝ }
+{
+    if block.len() == 0 {
+        return answers::judged_of(1, 0);
+    }
+    blocks::clear(block, 0);
+    answers::judged_of(0, 0)
+}
+
+// Whether x is in a sound set.
+fn holds(block: &[u64], x: u64) -> bool
+    requires { ⌜ SoundBlock 2 setLimit (now block) ⌝ }
+    ensures { λ r. ⌜ r ≡ member (entriesOf 2 (now (block .entry))) x ⌝ }
+{
+    let n = searches::count_of(block);
+    let i = blocks::first_from(block, 2, 2, n, x);
+    if n <= i {
+        return false;
+    }
+    if x < blocks::word(block, 2 * i + 1) {
+        return false;
+    }
+    true
+}
+
+// Whether x is a member.
+pub fn member(block: &[u64], x: u64) -> Truth
+    ensures { λ r. ⌜ outcome (truthSays r) [] ≡ memberCall (now (block .entry)) x ⌝ }
+{
+    let v = blocks::judge(block, 2, blocks::SET_LIMIT);
+    if v != 0 {
+        return Truth::Refused(answers::refusal_of(v, 0));
+    }
+    if holds(block, x) {
+        return Truth::Yes;
+    }
+    Truth::No
+}
+
+// The range at index i of a sound set.
+fn range_in(block: &[u64], i: u64) -> Ranged
+    requires { ⌜ SoundBlock 2 setLimit (now block) ⌝ }
+    ensures { λ r. ⌜ rangedSays r ≡ ends (rangeAt (entriesOf 2 (now (block .entry))) i) ⌝ }
+{
+    let n = searches::count_of(block);
+    let k = blocks::wide(i);
+    if n <= k {
+        return Ranged::Nothing;
+    }
+    Ranged::Range(
+        blocks::word(block, 2 * k + 1),
+        blocks::word(block, 2 * k + 2),
+    )
+}
+
+// The low and high of the range at index i, counted from 0, or none.
+pub fn range_at(block: &[u64], i: u64) -> Ranged
+    ensures { λ r. ⌜ outcome (rangedSays r) [] ≡ rangeAtCall (now (block .entry)) i ⌝ }
+{
+    let v = blocks::judge(block, 2, blocks::SET_LIMIT);
+    if v != 0 {
+        return Ranged::Refused(answers::refusal_of(v, 0));
+    }
+    range_in(block, i)
+}
+
+// The size less one of a sound set of n ranges, of which there is at least one.
+fn size_less_one(block: &[u64], n: usize) -> u64
+    requires { ⌜ Counted (now block) n ⌝ }
+    ensures { λ r. ⌜ r + 1 ≡ sizeOf (entriesOf 2 (now (block .entry))) ⌝ }
+{
+    let mut total = blocks::word(block, 2) - blocks::word(block, 1);
+    let mut p: usize = 3;
+    let mut left = n - 1;
+    while 0 < left {
+        total += blocks::word(block, p + 1) - blocks::word(block, p) + 1;
+        p += 2;
+        left -= 1;
+    }
+    total
+}
+
+// How many members: empty, or the number of them less one.
+pub fn size(block: &[u64]) -> Sized
+    ensures { λ r. ⌜ outcome (sizedSays r) [] ≡ sizeCall (now (block .entry)) ⌝ }
+{
+    let v = blocks::judge(block, 2, blocks::SET_LIMIT);
+    if v != 0 {
+        return Sized::Refused(answers::refusal_of(v, 0));
+    }
+    let n = searches::count_of(block);
+    if n == 0 {
+        return Sized::Empty;
+    }
+    Sized::LessOne(size_less_one(block, n))
+}
+
+// The least member of a sound set at or above x.
+fn least_in(block: &[u64], x: u64) -> Found
+    requires { ⌜ SoundBlock 2 setLimit (now block) ⌝ }
+    ensures { λ r. ⌜ foundSays r ≡ optional (leastMember (entriesOf 2 (now (block .entry))) x) ⌝ }
+{
+    let n = searches::count_of(block);
+    let i = blocks::first_from(block, 2, 2, n, x);
+    if n <= i {
+        return Found::Nothing;
+    }
+    let low = blocks::word(block, 2 * i + 1);
+    if x < low {
+        return Found::Number(low);
+    }
+    Found::Number(x)
+}
+
+// The least member at or above x, or none.
+pub fn least_member(block: &[u64], x: u64) -> Found
+    ensures { λ r. ⌜ outcome (foundSays r) [] ≡ leastMemberCall (now (block .entry)) x ⌝ }
+{
+    let v = blocks::judge(block, 2, blocks::SET_LIMIT);
+    if v != 0 {
+        return Found::Refused(answers::refusal_of(v, 0));
+    }
+    least_in(block, x)
+}
+
+// The least number at or above x that is not in a sound set.
+fn least_out(block: &[u64], x: u64) -> Found
+    requires { ⌜ SoundBlock 2 setLimit (now block) ⌝ }
+    ensures { λ r. ⌜ foundSays r ≡ optional (nonMember (entriesOf 2 (now (block .entry))) x) ⌝ }
+{
+    let n = searches::count_of(block);
+    let i = blocks::first_from(block, 2, 2, n, x);
+    if n <= i {
+        return Found::Number(x);
+    }
+    if x < blocks::word(block, 2 * i + 1) {
+        return Found::Number(x);
+    }
+    let high = blocks::word(block, 2 * i + 2);
+    if high == M {
+        return Found::Nothing;
+    }
+    Found::Number(high + 1)
+}
+
+// The least number at or above x that is not a member, or none.
+pub fn least_non_member(block: &[u64], x: u64) -> Found
+    ensures { λ r. ⌜ outcome (foundSays r) [] ≡ leastNonMemberCall (now (block .entry)) x ⌝ }
+{
+    let v = blocks::judge(block, 2, blocks::SET_LIMIT);
+    if v != 0 {
+        return Found::Refused(answers::refusal_of(v, 0));
+    }
+    least_out(block, x)
+}
+
+// The part of the block that holds the ranges which share a number with a..b; refused, a part of no words.
+pub fn window(block: &[u64], a: u64, b: u64) -> &[u64]
+    ensures { λ r. ⌜ now r ≡ setWindowCall (now (block .entry)) a b ⌝ }
+{
+    searches::window(block, 2, blocks::SET_LIMIT, a, b)
+}
+
+// The refusal of the window a..b, or that there is none.
+pub fn window_refusal(block: &[u64], a: u64, b: u64) -> Judged
+    ensures { λ r. ⌜ outcome (judgedSays r) [] ≡ setWindowRefusalCall (now (block .entry)) a b ⌝ }
+{
+    answers::judged_of(
+        searches::window_verdict(block, 2, blocks::SET_LIMIT, a, b),
+        0,
+    )
+}
+
+// Makes every number of a..b a member.
+pub fn insert(block: &mut [u64], a: u64, b: u64) -> Judged
+    ensures { λ r. ⌜ outcome (judgedSays r) (now (block .exit) ∷ []) ≡ insertCall (now (block .entry)) a b ⌝ }
+{
+    let mut new = [a, b];
+    answers::judged_of(edits::edit_put(block, &mut new, blocks::SET_LIMIT), 0)
+}
+
+// Makes no number of a..b a member.
+pub fn remove(block: &mut [u64], a: u64, b: u64) -> Judged
+    ensures { λ r. ⌜ outcome (judgedSays r) (now (block .exit) ∷ []) ≡ removeCall (now (block .entry)) a b ⌝ }
+{
+    answers::judged_of(edits::edit_out(block, 2, blocks::SET_LIMIT, a, b), 0)
+}
