@@ -57,3 +57,16 @@ pub record Inputs (sa sb sc : ℕ) (a b c : List ℕ) : Type 0 where
 -- no entry names a number above M
 abbrev pub Bounded : List Entry → Type 0
 Bounded es = (x : ℕ) → 18446744073709551616 ≤ x → valueAt es x ≡ none
+
+-- the words an item of the first input that has the number
+abbrev pub widthOf : ℕ → ℕ → ℕ → Bool → Bool → Bool → ℕ
+widthOf sa sb sc true b c = sa
+widthOf sa sb sc false true c = sb
+widthOf sa sb sc false false true = sc
+widthOf sa sb sc false false false = 2
+
+-- an output of s words an item, which have their value wherever the table accepts (`fit-set`, `fit-overlay`, `fit-restriction` in proofs/Tables)
+pub record Fit (t s sa sb sc : ℕ) : Type 0 where
+  pub two : 2 ≤ s
+  pub four : s ≤ 4
+  pub wide : (a b c : Bool) → accepts t a b c ≡ true → s ≤ widthOf sa sb sc a b c
