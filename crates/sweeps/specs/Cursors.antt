@@ -40,6 +40,12 @@ sweptOf plan a b c = swept (plan .table) (plan .out) (entriesOf (plan .a) a) (en
 abbrev pub resultOf : Plan → List ℕ → List ℕ → List ℕ → List Entry
 resultOf plan a b c = result (plan .table) (plan .out) (entriesOf (plan .a) a) (entriesOf (plan .b) b) (entriesOf (plan .c) c)
 
+abbrev pub cursor : ℕ → Bool → ℕ → Cursor
+cursor p b e = record { place = p; inside = b; end = e }
+
+abbrev pub turn : ℕ → Cursor → Turn
+turn h c = record { last = h; then = c }
+
 abbrev pub Ahead : ℕ → List Entry → Type 0
 Ahead x [] = Unit {0}
 Ahead x (e ∷ es) = x ≤ e .high

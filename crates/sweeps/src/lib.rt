@@ -9,7 +9,7 @@ ghost use lib.ListN.{length, getD, take, drop};
 ghost use Rattle.entries.specs.Build.{pick, sameWords};
 ghost use Rattle.blocks.specs.Blocks.{blockOf};
 ghost use Rattle.sweeps.specs.Sweeps.{Inputs, Input, Fit, halved, accepts};
-ghost use Rattle.sweeps.specs.Cursors.{items, shown, valueOf, valueBehind, resultOf, Point, TurnAt, Points, firstBehind, SegmentAt, sameAs, begins, grow, Room, Holds, Laid, Stopped};
+ghost use Rattle.sweeps.specs.Cursors.{cursor, items, shown, valueOf, valueBehind, resultOf, Point, TurnAt, Points, firstBehind, SegmentAt, sameAs, begins, grow, Room, Holds, Laid, Stopped};
 
 const M: u64 = 18446744073709551615;
 
@@ -82,8 +82,8 @@ fn start(w: &[u64], s: usize) -> Cursor
 // The run at x from inside an item whose high word stands at p: to its high end, and then into the next item where that touches it.
 fn leave(w: &[u64], s: usize, p: usize, end: usize, x: u64) -> Turn
     requires { ⌜ Input s (now w) ⌝ }
-    requires { ⌜ Point s (now w) x (record { place = p; inside = true; end = end }) ⌝ }
-    ensures { λ r. ⌜ TurnAt s (now (w .entry)) x (record { place = p; inside = true; end = end }) r ⌝ }
+    requires { ⌜ Point s (now w) x (cursor p true end) ⌝ }
+    ensures { λ r. ⌜ TurnAt s (now (w .entry)) x (cursor p true end) r ⌝ }
 {
     let high = blocks::word(w, p);
     let q = p + (s - 1);
