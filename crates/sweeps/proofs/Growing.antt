@@ -82,10 +82,10 @@ module _ (F : ℕ → Option Value) (x : ℕ) where
       go empty w = rw (none-first v x refl w)
       go (ended a l) w =
           push-snoc a l x h v ∙ ap (λ (t : Bool). a ++ last t l x h v) (before-is a l v w x refl (eqb (suc (l .high)) x) refl)
-            ∙ grown a l v w h (sameAs (prev F x) v)
+          ∙ grown a l v w h (sameAs (prev F x) v)
 
   pub grow-step : (es : List Entry) (h : ℕ) (v : Value) (b : Bool) → x ≤ h → Upto F x es → ((y : ℕ) → x ≤ y → y ≤ h → F y ≡ shown b v)
-    → Upto F (suc h) (grow b (sameAs (prev F x) v) es x h v)
+      → Upto F (suc h) (grow b (sameAs (prev F x) v) es x h v)
   grow-step es h v b le u k = go b k (step F x h le es u (λ y p q. k y p q ∙ sym (k x (omega arith) le)))
     where
       go : (b : Bool) → ((y : ℕ) → x ≤ y → y ≤ h → F y ≡ shown b v) → Upto F (suc h) (extend es x h (F x)) → Upto F (suc h) (grow b (sameAs (prev F x) v) es x h v)

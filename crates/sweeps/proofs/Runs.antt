@@ -58,11 +58,12 @@ module _ (s : ℕ) (w : List ℕ) (g : Input s w) where
 
   cur-zero : Cur s w 0 1
   cur-zero = record {
-      left = getD w 0 0;
-      ends = refl;
-      sound = rw (items-are s (getD w 0 0) 1 w) (g .sound);
-      rest = λ y h. ap (λ (l : List Entry). valueAt l y) (sym (items-are s (getD w 0 0) 1 w));
-      ahead = ahead-zero (items s (getD w 0 0) 1 w) }
+    left = getD w 0 0;
+    ends = refl;
+    sound = rw (items-are s (getD w 0 0) 1 w) (g .sound);
+    rest = λ y h. ap (λ (l : List Entry). valueAt l y) (sym (items-are s (getD w 0 0) 1 w));
+    ahead = ahead-zero (items s (getD w 0 0) 1 w);
+  }
 
   -- the cursor at 0
   module _ (n e : ℕ) (en : n ≡ getD w 0 0) (ee : e ≡ 1 + s * n) where
@@ -71,13 +72,21 @@ module _ (s : ℕ) (w : List ℕ) (g : Input s w) where
 
     pub start-none : n ≡ 0 → Point s w 0 (cursor 1 false e)
     start-none z = record {
-        base = 1; place = refl; cur = cur-zero; end = end-is;
-        side = λ m. absurd (m (let k : getD w 0 0 ≡ 0 = sym en ∙ z in ap (λ (i : ℕ). 1 + i) (sym (mul-zero s) ∙ ap (λ (i : ℕ). s * i) (sym k)))) }
+      base = 1;
+      place = refl;
+      cur = cur-zero;
+      end = end-is;
+      side = λ m. absurd (m (let k : getD w 0 0 ≡ 0 = sym en ∙ z in ap (λ (i : ℕ). 1 + i) (sym (mul-zero s) ∙ ap (λ (i : ℕ). s * i) (sym k))));
+    }
 
     pub start-in : (n ≡ 0 → ⊥) → getD w 1 0 ≡ 0 → Point s w 0 (cursor 2 true e)
     start-in z h = record {
-        base = 1; place = refl; cur = cur-zero; end = end-is;
-        side = (λ m. z (at-end 1 n (ap (λ (k : ℕ). 1 + s * k) en) m), omega arith) }
+      base = 1;
+      place = refl;
+      cur = cur-zero;
+      end = end-is;
+      side = (λ m. z (at-end 1 n (ap (λ (k : ℕ). 1 + s * k) en) m), omega arith);
+    }
 
     pub start-out : (getD w 1 0 ≡ 0 → ⊥) → Point s w 0 (cursor 1 false e)
     start-out h = record { base = 1; place = refl; cur = cur-zero; end = end-is; side = λ m. omega arith }
@@ -98,7 +107,7 @@ module _ (s : ℕ) (w : List ℕ) (x p : ℕ) (g : Input s w) where
     pub ahead : x ≤ getD w (p + 1) 0
 
   front : (k : ℕ) → p + s * k ≡ 1 + s * getD w 0 0 → Sound (items s k p w) → ((y : ℕ) → x ≤ y → valueAt (entriesOf s w) y ≡ valueAt (items s k p w) y)
-    → Ahead x (items s k p w) → (p ≡ 1 + s * getD w 0 0 → ⊥) → Front
+      → Ahead x (items s k p w) → (p ≡ 1 + s * getD w 0 0 → ⊥) → Front
   front zero e t r a q = absurd (q (omega (arith, mul-zero s)))
   front (suc m) e t r a q = record { more = m; ends = e; sound = t; rest = r; ahead = a }
 
@@ -108,11 +117,12 @@ module _ (s : ℕ) (w : List ℕ) (x p : ℕ) (g : Input s w) where
   -- behind the item
   pass : (f : Front) (e : ℕ) → getD w (p + 1) 0 ≡ e → Cur s w (e + 1) (p + s)
   pass f e q = record {
-      left = f .more;
-      ends = omega (arith, f .ends, mul-suc s (f .more));
-      sound = f .sound .2;
-      rest = λ y h. f .rest y (omega (arith, f .ahead)) ∙ val-past (itemFrom s w p) (items s (f .more) (p + s) w) y (omega arith);
-      ahead = rw q at (ahead-link (itemFrom s w p) (items s (f .more) (p + s) w) (f .sound .1) (f .sound .2)) }
+    left = f .more;
+    ends = omega (arith, f .ends, mul-suc s (f .more));
+    sound = f .sound .2;
+    rest = λ y h. f .rest y (omega (arith, f .ahead)) ∙ val-past (itemFrom s w p) (items s (f .more) (p + s) w) y (omega arith);
+    ahead = rw q at (ahead-link (itemFrom s w p) (items s (f .more) (p + s) w) (f .sound .1) (f .sound .2));
+  }
 
   front-of : Cur s w x p → (p ≡ 1 + s * getD w 0 0 → ⊥) → Front
   front-of c q = front (c .left) (c .ends) (c .sound) (c .rest) (c .ahead) q
@@ -131,17 +141,21 @@ module _ (s : ℕ) (w : List ℕ) (x : ℕ) (g : Input s w) where
 
     pub turn-none : p ≡ end → x < 18446744073709551616 → TurnAt s w x (cursor p false end) (turn 18446744073709551615 (cursor p false end))
     turn-none q f = record {
-        from-x = omega arith;
-        fits = omega arith;
-        same = λ y h l. out-cur .rest y h ∙ ap (λ (k : ℕ). valueAt (items s k p w) y) z;
-        next = λ e h l. go e h (eqb 18446744073709551615 e) }
+      from-x = omega arith;
+      fits = omega arith;
+      same = λ y h l. out-cur .rest y h ∙ ap (λ (k : ℕ). valueAt (items s k p w) y) z;
+      next = λ e h l. go e h (eqb 18446744073709551615 e);
+    }
       where
         at : p ≡ 1 + s * getD w 0 0
         at = q ∙ o .end
+
         z : out-cur .left ≡ zero
         z = at-end s w g p (out-cur .left) (out-cur .ends) at
+
         still : (e : ℕ) → x ≤ e → Point s w (e + 1) (cursor p false end)
         still e h = record { base = p; place = omega arith; cur = stay s w x p g out-cur e h (rw z tt); side = λ n. absurd (n at); end = o .end }
+
         go : (e : ℕ) → x ≤ e → (t : Bool) → Point s w (e + 1) (pick t (cursor p false end) (cursor p false end))
         go e h true = still e h
         go e h false = still e h
@@ -158,22 +172,30 @@ module _ (s : ℕ) (w : List ℕ) (x : ℕ) (g : Input s w) where
 
       pub turn-out : (l : ℕ) → l ≡ getD w p 0 → TurnAt s w x (cursor p false end) (turn (l - 1) (cursor (p + 1) true end))
       turn-out l i = rw i (record {
-          from-x = omega (arith, out-side);
-          fits = omega (arith, g .words p);
-          same = λ y h k. f .rest y h ∙ none-under (itemFrom s w p) (items s (f .more) (p + s) w) (f .sound) y (omega (arith, out-side));
-          next = λ e h k. go e h k (eqb (getD w p 0 - 1) e) refl })
+        from-x = omega (arith, out-side);
+        fits = omega (arith, g .words p);
+        same = λ y h k. f .rest y h ∙ none-under (itemFrom s w p) (items s (f .more) (p + s) w) (f .sound) y (omega (arith, out-side));
+        next = λ e h k. go e h k (eqb (getD w p 0 - 1) e) refl;
+      })
         where
           f : Front s w x p g
           f = front-of s w x p g out-cur not-at
+
           go : (e : ℕ) → x ≤ e → e ≤ getD w p 0 - 1 → (t : Bool) → eqb (getD w p 0 - 1) e ≡ t → Point s w (e + 1) (pick t (cursor (p + 1) true end) (cursor p false end))
           go e h k true q = record {
-              base = p; place = refl; end = o .end;
-              cur = stay s w x p g (back s w x p g f) e h (omega (arith, out-side, f .sound .0));
-              side = (not-at, omega (arith, eqb-true (getD w p 0 - 1) e q)) }
+            base = p;
+            place = refl;
+            end = o .end;
+            cur = stay s w x p g (back s w x p g f) e h (omega (arith, out-side, f .sound .0));
+            side = (not-at, omega (arith, eqb-true (getD w p 0 - 1) e q));
+          }
           go e h k false q = record {
-              base = p; place = omega arith; end = o .end;
-              cur = stay s w x p g (back s w x p g f) e h (omega (arith, out-side, f .sound .0));
-              side = λ m. omega (arith, out-side, eqb-false (getD w p 0 - 1) e q) }
+            base = p;
+            place = omega arith;
+            end = o .end;
+            cur = stay s w x p g (back s w x p g f) e h (omega (arith, out-side, f .sound .0));
+            side = λ m. omega (arith, out-side, eqb-false (getD w p 0 - 1) e q);
+          }
 
   -- inside: the base is the place before
   module _ (b end : ℕ) (c : Cur s w x b) (n : b ≡ 1 + s * getD w 0 0 → ⊥) (low : getD w b 0 ≤ x) (ee : end ≡ 1 + s * getD w 0 0) where
@@ -192,23 +214,28 @@ module _ (s : ℕ) (w : List ℕ) (x : ℕ) (g : Input s w) where
     later-here m = here s w (getD w (b + 1) 0 + 1) (b + s) g (pass s w x b g f (getD w (b + 1) 0) refl) m
 
     turn-in : (q : ℕ) (then : Bool) → q ≡ b + s + bit then → Sided then s w (getD w (b + 1) 0 + 1) (b + s)
-      → TurnAt s w x (cursor (b + 1) true end) (turn (getD w (b + 1) 0) (cursor q then end))
+        → TurnAt s w x (cursor (b + 1) true end) (turn (getD w (b + 1) 0) (cursor q then end))
     turn-in q then k d = record {
-        from-x = f .ahead;
-        fits = g .words (b + 1);
-        same = λ y h l. f .rest y h ∙ val-in (itemFrom s w b) (items s (f .more) (b + s) w) y (omega arith) l ∙ ap (λ (i : ℕ). some (take (s - 2) (drop i w))) two;
-        next = λ e h l. go e h l (eqb (getD w (b + 1) 0) e) refl }
+      from-x = f .ahead;
+      fits = g .words (b + 1);
+      same = λ y h l. f .rest y h ∙ val-in (itemFrom s w b) (items s (f .more) (b + s) w) y (omega arith) l ∙ ap (λ (i : ℕ). some (take (s - 2) (drop i w))) two;
+      next = λ e h l. go e h l (eqb (getD w (b + 1) 0) e) refl;
+    }
       where
         two : b + 2 ≡ b + 1 + 1
         two = omega arith
+
         go : (e : ℕ) → x ≤ e → e ≤ getD w (b + 1) 0 → (t : Bool) → eqb (getD w (b + 1) 0) e ≡ t → Point s w (e + 1) (pick t (cursor q then end) (cursor (b + 1) true end))
         go e h l true z =
             let y = eqb-true (getD w (b + 1) 0) e z in
             record { base = b + s; place = k; cur = pass s w x b g f e y; side = subst (λ (m : ℕ). Sided then s w (m + 1) (b + s)) y d; end = ee }
         go e h l false z = record {
-            base = b; place = refl; end = ee;
-            cur = stay s w x b g (back s w x b g f) e h (omega (arith, eqb-false (getD w (b + 1) 0) e z));
-            side = (n, omega arith) }
+          base = b;
+          place = refl;
+          end = ee;
+          cur = stay s w x b g (back s w x b g f) e h (omega (arith, eqb-false (getD w (b + 1) 0) e z));
+          side = (n, omega arith);
+        }
 
   module _ {p end : ℕ} (o : Point s w x (cursor p true end)) where
     -- the item's words

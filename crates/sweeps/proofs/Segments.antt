@@ -35,7 +35,7 @@ module _ (s : ℕ) (v : Words) (w : List ℕ) (p : ℕ) where
   words-four e h f g =
       let k : suc p ≡ p + 1 = omega arith in
       let d : drop p w ≡ getD w p 0 ∷ getD w (p + 1) 0 ∷ drop (suc (p + 1)) w =
-        drop-cons w p 0 (omega arith) ∙ ap (λ (l : List ℕ). getD w p 0 ∷ l) (ap (λ (n : ℕ). drop n w) k ∙ drop-cons w (p + 1) 0 h) in
+      drop-cons w p 0 (omega arith) ∙ ap (λ (l : List ℕ). getD w p 0 ∷ l) (ap (λ (n : ℕ). drop n w) k ∙ drop-cons w (p + 1) 0 h) in
       rw (e, d, f, g)
 
 -- two values compared, by the words an item has
@@ -59,7 +59,6 @@ module _ (s : ℕ) (u v : Words) where
 -- the value that is carried where the table accepts
 module _ {plan : Plan} {a b c : List ℕ} {x : ℕ} {i j k : Cursor} {kept : Bool} (g : Inputs (plan .a) (plan .b) (plan .c) a b c) (f : Fit (plan .table) (plan .out) (plan .a) (plan .b) (plan .c))
     (o : Points plan a b c x i j k) (e : kept ≡ accepts (plan .table) (i .inside) (j .inside) (k .inside)) where
-
   pub carried-set : (r : Words) → plan .out ≡ 2 → shown kept (take (plan .out - 2) (firstBehind plan a b c i j k)) ≡ shown kept (valueOf (plan .out) r)
   carried-set r z = rw z
 
@@ -123,11 +122,11 @@ shown-pick true v = refl
 shown-pick false v = refl
 
 pub segment-made : {plan : Plan} {a b c : List ℕ} {x m e : ℕ} {i j k i′ j′ k′ : Cursor} {ra rb rc : Turn} {u : Bool} {v : Words} →
-  TurnAt (plan .a) a x i ra → TurnAt (plan .b) b x j rb → TurnAt (plan .c) c x k rc →
-  m ≡ min (ra .last) (rb .last) → e ≡ min m (rc .last) → u ≡ accepts (plan .table) (i .inside) (j .inside) (k .inside) →
-  shown u (take (plan .out - 2) (firstBehind plan a b c i j k)) ≡ shown u (valueOf (plan .out) v) →
-  i′ ≡ pick (eqb (ra .last) e) (ra .then) i → j′ ≡ pick (eqb (rb .last) e) (rb .then) j → k′ ≡ pick (eqb (rc .last) e) (rc .then) k →
-  SegmentAt plan a b c x (record { last = e; inside = u; value = v; a = i′; b = j′; c = k′ })
+    TurnAt (plan .a) a x i ra → TurnAt (plan .b) b x j rb → TurnAt (plan .c) c x k rc →
+    m ≡ min (ra .last) (rb .last) → e ≡ min m (rc .last) → u ≡ accepts (plan .table) (i .inside) (j .inside) (k .inside) →
+    shown u (take (plan .out - 2) (firstBehind plan a b c i j k)) ≡ shown u (valueOf (plan .out) v) →
+    i′ ≡ pick (eqb (ra .last) e) (ra .then) i → j′ ≡ pick (eqb (rb .last) e) (rb .then) j → k′ ≡ pick (eqb (rc .last) e) (rc .then) k →
+    SegmentAt plan a b c x (record { last = e; inside = u; value = v; a = i′; b = j′; c = k′ })
 unfolding swept mixed
 segment-made {plan} {a} {b} {c} {x} {m} {e} {i} {j} {k} {i′} {j′} {k′} {ra} {rb} {rc} {u} {v} ta tb tc em ee eu ev ei ej ek =
     let h : x ≤ e = omega (arith, ta .from-x, tb .from-x, tc .from-x) in
@@ -136,10 +135,20 @@ segment-made {plan} {a} {b} {c} {x} {m} {e} {i} {j} {k} {i′} {j′} {k′} {ra
       from-x = h;
       fits = f;
       same = λ y p q.
-        rw (lt-ltb y 18446744073709551616 (omega arith), ta .same y p (omega arith), tb .same y p (omega arith), tc .same y p (omega arith),
-          has-shown (i .inside) (valueBehind (plan .a) a (i .place)), has-shown (j .inside) (valueBehind (plan .b) b (j .place)), has-shown (k .inside) (valueBehind (plan .c) c (k .place)), ← eu)
+          rw (
+            lt-ltb y 18446744073709551616 (omega arith),
+            ta .same y p (omega arith),
+            tb .same y p (omega arith),
+            tc .same y p (omega arith),
+            has-shown (i .inside) (valueBehind (plan .a) a (i .place)),
+            has-shown (j .inside) (valueBehind (plan .b) b (j .place)),
+            has-shown (k .inside) (valueBehind (plan .c) c (k .place)),
+            ← eu,
+          )
           (shown-pick u (take (plan .out - 2) (firstBehind plan a b c i j k)) ∙ ev);
       points = record {
         at-a = rw ei (ta .next e h (omega arith));
         at-b = rw ej (tb .next e h (omega arith));
-        at-c = rw ek (tc .next e h (omega arith)) } }
+        at-c = rw ek (tc .next e h (omega arith));
+      };
+    }

@@ -43,7 +43,14 @@ pub record Standing (plan : Plan) (a b c : List ℕ) (keep : Bool) (x : ℕ) (i 
 
 pub standing-zero : (plan : Plan) (a b c : List ℕ) (keep : Bool) (i j k : Cursor) (v : Words) (o : List ℕ) → Points plan a b c 0 i j k → Standing plan a b c keep 0 i j k false v 0 o
 standing-zero plan a b c keep i j k v o h = record {
-    fits = omega arith; points = h; before = refl; list = []; upto = upto-start (sweptOf plan a b c); size = refl; holds = none keep }
+  fits = omega arith;
+  points = h;
+  before = refl;
+  list = [];
+  upto = upto-start (sweptOf plan a b c);
+  size = refl;
+  holds = none keep;
+}
   where
     none : (t : Bool) → Holds t (plan .out) 0 o []
     none true = refl
@@ -67,12 +74,12 @@ module _ {plan : Plan} {a b c : List ℕ} {keep : Bool} {x : ℕ} {i j k : Curso
     next-size : length (next (h .list)) ≡ n + begins (r .inside) q
     next-size = omega (arith, h .size, length-grow (r .inside) q (h .list) x (r .last) (valueOf (plan .out) (r .value)))
 
-    pub standing-room : (len stop : ℕ) → 1 + plan .out * pick keep (length (resultOf plan a b c)) 0 ≤ len → n < 18446744073709551615 → Room keep (plan .out) n (r .inside) q len
-    standing-room len stop f w =
+    pub standing-room : (len : ℕ) → 1 + plan .out * pick keep (length (resultOf plan a b c)) 0 ≤ len → n < 18446744073709551615 → Room keep (plan .out) n (r .inside) q len
+    standing-room len f w =
         room-made keep (plan .out) n (length (resultOf plan a b c)) len (r .inside) q f
-          (omega (arith, next-size, no-longer (sweptOf plan a b c) (suc (r .last)) (next (h .list)) (resultOf plan a b c) next-upto (result-lists plan a b c)))
-          (λ z. omega (arith, h .size, joins-some (sweptOf plan a b c) x (h .list) (valueOf (plan .out) (r .value)) (h .upto) (ap (λ (p : Option Value). sameAs p (valueOf (plan .out) (r .value))) (sym (h .before)) ∙ sym e ∙ z)))
-          w
+        (omega (arith, next-size, no-longer (sweptOf plan a b c) (suc (r .last)) (next (h .list)) (resultOf plan a b c) next-upto (result-lists plan a b c)))
+        (λ z. omega (arith, h .size, joins-some (sweptOf plan a b c) x (h .list) (valueOf (plan .out) (r .value)) (h .upto) (ap (λ (p : Option Value). sameAs p (valueOf (plan .out) (r .value))) (sym (h .before)) ∙ sym e ∙ z)))
+        w
 
     module _ {n′ : ℕ} (o′ : List ℕ) (m : (n′ ≡ n + begins (r .inside) q) × Holds keep (plan .out) n′ o′ (next (items (plan .out) n 1 o))) where
       next-holds : Holds keep (plan .out) n′ o′ (next (h .list))
@@ -84,21 +91,23 @@ module _ {plan : Plan} {a b c : List ℕ} {keep : Bool} {x : ℕ} {i j k : Curso
 
       pub standing-next : (r .last ≡ 18446744073709551615 → ⊥) → Standing plan a b c keep (r .last + 1) (r .a) (r .b) (r .c) (r .inside) (r .value) n′ o′
       standing-next ne = record {
-          fits = omega (arith, g .fits);
-          points = g .points;
-          before = rw add-one (sym (g .same (r .last) (g .from-x) (omega arith)));
-          list = next (h .list);
-          upto = rw add-one next-upto;
-          size = m .0 ∙ sym next-size;
-          holds = next-holds }
+        fits = omega (arith, g .fits);
+        points = g .points;
+        before = rw add-one (sym (g .same (r .last) (g .from-x) (omega arith)));
+        list = next (h .list);
+        upto = rw add-one next-upto;
+        size = m .0 ∙ sym next-size;
+        holds = next-holds;
+      }
 
       pub stopped-end : (stop : ℕ) → n < stop → r .last ≡ 18446744073709551615 → Stopped keep (plan .out) stop (resultOf plan a b c) n′ o′
       stopped-end stop l d = record {
-          size = omega (arith, m .0, next-size, ap length whole, begins-one (r .inside) q);
-          holds = λ z. subst (λ (es : List Entry). Holds keep (plan .out) n′ o′ es) whole next-holds }
+        size = omega (arith, m .0, next-size, ap length whole, begins-one (r .inside) q);
+        holds = λ z. subst (λ (es : List Entry). Holds keep (plan .out) n′ o′ es) whole next-holds;
+      }
         where
           whole : next (h .list) ≡ resultOf plan a b c
           whole =
               unique (sweptOf plan a b c) _ _
-                (upto-end (sweptOf plan a b c) (suc (r .last)) (next (h .list)) next-upto (λ y l. swept-above (plan .table) (plan .out) _ _ _ y (omega arith)))
-                (result-lists plan a b c)
+              (upto-end (sweptOf plan a b c) (suc (r .last)) (next (h .list)) next-upto (λ y l. swept-above (plan .table) (plan .out) _ _ _ y (omega arith)))
+              (result-lists plan a b c)

@@ -2,8 +2,11 @@
 use mathlib.Core.Path.{_≡_, refl, sym, _∙_, ap, ap₂}
 use mathlib.Core.Bool.{Bool, true, false}
 use mathlib.Core.List.{List, [], _∷_, _++_}
-use Prim.Native.Nat.{ℕ, zero, suc, _+_, _*_, _-_, _≤_, _<_}
+use Prim.Native.Nat.{ℕ, zero, suc, _+_, _*_, _-_, _≤_, _<_, min}
 use native.Mathlib.Omega.{arith}
+use native.Mathlib.Decide.{decLe}
+use lib.Dec.{leb, ltb}
+use borrow.Author.Tests.{le-leb, lt-leb, le-ltb, lt-ltb}
 use native.Mathlib.Nat.{mul-suc, mul-zero}
 use lib.ListN.{length, getD, set, take, drop, length-set, take-append-drop}
 use lib.Seq.{getD-set-same, getD-set-other, drop-set-lt}
@@ -28,8 +31,8 @@ module _ (s : ℕ) (two : 2 ≤ s) where
   items-agree o d (suc n) p q e a b h =
       let k : q ≡ p + s + s * n = omega (arith, mul-suc s n) in
       ap₂ _∷_ (entry-path _ _ (h p (omega arith) (omega arith)) (h (p + 1) (omega arith) (omega arith))
-          (part-eq o d (p + 2) (p + 2) (s - 2) (omega arith) (omega arith) (λ i l. h (p + 2 + i) (omega arith) (omega arith))))
-        (items-agree o d n (p + s) q k a b (λ j l m. h j (omega arith) m))
+      (part-eq o d (p + 2) (p + 2) (s - 2) (omega arith) (omega arith) (λ i l. h (p + 2 + i) (omega arith) (omega arith))))
+      (items-agree o d n (p + s) q k a b (λ j l m. h j (omega arith) m))
 
   items-snoc : (w : List ℕ) (n p q : ℕ) → q ≡ p + s * n → items s (suc n) p w ≡ items s n p w ++ itemFrom s w q ∷ []
   items-snoc w zero p q e = let k : p ≡ q = omega (arith, mul-zero s) in ap (λ (r : ℕ). itemFrom s w r ∷ []) k
@@ -41,12 +44,12 @@ module _ (s : ℕ) (two : 2 ≤ s) where
   raised w (suc m) h p r =
       let at : 2 + s * (suc m - 1) ≡ 2 + s * m = ap (λ (k : ℕ). 2 + s * k) (omega arith) in
       rw at (items-snoc o m 1 (1 + s * m) refl
-        ∙ ap₂ (λ (l : List Entry) (e : Entry). l ++ e ∷ [])
-            (items-agree o w m 1 (1 + s * m) refl (omega (arith, length-set w (2 + s * m) h, mul-suc s m)) (omega (arith, mul-suc s m)) (λ j a b. getD-set-other w (2 + s * m) j h 0 (omega arith)))
-            (entry-path _ _ (getD-set-other w (2 + s * m) (1 + s * m) h 0 (omega arith))
-              (ap (λ (k : ℕ). getD o k 0) (omega arith) ∙ getD-set-same w (2 + s * m) h 0 (omega (arith, mul-suc s m)))
-              (ap (take (s - 2)) (drop-set-lt (1 + s * m + 2) w (2 + s * m) h (omega arith))))
-        ∙ sym (ap (λ (l : List Entry). raise l h) (items-snoc w m 1 (1 + s * m) refl) ∙ raise-snoc (items s m 1 w) (itemFrom s w (1 + s * m)) h))
+      ∙ ap₂ (λ (l : List Entry) (e : Entry). l ++ e ∷ [])
+      (items-agree o w m 1 (1 + s * m) refl (omega (arith, length-set w (2 + s * m) h, mul-suc s m)) (omega (arith, mul-suc s m)) (λ j a b. getD-set-other w (2 + s * m) j h 0 (omega arith)))
+      (entry-path _ _ (getD-set-other w (2 + s * m) (1 + s * m) h 0 (omega arith))
+      (ap (λ (k : ℕ). getD o k 0) (omega arith) ∙ getD-set-same w (2 + s * m) h 0 (omega (arith, mul-suc s m)))
+      (ap (take (s - 2)) (drop-set-lt (1 + s * m + 2) w (2 + s * m) h (omega arith))))
+      ∙ sym (ap (λ (l : List Entry). raise l h) (items-snoc w m 1 (1 + s * m) refl) ∙ raise-snoc (items s m 1 w) (itemFrom s w (1 + s * m)) h))
     where
       o : List ℕ
       o = set w (2 + s * m) h
@@ -55,9 +58,9 @@ module _ (s : ℕ) (two : 2 ≤ s) where
   pub laid : {w o : List ℕ} {x h : ℕ} {v : Value} (n : ℕ) → 1 + s * n ≤ length w → Laid s w (1 + s * n) x h v o → items s (suc n) 1 o ≡ items s n 1 w ++ entry x h v ∷ []
   laid {w} {o} {x} {h} {v} n r l =
       items-snoc o n 1 (1 + s * n) refl
-        ∙ ap₂ (λ (a : List Entry) (e : Entry). a ++ e ∷ [])
-            (items-agree o w n 1 (1 + s * n) refl (omega (arith, l .long)) r (λ j a b. l .kept j b))
-            (l .item)
+      ∙ ap₂ (λ (a : List Entry) (e : Entry). a ++ e ∷ [])
+      (items-agree o w n 1 (1 + s * n) refl (omega (arith, l .long)) r (λ j a b. l .kept j b))
+      (l .item)
 
 -- an item's words stored, by how many there are
 module _ (s : ℕ) (d : List ℕ) (q x h : ℕ) (v : Words) (room : q + s ≤ length d) where
@@ -66,40 +69,43 @@ module _ (s : ℕ) (d : List ℕ) (q x h : ℕ) (v : Words) (room : q + s ≤ le
 
   pub lay-two : s ≡ 2 → Laid s d q x h (valueOf s v) ends
   lay-two e = record {
-      long = simp length-set;
-      kept = λ j l. getD-set-other (set d q x) (q + 1) j h 0 (omega arith) ∙ getD-set-other d q j x 0 (omega arith);
-      item = entry-path (itemFrom s ends q) (entry x h (valueOf s v)) (getD-set-other (set d q x) (q + 1) q h 0 (omega arith) ∙ getD-set-same d q x 0 (omega arith))
+    long = simp length-set;
+    kept = λ j l. getD-set-other (set d q x) (q + 1) j h 0 (omega arith) ∙ getD-set-other d q j x 0 (omega arith);
+    item = entry-path (itemFrom s ends q) (entry x h (valueOf s v)) (getD-set-other (set d q x) (q + 1) q h 0 (omega arith) ∙ getD-set-same d q x 0 (omega arith))
         (getD-set-same (set d q x) (q + 1) h 0 (simp length-set (omega arith)))
-        (sym (words-two s v ends (q + 2) e)) }
+        (sym (words-two s v ends (q + 2) e));
+  }
 
   abbrev pub ends-first : List ℕ
   ends-first = set ends (q + 2) (v .first)
 
   pub lay-three : s ≡ 3 → Laid s d q x h (valueOf s v) ends-first
   lay-three e = record {
-      long = simp length-set;
-      kept = λ j l. getD-set-other ends (q + 2) j (v .first) 0 (omega arith) ∙ getD-set-other (set d q x) (q + 1) j h 0 (omega arith) ∙ getD-set-other d q j x 0 (omega arith);
-      item = entry-path (itemFrom s ends-first q) (entry x h (valueOf s v))
+    long = simp length-set;
+    kept = λ j l. getD-set-other ends (q + 2) j (v .first) 0 (omega arith) ∙ getD-set-other (set d q x) (q + 1) j h 0 (omega arith) ∙ getD-set-other d q j x 0 (omega arith);
+    item = entry-path (itemFrom s ends-first q) (entry x h (valueOf s v))
         (getD-set-other ends (q + 2) q (v .first) 0 (omega arith) ∙ getD-set-other (set d q x) (q + 1) q h 0 (omega arith) ∙ getD-set-same d q x 0 (omega arith))
         (getD-set-other ends (q + 2) (q + 1) (v .first) 0 (omega arith) ∙ getD-set-same (set d q x) (q + 1) h 0 (simp length-set (omega arith)))
-        (sym (words-three s v ends-first (q + 2) e (simp length-set (omega arith)) (sym (getD-set-same ends (q + 2) (v .first) 0 (simp length-set (omega arith)))))) }
+        (sym (words-three s v ends-first (q + 2) e (simp length-set (omega arith)) (sym (getD-set-same ends (q + 2) (v .first) 0 (simp length-set (omega arith))))));
+  }
 
   abbrev pub ends-both : List ℕ
   ends-both = set ends-first (q + 3) (v .second)
 
   pub lay-four : s ≡ 4 → Laid s d q x h (valueOf s v) ends-both
   lay-four e = record {
-      long = simp length-set;
-      kept = λ j l. getD-set-other ends-first (q + 3) j (v .second) 0 (omega arith) ∙ getD-set-other ends (q + 2) j (v .first) 0 (omega arith)
+    long = simp length-set;
+    kept = λ j l. getD-set-other ends-first (q + 3) j (v .second) 0 (omega arith) ∙ getD-set-other ends (q + 2) j (v .first) 0 (omega arith)
         ∙ getD-set-other (set d q x) (q + 1) j h 0 (omega arith) ∙ getD-set-other d q j x 0 (omega arith);
-      item = entry-path (itemFrom s ends-both q) (entry x h (valueOf s v))
+    item = entry-path (itemFrom s ends-both q) (entry x h (valueOf s v))
         (getD-set-other ends-first (q + 3) q (v .second) 0 (omega arith) ∙ getD-set-other ends (q + 2) q (v .first) 0 (omega arith)
-          ∙ getD-set-other (set d q x) (q + 1) q h 0 (omega arith) ∙ getD-set-same d q x 0 (omega arith))
+        ∙ getD-set-other (set d q x) (q + 1) q h 0 (omega arith) ∙ getD-set-same d q x 0 (omega arith))
         (getD-set-other ends-first (q + 3) (q + 1) (v .second) 0 (omega arith) ∙ getD-set-other ends (q + 2) (q + 1) (v .first) 0 (omega arith)
-          ∙ getD-set-same (set d q x) (q + 1) h 0 (simp length-set (omega arith)))
+        ∙ getD-set-same (set d q x) (q + 1) h 0 (simp length-set (omega arith)))
         (sym (words-four s v ends-both (q + 2) e (simp length-set (omega arith))
-          (sym (getD-set-other ends-first (q + 3) (q + 2) (v .second) 0 (omega arith) ∙ getD-set-same ends (q + 2) (v .first) 0 (simp length-set (omega arith))))
-          (sym (let k : q + 2 + 1 ≡ q + 3 = omega arith in ap (λ (i : ℕ). getD ends-both i 0) k ∙ getD-set-same ends-first (q + 3) (v .second) 0 (simp length-set (omega arith)))))) }
+        (sym (getD-set-other ends-first (q + 3) (q + 2) (v .second) 0 (omega arith) ∙ getD-set-same ends (q + 2) (v .first) 0 (simp length-set (omega arith))))
+        (sym (let k : q + 2 + 1 ≡ q + 3 = omega arith in ap (λ (i : ℕ). getD ends-both i 0) k ∙ getD-set-same ends-first (q + 3) (v .second) 0 (simp length-set (omega arith))))));
+  }
 
 pub mul-pred : (s n : ℕ) → 0 < n → s * n ≡ s * (n - 1) + s
 mul-pred s zero h = absurd (omega arith)
@@ -150,17 +156,44 @@ module _ (keep inside join : Bool) (s n x h : ℕ) (v : Value) (o : List ℕ) wh
       same true = refl
       same false = tt
 
+-- room for all that is listed: the count stops at none
+pub all-met : (s l r len : ℕ) → 2 ≤ s → 1 + s * l ≤ len → r ≡ min l len → (l < len) × (1 + s * r ≤ len)
+all-met s l r len two h e =
+    let k = le-mul s l two in
+    let f : r ≡ l = omega arith in
+    (omega arith, rw f h)
+
+-- the bound, and the count, against a capacity
+pub bound-fits : (l b cap : ℕ) → l ≤ b → b ≤ cap → true ≡ leb l cap
+bound-fits l b cap p q = sym (le-leb l cap (omega arith))
+
+pub few-enough : (l r cap : ℕ) → r ≡ min l (cap + 1) → leb r cap ≡ leb l cap
+few-enough l r cap e = go (decLe l cap)
+  where
+    go : Dec (l ≤ cap) → leb r cap ≡ leb l cap
+    go (yes h) = le-leb r cap (omega arith) ∙ sym (le-leb l cap h)
+    go (no h) = lt-leb r cap (omega arith) ∙ sym (lt-leb l cap (omega arith))
+
+pub some-met : (l r : ℕ) → r ≡ min l 1 → ltb 0 r ≡ ltb 0 l
+some-met l r e = go (decLe l 0)
+  where
+    go : Dec (l ≤ 0) → ltb 0 r ≡ ltb 0 l
+    go (yes h) = le-ltb 0 r (omega arith) ∙ sym (le-ltb 0 l h)
+    go (no h) = lt-ltb 0 r (omega arith) ∙ sym (lt-ltb 0 l (omega arith))
+
 -- n items behind word 0, the count set to n, zeros behind: the block
-pub finished : (s : ℕ) → 2 ≤ s → (w o : List ℕ) (n m : ℕ) (es : List Entry) → items s n 1 w ≡ es → m ≡ n → 1 + s * n ≤ length w → Cleared (set w 0 m) (1 + s * n) o → o ≡ blockOf (length w) es
-finished s two w o n m es e em room c =
+pub finished : (s : ℕ) → 2 ≤ s → (w o : List ℕ) (n m len : ℕ) (es : List Entry) → length w ≡ len → items s n 1 w ≡ es → m ≡ n → 1 + s * n ≤ len → Cleared (set w 0 m) (1 + s * n) o → o ≡ blockOf len es
+finished s two w o n m len es el e em fits c =
+    let room : 1 + s * n ≤ length w = omega arith in
     splice-entries s two w [] n n n 0 room (omega arith) (omega arith) (sym (mul-zero s)) o m (omega arith) (omega (arith, mul-zero s, none)) (c .same ∙ length-set w 0 m)
-      (record {
-        head = c .before 0 (omega arith) ∙ getD-set-same w 0 m 0 (omega arith);
-        front = λ k l h. c .before k (omega arith) ∙ getD-set-other w 0 k m 0 (omega arith);
-        new-at = λ k t q l. absurd (omega arith);
-        back = λ k q l h j. absurd (omega arith);
-        tail = λ k l. c .zero k (omega arith) })
-    ∙ ap (blockOf (length w)) (take-append-drop n (itemsOf s n (drop 1 w)) ∙ sym (items-are s n 1 w) ∙ e)
+    (record {
+      head = c .before 0 (omega arith) ∙ getD-set-same w 0 m 0 (omega arith);
+      front = λ k l h. c .before k (omega arith) ∙ getD-set-other w 0 k m 0 (omega arith);
+      new-at = λ k t q l. absurd (omega arith);
+      back = λ k q l h j. absurd (omega arith);
+      tail = λ k l. c .zero k (omega arith);
+    })
+    ∙ ap₂ blockOf el (take-append-drop n (itemsOf s n (drop 1 w)) ∙ sym (items-are s n 1 w) ∙ e)
   where
     none : s * (n - n) ≡ 0
     none = let z : n - n ≡ 0 = omega arith in ap (λ (k : ℕ). s * k) z ∙ mul-zero s

@@ -64,7 +64,7 @@ module _ (t s : ℕ) (es fs gs : List Entry) where
 
 -- an operation on two lists
 two-lists : (t s : ℕ) (f : Option Value → Option Value → Option Value) (es fs : List Entry) → Bounded es → Bounded fs → f none none ≡ none → mixed t s none none none ≡ none
-  → ((x : ℕ) → mixed t s (valueAt es x) (valueAt fs x) none ≡ f (valueAt es x) (valueAt fs x)) → result t s es fs [] ≡ combine f es fs
+    → ((x : ℕ) → mixed t s (valueAt es x) (valueAt fs x) none ≡ f (valueAt es x) (valueAt fs x)) → result t s es fs [] ≡ combine f es fs
 two-lists t s f es fs p q z y h =
     result-of t s es fs [] (λ x. f (valueAt es x) (valueAt fs x)) (combine f es fs) (combined f z es fs) (λ x. swept-mixed t s es fs [] p q (λ x h. refl) y x ∙ h x)
 
@@ -78,7 +78,7 @@ mixed-set t o p q = go (accepts t (has o) (has p) (has q))
     go false = refl
 
 set-table : (t : ℕ) (g : Bool → Bool → Bool) → ((a b : Bool) → accepts t a b false ≡ g a b) → g false false ≡ false → (es fs : List Entry) → Bounded es → Bounded fs
-  → result t 2 es fs [] ≡ setOp g es fs
+    → result t 2 es fs [] ≡ setOp g es fs
 set-table t g h z es fs p q =
     two-lists t 2 (λ o r. mark (g (has o) (has r))) es fs p q (ap mark z) (mixed-set t none none none ∙ ap mark (h false false ∙ z))
     (λ x. mixed-set t (valueAt es x) (valueAt fs x) none ∙ ap mark (h (member es x) (member fs x)))
@@ -132,7 +132,7 @@ unfolding union accepts
 amended-table s r w p q n =
     result-of 206 2 s r w (λ x. mark (orb (member (difference s w) x) (member r x))) (amended s r w) (combined (λ o u. mark (orb (has o) (has u))) refl (difference s w) r)
     (λ x. swept-mixed 206 2 s r w p q n (mixed-set 206 none none none) x ∙ mixed-set 206 (valueAt s x) (valueAt r x) (valueAt w x) ∙ ap mark (table (member s x) (member r x) (member w x))
-      ∙ ap (λ (a : Bool). mark (orb a (member r x))) (sym ((difference-is s w) .members x)))
+    ∙ ap (λ (a : Bool). mark (orb a (member r x))) (sym ((difference-is s w) .members x)))
   where
     table : (a b c : Bool) → accepts 206 a b c ≡ orb (lessb a c) b
     table true b true = one b

@@ -10,7 +10,7 @@ use Rattle.sweeps.proofs.leave.Lts as lts
 use Rattle.blocks.proofs.word.Reads as word-reads
 
 word-requires : tie.Need-word-requires
-word-requires c κs = 
+word-requires c κs =
     let a = c .before in
     omega (arith, in-here (a .args .s) (now (a .args .w)) (a .args .x) (a .pre .0) (a .pre .1), a .pre .0 .two)
 
@@ -21,17 +21,17 @@ add-q : tie.Need-add-q
 add-q c = search needs
 
 returns : tie.Need-returns
-returns c = 
+returns c =
     let a = c .before .before .before in
     leave-last (a .args .s) (now (a .args .w)) (a .args .x) (a .pre .0) (a .pre .1) (c .before .word .result) _ (c .before .word .ensures) refl (c .if1 .taken)
 
 word-requires-2 : tie.Need-word-requires-2
-word-requires-2 c κs = 
+word-requires-2 c κs =
     let a = c .before .before .before in
     omega (arith, next-here (a .args .s) (now (a .args .w)) (a .args .x) (a .pre .0) (a .pre .1) (c .before .word .result) _ (c .before .word .ensures) refl (c .if1 .left), a .pre .0 .two)
 
 sub-if2 : tie.Need-sub-if2
-sub-if2 c = 
+sub-if2 c =
     let a = c .before .before .before .before in
     omega (arith, next-later (a .args .s) (now (a .args .w)) (a .args .x) (a .pre .0) (a .pre .1) (c .before .before .word .result) _ (c .before .before .word .ensures) refl (c .before .if1 .left), c .word2 .ensures)
 
@@ -39,12 +39,12 @@ add-t13 : tie.Need-add-t13
 add-t13 c = search needs
 
 returns-2 : tie.Need-returns-2
-returns-2 c = 
+returns-2 c =
     let a = c .before .before .before .before .before in
     leave-touching (a .args .s) (now (a .args .w)) (a .args .x) (a .pre .0) (a .pre .1) (c .before .before .before .word .result) _ (c .before .before .before .word .ensures) refl (c .before .before .if1 .left) (c .before .word2 .result) (c .before .word2 .ensures) (c .if2 .taken)
 
 returns-3 : tie.Need-returns-3
-returns-3 c = 
+returns-3 c =
     let a = c .before .before .before .before .before in
     leave-apart (a .args .s) (now (a .args .w)) (a .args .x) (a .pre .0) (a .pre .1) (c .before .before .before .word .result) _ (c .before .before .before .word .ensures) refl (c .before .before .if1 .left) (c .before .word2 .result) (c .before .word2 .ensures) (c .if2 .left)
 

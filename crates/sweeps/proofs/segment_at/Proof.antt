@@ -42,9 +42,9 @@ moved-requires-3 : tie.Need-moved-requires-3
 moved-requires-3 c κs = search needs
 
 returns : tie.Need-returns
-returns c = 
+returns c =
     segment-made (c .before .before .before .before .before .before .before .before .before .run-at .ensures) (c .before .before .before .before .before .before .before .before .run-at2 .ensures) (c .before .before .before .before .before .before .before .run-at3 .ensures) (c .before .before .before .before .before .before .least .ensures) (c .before .before .before .before .before .least2 .ensures)
-      (c .before .before .before .before .accepted .ensures) (c .before .before .before .carried .ensures) (c .before .before .moved .ensures) (c .before .moved2 .ensures) (c .moved3 .ensures)
+    (c .before .before .before .before .accepted .ensures) (c .before .before .before .carried .ensures) (c .before .before .moved .ensures) (c .before .moved2 .ensures) (c .moved3 .ensures)
 
 pub segment-at-spec : {M : Type 1} → statement M
 segment-at-spec =

@@ -32,7 +32,7 @@ start-requires-3 : tie.Need-start-requires-3 Inv-loop μ-loop
 start-requires-3 c κs = search needs
 
 loop-holds : tie.Need-loop-holds Inv-loop μ-loop
-loop-holds c = 
+loop-holds c =
     let a = c .before .before .before .before .before .before .before in
     (standing-zero (a .args .plan) (now (a .args .a)) (now (a .args .b)) (now (a .args .c)) (a .args .keep) _ _ _ _ _ (record { at-a = c .before .before .start .ensures; at-b = c .before .start2 .ensures; at-c = c .start3 .ensures }), omega arith, refl)
 
@@ -40,16 +40,22 @@ segment-at-requires : tie.Need-segment-at-requires Inv-loop μ-loop
 segment-at-requires c κs = search needs
 
 joins-requires : tie.Need-joins-requires Inv-loop μ-loop
-joins-requires c κs = search needs
+joins-requires c κs = let a = c .before .before .before .before .before .before .before .before .before .before .before in (a .pre .1 .0 .two, a .pre .1 .0 .four)
 
 add-requires : tie.Need-add-requires Inv-loop μ-loop
-add-requires c κs = ?
+add-requires c κs =
+    let a = c .before .before .before .before .before .before .before .before .before .before .before .before .before in
+    let l = c .before .before .before .before .before .loop in
+    (a .pre .1 .0 .two, a .pre .1 .0 .four, standing-room (l .inv .0) (c .before .before .before .segment-at .ensures) (c .before .joins .ensures) (length (l .o)) (omega (arith, a .pre .1 .1, l .inv .2)) (omega (arith, c .before .before .before .before .loop-test .taken)))
 
 same-length : tie.Need-same-length Inv-loop μ-loop
 same-length c = search needs
 
 returns : tie.Need-returns Inv-loop μ-loop
-returns c = ?
+returns c =
+    let a = c .before .before .before .before .before .before .before .before .before .before .before .before .before .before .before .before .before .before in
+    let l = c .before .before .before .before .before .before .before .before .before .before .loop in
+    stopped-end (l .inv .0) (c .before .before .before .before .before .before .before .before .segment-at .ensures) (c .before .before .before .before .before .before .joins .ensures) (c .before .before .before .before .add .last .0) (c .before .before .before .before .add .ensures) (a .args .stop) (c .before .before .before .before .before .before .before .before .before .loop-test .taken) (c .if1 .taken)
 
 add-x : tie.Need-add-x Inv-loop μ-loop
 add-x c = search needs
@@ -58,13 +64,22 @@ loop-less : tie.Need-loop-less Inv-loop μ-loop
 loop-less c = search needs
 
 loop-again : tie.Need-loop-again Inv-loop μ-loop
-loop-again c = ?
+loop-again c =
+    let a = c .before .before .before .before .before .before .before .before .before .before .before .before .before .before .before .before .before .before .before .before .before .before in
+    let l = c .before .before .before .before .before .before .before .before .before .before .before .before .before .before .loop in (
+      standing-next (l .inv .0) (c .before .before .before .before .before .before .before .before .before .before .before .before .segment-at .ensures) (c .before .before .before .before .before .before .before .before .before .before .joins .ensures) (c .before .before .before .before .before .before .before .before .add .last .0) (c .before .before .before .before .before .before .before .before .add .ensures) (c .before .before .before .before .if1 .left),
+      omega (arith, c .before .before .before .before .before .before .before .before .before .before .before .before .before .loop-test .taken, c .before .before .before .before .before .before .before .before .add .ensures .0, begins-one (c .before .before .before .before .before .before .before .before .before .before .before .before .segment-at .result .inside) (c .before .before .before .before .before .before .before .before .before .before .joins .result)),
+      c .before .before .before .before .before .before .before .before .add .kept .0 ∙ l .inv .2,
+    )
 
 same-length-2 : tie.Need-same-length-2 Inv-loop μ-loop
 same-length-2 c = search needs
 
 returns-2 : tie.Need-returns-2 Inv-loop μ-loop
-returns-2 c = ?
+returns-2 c =
+    let a = c .before .before .before .before .before .before .before .before .before in
+    let l = c .before .loop in
+    stopped-early (l .inv .0) (a .args .stop) (l .inv .1) (c .loop-test .left)
 
 pub sweep-spec : {M : Type 1} → statement M
 sweep-spec =

@@ -20,7 +20,7 @@ word-requires : tie.Need-word-requires
 word-requires c κs = search needs
 
 returns-2 : tie.Need-returns-2
-returns-2 c = 
+returns-2 c =
     let a = c .before .before .before .before in
     words-three (a .args .s) _ (now (a .args .w)) (a .args .p + 1) (c .if2 .taken) (omega arith) (c .before .word .ensures)
 
@@ -31,7 +31,7 @@ word-requires-2 : tie.Need-word-requires-2
 word-requires-2 c κs = search needs
 
 returns-3 : tie.Need-returns-3
-returns-3 c = 
+returns-3 c =
     let a = c .before .before .before .before .before in
     let k : a .args .p + 2 ≡ a .args .p + 1 + 1 = omega arith in
     words-four (a .args .s) _ (now (a .args .w)) (a .args .p + 1) (omega arith) (omega arith) (c .before .before .word .ensures) (c .word2 .ensures ∙ ap (λ i. lib.ListN.getD (now (a .args .w)) i 0) k)
