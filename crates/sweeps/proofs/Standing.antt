@@ -1,0 +1,113 @@
+-- What holds at the head of the sweep's loop: at the start, from one segment to the next, and at the end.
+use mathlib.Core.Path.{_≡_, refl, sym, _∙_, ap, subst}
+use mathlib.Core.Bool.{Bool, true, false}
+use mathlib.Core.Option.{Option, none, some}
+use mathlib.Core.List.{List, []}
+use Prim.Native.Nat.{ℕ, suc, _+_, _*_, _≤_, _<_}
+use native.Mathlib.Omega.{arith}
+use native.Mathlib.Nat.{mul-le-mul-left}
+use native.Mathlib.Numerals.{add-one}
+use lib.ListN.{length}
+use Rattle.entries.specs.Entries.{Value, Entry}
+use Rattle.entries.specs.Build.{pick}
+use Rattle.entries.proofs.Canon.{unique}
+use Rattle.entries.proofs.Step.{Upto, upto-start, upto-end}
+use Rattle.entries.proofs.Bounds.{prev}
+use Rattle.sweeps.specs.Cursors.{items, shown, valueOf, sweptOf, resultOf, Points, SegmentAt, sameAs, begins, grow, Room, Holds, Stopped}
+use Rattle.sweeps.specs.declared.Plan.{Plan}
+use Rattle.sweeps.specs.declared.Words.{Words}
+use Rattle.sweeps.specs.declared.Cursor.{Cursor}
+use Rattle.sweeps.specs.declared.Segment.{Segment}
+use Rattle.sweeps.proofs.Tables.{swept-above, result-is}
+use Rattle.sweeps.proofs.Growing.{grow-step, joins-some, length-grow, begins-one, no-longer}
+
+pub result-lists : (plan : Plan) (a b c : List ℕ) → Rattle.entries.specs.Entries.ListOf (sweptOf plan a b c) (resultOf plan a b c)
+result-lists plan a b c = result-is (plan .table) (plan .out) _ _ _
+
+-- room for what a segment adds
+room-made : (keep : Bool) (s n l m : ℕ) (u q : Bool) → 1 + s * pick keep l 0 ≤ m → n + begins u q ≤ l → (q ≡ true → 0 < n) → n < 18446744073709551615 → Room keep s n u q m
+room-made false s n l m u q h k z w = w
+room-made true s n l m false q h k z w = omega (arith, mul-le-mul-left {m = n} {n = l} s (omega arith))
+room-made true s n l m true true h k z w = (z refl, omega (arith, mul-le-mul-left {m = n} {n = l} s (omega arith)))
+room-made true s n l m true false h k z w = omega (arith, mul-le-mul-left {m = suc n} {n = l} s (omega arith))
+
+-- the sweep stands at x: the cursors, the value right before x, the list made so far, and that it is stored
+pub record Standing (plan : Plan) (a b c : List ℕ) (keep : Bool) (x : ℕ) (i j k : Cursor) (was : Bool) (v : Words) (n : ℕ) (o : List ℕ) : Type 0 where
+  pub fits : x < 18446744073709551616
+  pub points : Points plan a b c x i j k
+  pub before : shown was (valueOf (plan .out) v) ≡ prev (sweptOf plan a b c) x
+  pub list : List Entry
+  pub upto : Upto (sweptOf plan a b c) x list
+  pub size : n ≡ length list
+  pub holds : Holds keep (plan .out) n o list
+
+pub standing-zero : (plan : Plan) (a b c : List ℕ) (keep : Bool) (i j k : Cursor) (v : Words) (o : List ℕ) → Points plan a b c 0 i j k → Standing plan a b c keep 0 i j k false v 0 o
+standing-zero plan a b c keep i j k v o h = record {
+  fits = omega arith;
+  points = h;
+  before = refl;
+  list = [];
+  upto = upto-start (sweptOf plan a b c);
+  size = refl;
+  holds = none keep;
+}
+  where
+    none : (t : Bool) → Holds t (plan .out) 0 o []
+    none true = refl
+    none false = tt
+
+module _ {plan : Plan} {a b c : List ℕ} {keep : Bool} {x : ℕ} {i j k : Cursor} {was : Bool} {v : Words} {n : ℕ} {o : List ℕ} (h : Standing plan a b c keep x i j k was v n o) where
+  most : n ≤ length (resultOf plan a b c)
+  most = omega (arith, h .size, no-longer (sweptOf plan a b c) x (h .list) (resultOf plan a b c) (h .upto) (result-lists plan a b c))
+
+  -- stopped early
+  pub stopped-early : (stop : ℕ) → n ≤ stop → stop ≤ n → Stopped keep (plan .out) stop (resultOf plan a b c) n o
+  stopped-early stop l m = record { size = omega (arith, most); holds = λ z. absurd (omega (arith, most)) }
+
+  module _ {r : Segment} (g : SegmentAt plan a b c x r) {q : Bool} (e : q ≡ sameAs (shown was (valueOf (plan .out) v)) (valueOf (plan .out) (r .value))) where
+    abbrev next : List Entry → List Entry
+    next es = grow (r .inside) q es x (r .last) (valueOf (plan .out) (r .value))
+
+    next-upto : Upto (sweptOf plan a b c) (suc (r .last)) (next (h .list))
+    next-upto = rw (e, h .before) (grow-step (sweptOf plan a b c) x (h .list) (r .last) (valueOf (plan .out) (r .value)) (r .inside) (g .from-x) (h .upto) (g .same))
+
+    next-size : length (next (h .list)) ≡ n + begins (r .inside) q
+    next-size = omega (arith, h .size, length-grow (r .inside) q (h .list) x (r .last) (valueOf (plan .out) (r .value)))
+
+    pub standing-room : (len : ℕ) → 1 + plan .out * pick keep (length (resultOf plan a b c)) 0 ≤ len → n < 18446744073709551615 → Room keep (plan .out) n (r .inside) q len
+    standing-room len f w =
+        room-made keep (plan .out) n (length (resultOf plan a b c)) len (r .inside) q f
+        (omega (arith, next-size, no-longer (sweptOf plan a b c) (suc (r .last)) (next (h .list)) (resultOf plan a b c) next-upto (result-lists plan a b c)))
+        (λ z. omega (arith, h .size, joins-some (sweptOf plan a b c) x (h .list) (valueOf (plan .out) (r .value)) (h .upto) (ap (λ (p : Option Value). sameAs p (valueOf (plan .out) (r .value))) (sym (h .before)) ∙ sym e ∙ z)))
+        w
+
+    module _ {n′ : ℕ} (o′ : List ℕ) (m : (n′ ≡ n + begins (r .inside) q) × Holds keep (plan .out) n′ o′ (next (items (plan .out) n 1 o))) where
+      next-holds : Holds keep (plan .out) n′ o′ (next (h .list))
+      next-holds = go keep (m .1) (h .holds)
+        where
+          go : (t : Bool) → Holds t (plan .out) n′ o′ (next (items (plan .out) n 1 o)) → Holds t (plan .out) n o (h .list) → Holds t (plan .out) n′ o′ (next (h .list))
+          go true y z = y ∙ ap next z
+          go false y z = tt
+
+      pub standing-next : (r .last ≡ 18446744073709551615 → ⊥) → Standing plan a b c keep (r .last + 1) (r .a) (r .b) (r .c) (r .inside) (r .value) n′ o′
+      standing-next ne = record {
+        fits = omega (arith, g .fits);
+        points = g .points;
+        before = rw add-one (sym (g .same (r .last) (g .from-x) (omega arith)));
+        list = next (h .list);
+        upto = rw add-one next-upto;
+        size = m .0 ∙ sym next-size;
+        holds = next-holds;
+      }
+
+      pub stopped-end : (stop : ℕ) → n < stop → r .last ≡ 18446744073709551615 → Stopped keep (plan .out) stop (resultOf plan a b c) n′ o′
+      stopped-end stop l d = record {
+        size = omega (arith, m .0, next-size, ap length whole, begins-one (r .inside) q);
+        holds = λ z. subst (λ (es : List Entry). Holds keep (plan .out) n′ o′ es) whole next-holds;
+      }
+        where
+          whole : next (h .list) ≡ resultOf plan a b c
+          whole =
+              unique (sweptOf plan a b c) _ _
+              (upto-end (sweptOf plan a b c) (suc (r .last)) (next (h .list)) next-upto (λ y l. swept-above (plan .table) (plan .out) _ _ _ y (omega arith)))
+              (result-lists plan a b c)

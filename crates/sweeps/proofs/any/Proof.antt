@@ -1,0 +1,21 @@
+use native.Mathlib.Nat.{mul-zero}
+use Rattle.sweeps.proofs.Storing.{some-met}
+use native.Mathlib.Omega.{arith}
+use borrow.Author.Needs.{needs}
+use Rattle.sweeps.proofs.any.Statement.{statement}
+use Rattle.sweeps.proofs.any.Tie as tie
+use Rattle.sweeps.proofs.any.Reads as reads
+use Rattle.sweeps.proofs.any.Lts as lts
+use Rattle.sweeps.proofs.sweep.Reads as sweep-reads
+
+slice-aggregate-sweep : tie.Need-slice-aggregate-sweep
+slice-aggregate-sweep c = search needs
+
+sweep-requires : tie.Need-sweep-requires
+sweep-requires c κs = let a = c .before .before .before .before in (a .pre .0, (a .pre .1, omega (arith, mul-zero (a .args .plan .out))))
+
+returns : tie.Need-returns
+returns c = some-met _ (c .before .sweep .result) (c .before .sweep .ensures .size)
+
+pub any-spec : {M : Type 1} → statement M
+any-spec = tie.close (tie.spec slice-aggregate-sweep sweep-requires returns)

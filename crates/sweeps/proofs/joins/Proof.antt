@@ -1,0 +1,19 @@
+use native.Mathlib.Omega.{arith}
+use borrow.Author.Needs.{needs}
+use Rattle.sweeps.proofs.joins.Statement.{statement}
+use Rattle.sweeps.proofs.joins.Tie as tie
+use Rattle.sweeps.proofs.joins.Reads as reads
+use Rattle.sweeps.proofs.joins.Lts as lts
+use Rattle.sweeps.proofs.same_value.Reads as same-value-reads
+
+same-value-requires : tie.Need-same-value-requires
+same-value-requires c κs = search needs
+
+returns : tie.Need-returns
+returns c = rw (c .before .if1 .taken) (c .same-value .ensures)
+
+returns-2 : tie.Need-returns-2
+returns-2 c = search needs
+
+pub joins-spec : {M : Type 1} → statement M
+joins-spec = tie.close (tie.spec same-value-requires returns returns-2)

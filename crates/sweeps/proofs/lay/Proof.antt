@@ -1,0 +1,82 @@
+use denote.Ref.{now}
+use lib.ListN.{length-set}
+use Rattle.sweeps.proofs.Storing.{lay-two, lay-three, lay-four}
+use native.Mathlib.Omega.{arith}
+use borrow.Author.Needs.{needs}
+use Rattle.sweeps.proofs.lay.Statement.{statement}
+use Rattle.sweeps.proofs.lay.Tie as tie
+use Rattle.sweeps.proofs.lay.Reads as reads
+use Rattle.sweeps.proofs.lay.Lts as lts
+
+mul-o : tie.Need-mul-o
+mul-o c = search needs
+
+slice-write-o : tie.Need-slice-write-o
+slice-write-o c = search needs
+
+add-o : tie.Need-add-o
+add-o c = search needs
+
+mul-o-2 : tie.Need-mul-o-2
+mul-o-2 c = search needs
+
+slice-write-o-2 : tie.Need-slice-write-o-2
+slice-write-o-2 c = simp length-set (omega arith)
+
+same-length : tie.Need-same-length
+same-length c = search needs
+
+returns : tie.Need-returns
+returns c = let a = c .before in lay-two (a .args .s) (now (a .args .o)) (a .args .q) (a .args .x) (a .args .h) (a .args .v) (a .pre .2) (c .if1 .taken)
+
+add-o-2 : tie.Need-add-o-2
+add-o-2 c = search needs
+
+mul-o-3 : tie.Need-mul-o-3
+mul-o-3 c = search needs
+
+slice-write-o-3 : tie.Need-slice-write-o-3
+slice-write-o-3 c = simp length-set (omega arith)
+
+same-length-2 : tie.Need-same-length-2
+same-length-2 c = search needs
+
+returns-2 : tie.Need-returns-2
+returns-2 c = let a = c .before .before in lay-three (a .args .s) (now (a .args .o)) (a .args .q) (a .args .x) (a .args .h) (a .args .v) (a .pre .2) (c .if2 .taken)
+
+add-o-3 : tie.Need-add-o-3
+add-o-3 c = search needs
+
+mul-o-4 : tie.Need-mul-o-4
+mul-o-4 c = search needs
+
+slice-write-o-4 : tie.Need-slice-write-o-4
+slice-write-o-4 c = simp length-set (omega arith)
+
+same-length-3 : tie.Need-same-length-3
+same-length-3 c = search needs
+
+returns-3 : tie.Need-returns-3
+returns-3 c = let a = c .before .before in lay-four (a .args .s) (now (a .args .o)) (a .args .q) (a .args .x) (a .args .h) (a .args .v) (a .pre .2) (omega arith)
+
+pub lay-spec : {M : Type 1} → statement M
+lay-spec =
+    tie.close
+    (tie.spec
+    mul-o
+    slice-write-o
+    add-o
+    mul-o-2
+    slice-write-o-2
+    same-length
+    returns
+    add-o-2
+    mul-o-3
+    slice-write-o-3
+    same-length-2
+    returns-2
+    add-o-3
+    mul-o-4
+    slice-write-o-4
+    same-length-3
+    returns-3)

@@ -1,0 +1,63 @@
+use Rattle.sweeps.proofs.Segments.{segment-made}
+use native.Mathlib.Omega.{arith}
+use borrow.Author.Needs.{needs}
+use Rattle.sweeps.proofs.segment_at.Statement.{statement}
+use Rattle.sweeps.proofs.segment_at.Tie as tie
+use Rattle.sweeps.proofs.segment_at.Reads as reads
+use Rattle.sweeps.proofs.segment_at.Lts as lts
+use Rattle.sweeps.proofs.accepted.Reads as accepted-reads
+use Rattle.sweeps.proofs.carried.Reads as carried-reads
+use Rattle.sweeps.proofs.least.Reads as least-reads
+use Rattle.sweeps.proofs.moved.Reads as moved-reads
+use Rattle.sweeps.proofs.run_at.Reads as run-at-reads
+
+run-at-requires : tie.Need-run-at-requires
+run-at-requires c κs = search needs
+
+run-at-requires-2 : tie.Need-run-at-requires-2
+run-at-requires-2 c κs = search needs
+
+run-at-requires-3 : tie.Need-run-at-requires-3
+run-at-requires-3 c κs = search needs
+
+least-requires : tie.Need-least-requires
+least-requires c κs = search needs
+
+least-requires-2 : tie.Need-least-requires-2
+least-requires-2 c κs = search needs
+
+accepted-requires : tie.Need-accepted-requires
+accepted-requires c κs = search needs
+
+carried-requires : tie.Need-carried-requires
+carried-requires c κs = search needs
+
+moved-requires : tie.Need-moved-requires
+moved-requires c κs = search needs
+
+moved-requires-2 : tie.Need-moved-requires-2
+moved-requires-2 c κs = search needs
+
+moved-requires-3 : tie.Need-moved-requires-3
+moved-requires-3 c κs = search needs
+
+returns : tie.Need-returns
+returns c =
+    segment-made (c .before .before .before .before .before .before .before .before .before .run-at .ensures) (c .before .before .before .before .before .before .before .before .run-at2 .ensures) (c .before .before .before .before .before .before .before .run-at3 .ensures) (c .before .before .before .before .before .before .least .ensures) (c .before .before .before .before .before .least2 .ensures)
+    (c .before .before .before .before .accepted .ensures) (c .before .before .before .carried .ensures) (c .before .before .moved .ensures) (c .before .moved2 .ensures) (c .moved3 .ensures)
+
+pub segment-at-spec : {M : Type 1} → statement M
+segment-at-spec =
+    tie.close
+    (tie.spec
+    run-at-requires
+    run-at-requires-2
+    run-at-requires-3
+    least-requires
+    least-requires-2
+    accepted-requires
+    carried-requires
+    moved-requires
+    moved-requires-2
+    moved-requires-3
+    returns)

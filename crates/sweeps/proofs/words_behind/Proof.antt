@@ -1,0 +1,42 @@
+use denote.Ref.{now}
+use Prim.Native.Nat.{_+_}
+use mathlib.Core.Path.{_≡_, ap, _∙_}
+use Rattle.sweeps.proofs.Segments.{words-three, words-four}
+use native.Mathlib.Omega.{arith}
+use borrow.Author.Needs.{needs}
+use Rattle.sweeps.proofs.words_behind.Statement.{statement}
+use Rattle.sweeps.proofs.words_behind.Tie as tie
+use Rattle.sweeps.proofs.words_behind.Reads as reads
+use Rattle.sweeps.proofs.words_behind.Lts as lts
+use Rattle.blocks.proofs.word.Reads as word-reads
+
+returns : tie.Need-returns
+returns c = search needs
+
+add-word : tie.Need-add-word
+add-word c = search needs
+
+word-requires : tie.Need-word-requires
+word-requires c κs = search needs
+
+returns-2 : tie.Need-returns-2
+returns-2 c =
+    let a = c .before .before .before .before in
+    words-three (a .args .s) _ (now (a .args .w)) (a .args .p + 1) (c .if2 .taken) (omega arith) (c .before .word .ensures)
+
+add-word-2 : tie.Need-add-word-2
+add-word-2 c = search needs
+
+word-requires-2 : tie.Need-word-requires-2
+word-requires-2 c κs = search needs
+
+returns-3 : tie.Need-returns-3
+returns-3 c =
+    let a = c .before .before .before .before .before in
+    let k : a .args .p + 2 ≡ a .args .p + 1 + 1 = omega arith in
+    words-four (a .args .s) _ (now (a .args .w)) (a .args .p + 1) (omega arith) (omega arith) (c .before .before .word .ensures) (c .word2 .ensures ∙ ap (λ i. lib.ListN.getD (now (a .args .w)) i 0) k)
+
+pub words-behind-spec : {M : Type 1} → statement M
+words-behind-spec =
+    tie.close
+    (tie.spec returns add-word word-requires returns-2 add-word-2 word-requires-2 returns-3)

@@ -1,0 +1,147 @@
+-- What the steps of a sweep promise each other: cursors, runs, segments, and the list made so far. No public promise names these.
+use mathlib.Core.Path.{_≡_}
+use mathlib.Core.Bool.{Bool, true, false}
+use mathlib.Core.Option.{Option, none, some}
+use mathlib.Core.List.{List, [], _∷_, _++_}
+use Prim.Native.Nat.{ℕ, zero, suc, _+_, _*_, _-_, _≤_, _<_, min}
+use lib.Dec.{eqb}
+use lib.ListN.{length, getD, take, drop}
+use Rattle.entries.specs.Entries.{Value, Entry, entry, valueAt, Sound}
+use Rattle.entries.specs.Build.{pick, sameWords}
+use Rattle.blocks.specs.Blocks.{itemsOf, entriesOf}
+use Rattle.blocks.specs.Steps.{itemFrom}
+use Rattle.sweeps.specs.Sweeps.{firstOf, swept, result}
+use Rattle.sweeps.specs.declared.Plan.{Plan}
+use Rattle.sweeps.specs.declared.Words.{Words}
+use Rattle.sweeps.specs.declared.Cursor.{Cursor}
+use Rattle.sweeps.specs.declared.Turn.{Turn}
+use Rattle.sweeps.specs.declared.Segment.{Segment}
+
+-- k items of s words from place p on
+abbrev pub items : ℕ → ℕ → ℕ → List ℕ → List Entry
+items s zero p w = []
+items s (suc k) p w = itemFrom s w p ∷ items s k (p + s) w
+
+abbrev pub shown : Bool → Value → Option Value
+shown true v = some v
+shown false v = none
+
+-- the value that two words carry where an item has s words
+abbrev pub valueOf : ℕ → Words → Value
+valueOf s v = take (s - 2) (v .first ∷ v .second ∷ [])
+
+-- the value whose words stand behind place p
+abbrev pub valueBehind : ℕ → List ℕ → ℕ → Value
+valueBehind s w p = take (s - 2) (drop (p + 1) w)
+
+abbrev pub sweptOf : Plan → List ℕ → List ℕ → List ℕ → ℕ → Option Value
+sweptOf plan a b c = swept (plan .table) (plan .out) (entriesOf (plan .a) a) (entriesOf (plan .b) b) (entriesOf (plan .c) c)
+
+abbrev pub resultOf : Plan → List ℕ → List ℕ → List ℕ → List Entry
+resultOf plan a b c = result (plan .table) (plan .out) (entriesOf (plan .a) a) (entriesOf (plan .b) b) (entriesOf (plan .c) c)
+
+abbrev pub cursor : ℕ → Bool → ℕ → Cursor
+cursor p b e = record { place = p; inside = b; end = e }
+
+abbrev pub turn : ℕ → Cursor → Turn
+turn h c = record { last = h; then = c }
+
+abbrev pub Ahead : ℕ → List Entry → Type 0
+Ahead x [] = Unit {0}
+Ahead x (e ∷ es) = x ≤ e .high
+
+-- the items from place p on are all that counts from x on
+pub record Cur (s : ℕ) (w : List ℕ) (x p : ℕ) : Type 0 where
+  pub left : ℕ
+  pub ends : p + s * left ≡ 1 + s * getD w 0 0
+  pub sound : Sound (items s left p w)
+  pub rest : (y : ℕ) → x ≤ y → valueAt (entriesOf s w) y ≡ valueAt (items s left p w) y
+  pub ahead : Ahead x (items s left p w)
+
+abbrev pub bit : Bool → ℕ
+bit true = 1
+bit false = 0
+
+-- inside: x is in the item at p; outside: it is below that item, if there is one
+abbrev pub Sided : Bool → ℕ → List ℕ → ℕ → ℕ → Type 0
+Sided true s w x p = (p ≡ 1 + s * getD w 0 0 → ⊥) × (getD w p 0 ≤ x)
+Sided false s w x p = (p ≡ 1 + s * getD w 0 0 → ⊥) → x < getD w p 0
+
+-- The cursor stands at x: outside at the low word of the next item or at the end, inside at its high word.
+pub record Point (s : ℕ) (w : List ℕ) (x : ℕ) (c : Cursor) : Type 0 where
+  pub base : ℕ
+  pub place : c .place ≡ base + bit (c .inside)
+  pub cur : Cur s w x base
+  pub side : Sided (c .inside) s w x base
+  pub end : c .end ≡ 1 + s * getD w 0 0
+
+-- from x to the last number of the run the value is the cursor's, or none; behind it the cursor has turned
+pub record TurnAt (s : ℕ) (w : List ℕ) (x : ℕ) (c : Cursor) (t : Turn) : Type 0 where
+  pub from-x : x ≤ t .last
+  pub fits : t .last < 18446744073709551616
+  pub same : (y : ℕ) → x ≤ y → y ≤ t .last → valueAt (entriesOf s w) y ≡ shown (c .inside) (valueBehind s w (c .place))
+  pub next : (e : ℕ) → x ≤ e → e ≤ t .last → Point s w (e + 1) (pick (eqb (t .last) e) (t .then) c)
+
+-- the three cursors at x
+pub record Points (plan : Plan) (a b c : List ℕ) (x : ℕ) (i j k : Cursor) : Type 0 where
+  pub at-a : Point (plan .a) a x i
+  pub at-b : Point (plan .b) b x j
+  pub at-c : Point (plan .c) c x k
+
+-- the value of the first input that is inside
+abbrev pub firstBehind : Plan → List ℕ → List ℕ → List ℕ → Cursor → Cursor → Cursor → Value
+firstBehind plan a b c i j k = firstOf (shown (i .inside) (valueBehind (plan .a) a (i .place)))
+    (shown (j .inside) (valueBehind (plan .b) b (j .place))) (shown (k .inside) (valueBehind (plan .c) c (k .place)))
+
+-- from x to the last number of the segment the sweep gives one value, or none; the cursors behind it
+pub record SegmentAt (plan : Plan) (a b c : List ℕ) (x : ℕ) (s : Segment) : Type 0 where
+  pub from-x : x ≤ s .last
+  pub fits : s .last < 18446744073709551616
+  pub same : (y : ℕ) → x ≤ y → y ≤ s .last → sweptOf plan a b c y ≡ shown (s .inside) (valueOf (plan .out) (s .value))
+  pub points : Points plan a b c (s .last + 1) (s .a) (s .b) (s .c)
+
+-- whether a value goes on
+abbrev pub sameAs : Option Value → Value → Bool
+sameAs none v = false
+sameAs (some u) v = sameWords u v
+
+-- a segment with a value that does not go on begins an entry
+abbrev pub begins : Bool → Bool → ℕ
+begins true true = 0
+begins true false = 1
+begins false j = 0
+
+-- the last entry made to end at h
+abbrev pub raise : List Entry → ℕ → List Entry
+raise [] h = []
+raise (l ∷ []) h = entry (l .low) h (l .value) ∷ []
+raise (e ∷ f ∷ es) h = e ∷ raise (f ∷ es) h
+
+-- the segment x..h put behind a list
+abbrev pub grow : Bool → Bool → List Entry → ℕ → ℕ → Value → List Entry
+grow false j es x h v = es
+grow true true es x h v = raise es h
+grow true false es x h v = es ++ entry x h v ∷ []
+
+-- room in l words for n items and the segment, where items are stored
+abbrev pub Room : Bool → ℕ → ℕ → Bool → Bool → ℕ → Type 0
+Room false s n inside join l = n < 18446744073709551615
+Room true s n false join l = 1 + s * n ≤ l
+Room true s n true true l = (0 < n) × (1 + s * n ≤ l)
+Room true s n true false l = 1 + s * suc n ≤ l
+
+-- the n items behind word 0 are es, where items are stored
+abbrev pub Holds : Bool → ℕ → ℕ → List ℕ → List Entry → Type 0
+Holds true s n o es = items s n 1 o ≡ es
+Holds false s n o es = Unit {0}
+
+-- the words below q kept, and an item laid at q
+pub record Laid (s : ℕ) (d : List ℕ) (q x h : ℕ) (v : Value) (o : List ℕ) : Type 0 where
+  pub long : length o ≡ length d
+  pub kept : (j : ℕ) → j < q → getD o j 0 ≡ getD d j 0
+  pub item : itemFrom s o q ≡ entry x h v
+
+-- what a sweep that stops at `stop` items answers and stores
+pub record Stopped (keep : Bool) (s stop : ℕ) (es : List Entry) (r : ℕ) (o : List ℕ) : Type 0 where
+  pub size : r ≡ min (length es) stop
+  pub holds : length es < stop → Holds keep s r o es

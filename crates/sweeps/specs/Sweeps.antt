@@ -1,0 +1,72 @@
+-- What one sweep over three lists makes of them: for any table of their memberships, the one sound list of the numbers that the
+-- table accepts. No public promise names these: each operation of 01 is said by its own definition, and a law of proofs/Tables
+-- says that the sweep with its table gives it.
+use mathlib.Core.Path.{_≡_}
+use mathlib.Core.Bool.{Bool, true, false}
+use mathlib.Core.Option.{Option, none, some}
+use mathlib.Core.List.{List, [], _∷_, _++_}
+use Prim.Native.Nat.{ℕ, _+_, _*_, _-_, _/_, _%_, _≤_, _<_}
+use lib.Dec.{ltb, eqb}
+use lib.ListN.{length, getD, take}
+use Rattle.entries.specs.Entries.{Value, Entry, valueAt, Sound}
+use Rattle.entries.specs.Build.{pick, build, cutsOf}
+use Rattle.entries.specs.Sets.{has}
+use Rattle.blocks.specs.Blocks.{entriesOf}
+
+abbrev pub halved : ℕ → Bool → ℕ → ℕ
+halved v b m = pick b (v / m) (v % m)
+
+-- bit a + 2b + 4c of the table
+unfoldable pub accepts : ℕ → Bool → Bool → Bool → Bool
+accepts t a b c = eqb (halved (halved (halved t c 16) b 4) a 2) 1
+
+-- the value of the first list that has one
+abbrev pub firstOf : Option Value → Option Value → Option Value → Value
+firstOf (some v) p q = v
+firstOf none (some v) q = v
+firstOf none none (some v) = v
+firstOf none none none = []
+
+-- the value for an output of s words an item
+unfoldable pub mixed : ℕ → ℕ → Option Value → Option Value → Option Value → Option Value
+mixed t s o p q = pick (accepts t (has o) (has p) (has q)) (some (take (s - 2) (firstOf o p q))) none
+
+-- the function that a sweep lists: nothing above M
+unfoldable pub swept : ℕ → ℕ → List Entry → List Entry → List Entry → ℕ → Option Value
+swept t s es fs gs x = pick (ltb x 18446744073709551616) (mixed t s (valueAt es x) (valueAt fs x) (valueAt gs x)) none
+
+-- the one sound list of that function
+unfoldable pub result : ℕ → ℕ → List Entry → List Entry → List Entry → List Entry
+result t s es fs gs = build (swept t s es fs gs) (18446744073709551616 ∷ cutsOf es ++ (cutsOf fs ++ cutsOf gs))
+
+-- a judged block of s words an item, at most two of them its value
+pub record Input (s : ℕ) (w : List ℕ) : Type 0 where
+  pub two : 2 ≤ s
+  pub four : s ≤ 4
+  pub some : 0 < length w
+  pub held : 1 + s * getD w 0 0 ≤ length w
+  pub sound : Sound (entriesOf s w)
+  pub words : (j : ℕ) → getD w j 0 < 18446744073709551616
+
+-- three inputs
+pub record Inputs (sa sb sc : ℕ) (a b c : List ℕ) : Type 0 where
+  pub first : Input sa a
+  pub second : Input sb b
+  pub third : Input sc c
+
+-- no entry names a number above M
+abbrev pub Bounded : List Entry → Type 0
+Bounded es = (x : ℕ) → 18446744073709551616 ≤ x → valueAt es x ≡ none
+
+-- the words an item of the first input that has the number
+abbrev pub widthOf : ℕ → ℕ → ℕ → Bool → Bool → Bool → ℕ
+widthOf sa sb sc true b c = sa
+widthOf sa sb sc false true c = sb
+widthOf sa sb sc false false true = sc
+widthOf sa sb sc false false false = 2
+
+-- an output of s words an item, which have their value wherever the table accepts (`fit-set`, `fit-overlay`, `fit-restriction` in proofs/Tables)
+pub record Fit (t s sa sb sc : ℕ) : Type 0 where
+  pub two : 2 ≤ s
+  pub four : s ≤ 4
+  pub wide : (a b c : Bool) → accepts t a b c ≡ true → s ≤ widthOf sa sb sc a b c

@@ -1,0 +1,440 @@
+// One linear sweep over three sound blocks, for any table of their memberships. Every operation on sets, maps and bulletins that
+// makes a list from lists is a table of it.
+ghost use mathlib.Core.Path.{_≡_};
+ghost use mathlib.Core.Bool.{Bool, true, false};
+ghost use mathlib.Core.List.{[], _∷_};
+ghost use Prim.Native.Nat.{_+_, _*_, _-_, _≤_, _<_, min};
+ghost use lib.Dec.{leb, ltb, eqb};
+ghost use lib.ListN.{length, getD, take, drop};
+ghost use Rattle.entries.specs.Build.{pick, sameWords};
+ghost use Rattle.blocks.specs.Blocks.{blockOf};
+ghost use Rattle.sweeps.specs.Sweeps.{Inputs, Input, Fit, halved, accepts};
+ghost use Rattle.sweeps.specs.Cursors.{cursor, items, shown, valueOf, valueBehind, resultOf, Point, TurnAt, Points, firstBehind, SegmentAt, sameAs, begins, grow, Room, Holds, Laid, Stopped};
+
+const M: u64 = 18446744073709551615;
+
+// How the three inputs and the output are laid out, in words an item, and the table of the memberships.
+pub struct Plan {
+    pub table: u8,
+    pub a: usize,
+    pub b: usize,
+    pub c: usize,
+    pub out: usize,
+}
+
+// The words of a value: as many of them as an item of the output has.
+pub struct Words {
+    pub first: u64,
+    pub second: u64,
+}
+
+// Where a sweep stands in an input: outside at the low word of the next item or at the end of the items, inside at the item's high word.
+pub struct Cursor {
+    pub place: usize,
+    pub inside: bool,
+    pub end: usize,
+}
+
+// The last number of a run, and the cursor behind it.
+pub struct Turn {
+    pub last: u64,
+    pub then: Cursor,
+}
+
+// The last number of a segment, whether it has a value, the value, and the cursors behind it.
+pub struct Segment {
+    pub last: u64,
+    pub inside: bool,
+    pub value: Words,
+    pub a: Cursor,
+    pub b: Cursor,
+    pub c: Cursor,
+}
+
+// The cursor at 0.
+fn start(w: &[u64], s: usize) -> Cursor
+    requires { ⌜ Input s (now w) ⌝ }
+    ensures { λ r. ⌜ Point s (now (w .entry)) 0 r ⌝ }
+{
+    let n = blocks::wide(blocks::word(w, 0));
+    let end = 1 + s * n;
+    if n == 0 {
+        return Cursor {
+            place: 1,
+            inside: false,
+            end: end,
+        };
+    }
+    if blocks::word(w, 1) == 0 {
+        return Cursor {
+            place: 2,
+            inside: true,
+            end: end,
+        };
+    }
+    Cursor {
+        place: 1,
+        inside: false,
+        end: end,
+    }
+}
+
+// The run at x from inside an item whose high word stands at p: to its high end, and then into the next item where that touches it.
+fn leave(w: &[u64], s: usize, p: usize, end: usize, x: u64) -> Turn
+    requires { ⌜ Input s (now w) ⌝ }
+    requires { ⌜ Point s (now w) x (cursor p true end) ⌝ }
+    ensures { λ r. ⌜ TurnAt s (now (w .entry)) x (cursor p true end) r ⌝ }
+{
+    let high = blocks::word(w, p);
+    let q = p + (s - 1);
+    if q == end {
+        return Turn {
+            last: high,
+            then: Cursor {
+                place: q,
+                inside: false,
+                end: end,
+            },
+        };
+    }
+    let low = blocks::word(w, q);
+    if low - high == 1 {
+        return Turn {
+            last: high,
+            then: Cursor {
+                place: q + 1,
+                inside: true,
+                end: end,
+            },
+        };
+    }
+    Turn {
+        last: high,
+        then: Cursor {
+            place: q,
+            inside: false,
+            end: end,
+        },
+    }
+}
+
+// The run at x. Only the contract names x.
+fn run_at(w: &[u64], s: usize, c: Cursor, x: u64) -> Turn
+    requires { ⌜ Input s (now w) ⌝ }
+    requires { ⌜ Point s (now w) x c ⌝ }
+    ensures { λ r. ⌜ TurnAt s (now (w .entry)) x c r ⌝ }
+{
+    let p = c.place;
+    let end = c.end;
+    if c.inside {
+        return leave(w, s, p, end, x);
+    }
+    if p == end {
+        return Turn {
+            last: M,
+            then: Cursor {
+                place: p,
+                inside: false,
+                end: end,
+            },
+        };
+    }
+    let low = blocks::word(w, p);
+    Turn {
+        last: low - 1,
+        then: Cursor {
+            place: p + 1,
+            inside: true,
+            end: end,
+        },
+    }
+}
+
+fn halve(v: u8, b: bool, m: u8) -> u8
+    requires { ⌜ 0 < m ⌝ }
+    ensures { λ r. ⌜ r ≡ halved v b m ⌝ }
+{
+    if b { v / m } else { v % m }
+}
+
+// Bit a + 2b + 4c of the table t.
+fn accepted(t: u8, a: bool, b: bool, c: bool) -> bool
+    ensures { λ r. ⌜ r ≡ accepts t a b c ⌝ }
+{
+    halve(halve(halve(t, c, 16), b, 4), a, 2) == 1
+}
+
+fn least(a: u64, b: u64) -> u64
+    ensures { λ r. ⌜ r ≡ min a b ⌝ }
+{
+    if a < b { a } else { b }
+}
+
+// The cursor behind a segment that ends at e: it turns where its run ends there.
+fn moved(c: Cursor, t: Turn, e: u64) -> Cursor
+    ensures { λ r. ⌜ r ≡ pick (eqb (t .last) e) (t .then) c ⌝ }
+{
+    if t.last == e { t.then } else { c }
+}
+
+// The words of a value behind place p, as many as an output of s words an item takes.
+fn words_behind(w: &[u64], s: usize, p: usize) -> Words
+    requires { ⌜ (2 ≤ s) × (s ≤ 4) × (p + s ≤ 1 + length (now w)) ⌝ }
+    ensures { λ r. ⌜ valueOf s r ≡ valueBehind s (now (w .entry)) p ⌝ }
+{
+    if s == 2 {
+        return Words {
+            first: 0,
+            second: 0,
+        };
+    }
+    let first = blocks::word(w, p + 1);
+    if s == 3 {
+        return Words {
+            first: first,
+            second: 0,
+        };
+    }
+    Words {
+        first: first,
+        second: blocks::word(w, p + 2),
+    }
+}
+
+// The value of the first input that is inside, where the table accepts. A set has none to read.
+fn carried(
+    a: &[u64],
+    b: &[u64],
+    c: &[u64],
+    plan: Plan,
+    i: Cursor,
+    j: Cursor,
+    k: Cursor,
+    x: u64,
+    kept: bool,
+) -> Words
+    requires { ⌜ Inputs (plan .a) (plan .b) (plan .c) (now a) (now b) (now c) ⌝ }
+    requires { ⌜ Fit (plan .table) (plan .out) (plan .a) (plan .b) (plan .c) ⌝ }
+    requires { ⌜ Points plan (now a) (now b) (now c) x i j k ⌝ }
+    requires { ⌜ kept ≡ accepts (plan .table) (i .inside) (j .inside) (k .inside) ⌝ }
+    ensures { λ r. ⌜ shown kept (take (plan .out - 2) (firstBehind plan (now (a .entry)) (now (b .entry)) (now (c .entry)) i j k)) ≡ shown kept (valueOf (plan .out) r) ⌝ }
+{
+    if plan.out == 2 {
+        return Words {
+            first: 0,
+            second: 0,
+        };
+    }
+    if kept {
+        if i.inside {
+            return words_behind(a, plan.out, i.place);
+        }
+        if j.inside {
+            return words_behind(b, plan.out, j.place);
+        }
+        return words_behind(c, plan.out, k.place);
+    }
+    Words {
+        first: 0,
+        second: 0,
+    }
+}
+
+// The segment that starts at x, with the three cursors at x.
+fn segment_at(
+    a: &[u64],
+    b: &[u64],
+    c: &[u64],
+    plan: Plan,
+    i: Cursor,
+    j: Cursor,
+    k: Cursor,
+    x: u64,
+) -> Segment
+    requires { ⌜ Inputs (plan .a) (plan .b) (plan .c) (now a) (now b) (now c) ⌝ }
+    requires { ⌜ Fit (plan .table) (plan .out) (plan .a) (plan .b) (plan .c) ⌝ }
+    requires { ⌜ Points plan (now a) (now b) (now c) x i j k ⌝ }
+    ensures { λ r. ⌜ SegmentAt plan (now (a .entry)) (now (b .entry)) (now (c .entry)) x r ⌝ }
+{
+    let ra = run_at(a, plan.a, i, x);
+    let rb = run_at(b, plan.b, j, x);
+    let rc = run_at(c, plan.c, k, x);
+    let e = least(least(ra.last, rb.last), rc.last);
+    let kept = accepted(plan.table, i.inside, j.inside, k.inside);
+    Segment {
+        last: e,
+        inside: kept,
+        value: carried(a, b, c, plan, i, j, k, x, kept),
+        a: moved(i, ra, e),
+        b: moved(j, rb, e),
+        c: moved(k, rc, e),
+    }
+}
+
+// Whether two values of an output of s words an item are the same.
+fn same_value(s: usize, u: Words, v: Words) -> bool
+    requires { ⌜ (2 ≤ s) × (s ≤ 4) ⌝ }
+    ensures { λ r. ⌜ r ≡ sameWords (valueOf s u) (valueOf s v) ⌝ }
+{
+    if s == 2 {
+        return true;
+    }
+    if u.first == v.first {
+        if s == 3 {
+            return true;
+        }
+        return u.second == v.second;
+    }
+    false
+}
+
+// Whether the value v goes on from the number before.
+fn joins(s: usize, was: bool, u: Words, v: Words) -> bool
+    requires { ⌜ (2 ≤ s) × (s ≤ 4) ⌝ }
+    ensures { λ r. ⌜ r ≡ sameAs (shown was (valueOf s u)) (valueOf s v) ⌝ }
+{
+    if was { same_value(s, u, v) } else { false }
+}
+
+// An item into the s words from q on.
+fn lay(o: &mut [u64], s: usize, q: usize, x: u64, h: u64, v: Words)
+    requires { ⌜ (2 ≤ s) × (s ≤ 4) × (q + s ≤ length (now o)) ⌝ }
+    ensures { λ _. ⌜ Laid s (now (o .entry)) q x h (valueOf s v) (now (o .exit)) ⌝ }
+{
+    o[q] = x;
+    o[q + 1] = h;
+    if s == 2 {
+        return;
+    }
+    o[q + 2] = v.first;
+    if s == 3 {
+        return;
+    }
+    o[q + 3] = v.second;
+}
+
+// The segment from x to h stored behind the n items of o: as a new item, or into the last one.
+fn put(o: &mut [u64], s: usize, n: usize, join: bool, x: u64, h: u64, v: Words)
+    requires { ⌜ (2 ≤ s) × (s ≤ 4) × Room true s n true join (length (now o)) ⌝ }
+    ensures { λ _. ⌜ items s (n + begins true join) 1 (now (o .exit)) ≡ grow true join (items s n 1 (now (o .entry))) x h (valueOf s v) ⌝ }
+{
+    if join {
+        let at = 2 + s * (n - 1);
+        o[at] = h;
+        return;
+    }
+    lay(o, s, 1 + s * n, x, h, v);
+}
+
+fn grown(n: usize, join: bool) -> usize
+    requires { ⌜ n < 18446744073709551615 ⌝ }
+    ensures { λ r. ⌜ r ≡ n + begins true join ⌝ }
+{
+    if join { n } else { n + 1 }
+}
+
+// How many items there are with the segment from x to h, which is stored where keep says so.
+fn add(
+    o: &mut [u64],
+    s: usize,
+    n: usize,
+    keep: bool,
+    inside: bool,
+    join: bool,
+    x: u64,
+    h: u64,
+    v: Words,
+) -> usize
+    requires { ⌜ (2 ≤ s) × (s ≤ 4) × Room keep s n inside join (length (now o)) ⌝ }
+    ensures { λ r. ⌜ (r ≡ n + begins inside join) × Holds keep s r (now (o .exit)) (grow inside join (items s n 1 (now (o .entry))) x h (valueOf s v)) ⌝ }
+{
+    if inside {
+        if keep {
+            put(o, s, n, join, x, h, v);
+            return grown(n, join);
+        }
+        return grown(n, join);
+    }
+    n
+}
+
+// How many items the result has, as far as they are fewer than stop. Where keep says so and all were met, they stand in o behind word 0.
+fn sweep(
+    a: &[u64],
+    b: &[u64],
+    c: &[u64],
+    plan: Plan,
+    stop: usize,
+    keep: bool,
+    o: &mut [u64],
+) -> usize
+    requires { ⌜ Inputs (plan .a) (plan .b) (plan .c) (now a) (now b) (now c) ⌝ }
+    requires { ⌜ Fit (plan .table) (plan .out) (plan .a) (plan .b) (plan .c) ⌝ }
+    requires { ⌜ 1 + plan .out * pick keep (length (resultOf plan (now a) (now b) (now c))) 0 ≤ length (now o) ⌝ }
+    ensures { λ r. ⌜ Stopped keep (plan .out) stop (resultOf plan (now (a .entry)) (now (b .entry)) (now (c .entry))) r (now (o .exit)) ⌝ }
+{
+    let mut i = start(a, plan.a);
+    let mut j = start(b, plan.b);
+    let mut k = start(c, plan.c);
+    let mut x: u64 = 0;
+    let mut was = false;
+    let mut before = Words {
+        first: 0,
+        second: 0,
+    };
+    let mut n: usize = 0;
+    while n < stop {
+        let s = segment_at(a, b, c, plan, i, j, k, x);
+        let v = s.value;
+        let join = joins(plan.out, was, before, v);
+        n = add(o, plan.out, n, keep, s.inside, join, x, s.last, v);
+        if s.last == M {
+            return n;
+        }
+        x = s.last + 1;
+        was = s.inside;
+        before = v;
+        i = s.a;
+        j = s.b;
+        k = s.c;
+    }
+    n
+}
+
+// Whether the result has at most cap items; bound is any number that it does not exceed, so that where bound fits nothing is counted.
+pub fn fits(a: &[u64], b: &[u64], c: &[u64], plan: Plan, bound: usize, cap: usize) -> bool
+    requires { ⌜ Inputs (plan .a) (plan .b) (plan .c) (now a) (now b) (now c) ⌝ }
+    requires { ⌜ Fit (plan .table) (plan .out) (plan .a) (plan .b) (plan .c) ⌝ }
+    requires { ⌜ (cap < 18446744073709551615) × (length (resultOf plan (now a) (now b) (now c)) ≤ bound) ⌝ }
+    ensures { λ r. ⌜ r ≡ leb (length (resultOf plan (now (a .entry)) (now (b .entry)) (now (c .entry)))) cap ⌝ }
+{
+    if bound <= cap {
+        return true;
+    }
+    let mut none: [u64; 1] = [0; 1];
+    let n = sweep(a, b, c, plan, cap + 1, false, &mut none);
+    n <= cap
+}
+
+// Whether the result has any item.
+pub fn any(a: &[u64], b: &[u64], c: &[u64], plan: Plan) -> bool
+    requires { ⌜ Inputs (plan .a) (plan .b) (plan .c) (now a) (now b) (now c) ⌝ }
+    requires { ⌜ Fit (plan .table) (plan .out) (plan .a) (plan .b) (plan .c) ⌝ }
+    ensures { λ r. ⌜ r ≡ ltb 0 (length (resultOf plan (now (a .entry)) (now (b .entry)) (now (c .entry)))) ⌝ }
+{
+    let mut none: [u64; 1] = [0; 1];
+    let n = sweep(a, b, c, plan, 1, false, &mut none);
+    0 < n
+}
+
+// The result into o, which has room for it, and 0 to the end of o.
+pub fn write(a: &[u64], b: &[u64], c: &[u64], plan: Plan, o: &mut [u64])
+    requires { ⌜ Inputs (plan .a) (plan .b) (plan .c) (now a) (now b) (now c) ⌝ }
+    requires { ⌜ Fit (plan .table) (plan .out) (plan .a) (plan .b) (plan .c) ⌝ }
+    requires { ⌜ 1 + plan .out * length (resultOf plan (now a) (now b) (now c)) ≤ length (now o) ⌝ }
+    ensures { λ _. ⌜ now (o .exit) ≡ blockOf (length (now (o .entry))) (resultOf plan (now (a .entry)) (now (b .entry)) (now (c .entry))) ⌝ }
+{
+    let n = sweep(a, b, c, plan, o.len(), true, o);
+    o[0] = blocks::narrow(n);
+    blocks::clear(o, 1 + plan.out * n);
+}
