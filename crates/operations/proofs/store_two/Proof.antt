@@ -1,0 +1,23 @@
+use Rattle.operations.proofs.Making.{none-input, store-inputs, store-fit, store-most}
+use native.Mathlib.Omega.{arith}
+use borrow.Author.Needs.{needs}
+use Rattle.operations.proofs.store_two.Statement.{statement}
+use Rattle.operations.proofs.store_two.Tie as tie
+use Rattle.operations.proofs.store_two.Reads as reads
+use Rattle.operations.proofs.store_two.Lts as lts
+use Rattle.operations.proofs.store.Reads as store-reads
+
+slice-aggregate-store : tie.Need-slice-aggregate-store
+slice-aggregate-store c = search needs
+
+store-requires : tie.Need-store-requires
+store-requires c κs = let a = c .before .before .before .before .before in (store-inputs (a .pre), (store-fit (a .pre), (store-most (a .pre), a .pre .small, a .pre .some)))
+
+same-length : tie.Need-same-length
+same-length c = search needs
+
+returns : tie.Need-returns
+returns c = search needs
+
+pub store-two-spec : {M : Type 1} → statement M
+store-two-spec = tie.close (tie.spec slice-aggregate-store store-requires same-length returns)
