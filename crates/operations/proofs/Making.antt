@@ -20,8 +20,9 @@ use Rattle.blocks.specs.Blocks.{capacity, blockOf, entriesOf, verdict, SoundBlo
 use Rattle.blocks.specs.Calls.{stored, writable}
 use Rattle.blocks.proofs.Judging.{room, verdict-most}
 use Rattle.blocks.proofs.Words.{items-length}
-use Rattle.sweeps.proofs.Tables.{input}
-use Rattle.operations.specs.Steps.{StoreOk, Wrote, TwoFit, OneFit}
+use Rattle.sweeps.proofs.Tables.{input, bounded}
+use Rattle.operations.specs.Calls.{Layout, fromTwo, fromOne}
+use Rattle.operations.specs.Steps.{AnyOk, StoreOk, Wrote, TwoFit, OneFit}
 
 -- a result within the capacity has its words
 pub has-room : (s limit L cap n : ℕ) → cap ≡ capacity s limit L → 0 < L → n ≤ cap → 1 + s * n ≤ L
@@ -100,7 +101,7 @@ module _ (plan : Plan) (la lb : ℕ) (weight : ℕ) (a b : List ℕ) (f : TwoFit
     fit = f .fit;
     most = omega (
       arith,
-      f .bound (entriesOf (plan .a) a) (entriesOf (plan .b) b) (sa .sound) (sb .sound),
+      f .bound (entriesOf (plan .a) a) (entriesOf (plan .b) b) (sa .sound) (sb .sound) (bounded (plan .a) a wa) (bounded (plan .b) b wb),
       ap₂ (λ (x y : ℕ). weight * x + y) (items-length (plan .a) (getD a 0 0) (drop 1 a) ∙ sym en) (items-length (plan .b) (getD b 0 0) (drop 1 b) ∙ sym em),
     );
     small = h;
@@ -114,7 +115,7 @@ one-ok plan la a f sa n e limit L hb hc h k wa = record {
   second = rw hb none-input;
   third = hc;
   fit = rw hb (f .fit);
-  most = omega (arith, f .bound (entriesOf (plan .a) a) (sa .sound), items-length (plan .a) (getD a 0 0) (drop 1 a));
+  most = omega (arith, f .bound (entriesOf (plan .a) a) (sa .sound) (bounded (plan .a) a wa), items-length (plan .a) (getD a 0 0) (drop 1 a));
   small = h;
   some = k;
 }
@@ -129,3 +130,19 @@ module _ {plan : Plan} {limit bound : ℕ} {a b : List ℕ} {L : ℕ} (g : Store
 
   pub store-most : length (resultOf plan a b (0 ∷ [])) ≤ bound
   store-most = g .most
+
+-- two ways to make the same entries have the same outcome
+pub two-as : (first second out : Layout) (make by : List Entry → List Entry → List Entry) (w v o : List ℕ) → make (entriesOf (first .width) w) (entriesOf (second .width) v) ≡ by (entriesOf (first .width) w) (entriesOf (second .width) v)
+    → fromTwo first second out make w v o ≡ fromTwo first second out by w v o
+two-as first second out make by w v o e =
+    ap (λ (l : List Entry). judgedBy (verdict (first .width) (first .limit) w) 0 (o ∷ []) (judgedBy (verdict (second .width) (second .limit) v) 1 (o ∷ []) (writable 2 o (stored 2 (out .width) (out .limit) o l)))) e
+
+pub one-as : (first out : Layout) (make by : List Entry → List Entry) (w o : List ℕ) → make (entriesOf (first .width) w) ≡ by (entriesOf (first .width) w) → fromOne first out make w o ≡ fromOne first out by w o
+one-as first out make by w o e = ap (λ (l : List Entry). judgedBy (verdict (first .width) (first .limit) w) 0 (o ∷ []) (writable 1 o (stored 1 (out .width) (out .limit) o l))) e
+
+module _ {plan : Plan} {a b : List ℕ} (g : AnyOk plan a b) where
+  pub any-inputs : Inputs (plan .a) (plan .b) (plan .c) a b (0 ∷ [])
+  any-inputs = record { first = g .first; second = g .second; third = rw (g .third) none-input }
+
+  pub any-fit : Fit (plan .table) (plan .out) (plan .a) (plan .b) (plan .c)
+  any-fit = rw (g .third) (g .fit)

@@ -11,6 +11,9 @@ pub record Layout : Type 0 where
   pub width : ℕ
   pub limit : ℕ
 
+abbrev pub layout : ℕ → ℕ → Layout
+layout s limit = record { width = s; limit = limit }
+
 -- From two inputs: «for each input block in turn 1, 2, 3; then 1 for each output in turn; then .. 5 for each output in turn».
 -- «Positions count the lent word blocks from 0, inputs first in the order written here, then outputs.»
 abbrev pub fromTwo : Layout → Layout → Layout → (List Entry → List Entry → List Entry) → List ℕ → List ℕ → List ℕ → Outcome

@@ -8,12 +8,8 @@ use lib.ListN.{length}
 use Rattle.entries.specs.Entries.{Entry, Sound}
 use Rattle.entries.specs.Build.{pick}
 use Rattle.blocks.specs.Blocks.{capacity, blockOf, entriesOf}
-use Rattle.sweeps.specs.Sweeps.{result, Fit, Input}
+use Rattle.sweeps.specs.Sweeps.{result, Fit, Input, Bounded}
 use Rattle.sweeps.specs.declared.Plan.{Plan}
-use Rattle.operations.specs.Calls.{Layout}
-
-abbrev pub layout : ℕ → ℕ → Layout
-layout s limit = record { width = s; limit = limit }
 
 -- es into o where there is room, else nothing
 pub record Wrote (s limit : ℕ) (es : List Entry) (o : List ℕ) (r : Bool) (o' : List ℕ) : Type 0 where
@@ -23,6 +19,13 @@ pub record Wrote (s limit : ℕ) (es : List Entry) (o : List ℕ) (r : Bool) (o'
 -- the result of a plan of two inputs
 abbrev pub resultTwo : Plan → List ℕ → List ℕ → List Entry
 resultTwo plan a b = result (plan .table) (plan .out) (entriesOf (plan .a) a) (entriesOf (plan .b) b) []
+
+-- two judged inputs
+pub record AnyOk (plan : Plan) (a b : List ℕ) : Type 0 where
+  pub first : Input (plan .a) a
+  pub second : Input (plan .b) b
+  pub third : plan .c ≡ 2
+  pub fit : Fit (plan .table) (plan .out) (plan .a) (plan .b) 2
 
 -- two judged inputs, and an output of L words; the result has at most bound items
 pub record StoreOk (plan : Plan) (limit bound : ℕ) (a b : List ℕ) (L : ℕ) : Type 0 where
@@ -42,11 +45,11 @@ pub record TwoFit (t sa sb s weight : ℕ) : Type 0 where
   pub second : 2 ≤ sb
   pub second-four : sb ≤ 4
   pub small : weight ≤ 2
-  pub bound : (es fs : List Entry) → Sound es → Sound fs → length (result t s es fs []) ≤ weight * length es + length fs
+  pub bound : (es fs : List Entry) → Sound es → Sound fs → Bounded es → Bounded fs → length (result t s es fs []) ≤ weight * length es + length fs
 
 -- a table on one sound list: at most one item more
 pub record OneFit (t sa s : ℕ) : Type 0 where
   pub fit : Fit t s sa 2 2
   pub first : 2 ≤ sa
   pub first-four : sa ≤ 4
-  pub bound : (es : List Entry) → Sound es → length (result t s es [] []) ≤ length es + 1
+  pub bound : (es : List Entry) → Sound es → Bounded es → length (result t s es [] []) ≤ length es + 1

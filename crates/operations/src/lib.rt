@@ -2,13 +2,14 @@
 ghost use mathlib.Core.Path.{_≡_};
 ghost use mathlib.Core.List.{[], _∷_};
 ghost use Prim.Native.Nat.{_≤_, _<_};
+ghost use lib.Dec.{ltb};
 ghost use lib.ListN.{length};
 ghost use Rattle.answers.specs.Answers.{outcome};
 ghost use Rattle.answers.specs.Says.{judgedSays};
 ghost use Rattle.sweeps.specs.Sweeps.{Inputs, Fit, result};
 ghost use Rattle.sweeps.specs.Cursors.{resultOf};
-ghost use Rattle.operations.specs.Calls.{fromTwo, fromOne};
-ghost use Rattle.operations.specs.Steps.{layout, resultTwo, StoreOk, Wrote, TwoFit, OneFit};
+ghost use Rattle.operations.specs.Calls.{layout, fromTwo, fromOne};
+ghost use Rattle.operations.specs.Steps.{resultTwo, StoreOk, AnyOk, Wrote, TwoFit, OneFit};
 use answers::Judged;
 use sweeps::Plan;
 
@@ -20,7 +21,15 @@ pub struct Limits {
 }
 
 // The result of a plan into o, if o has room for it; else o stays as it is. The result has at most bound items.
-pub fn store(a: &[u64], b: &[u64], c: &[u64], plan: Plan, bound: usize, limit: usize, o: &mut [u64]) -> bool
+pub fn store(
+    a: &[u64],
+    b: &[u64],
+    c: &[u64],
+    plan: Plan,
+    bound: usize,
+    limit: usize,
+    o: &mut [u64],
+) -> bool
     requires { ⌜ Inputs (plan .a) (plan .b) (plan .c) (now a) (now b) (now c) ⌝ }
     requires { ⌜ Fit (plan .table) (plan .out) (plan .a) (plan .b) (plan .c) ⌝ }
     requires { ⌜ (length (resultOf plan (now a) (now b) (now c)) ≤ bound) × (limit < 65536) × (0 < length (now o)) ⌝ }
@@ -43,8 +52,24 @@ fn store_two(a: &[u64], b: &[u64], plan: Plan, bound: usize, limit: usize, o: &m
     store(a, b, &none, plan, bound, limit, o)
 }
 
+// Whether the result of a plan of two judged inputs has any item.
+pub fn any_of_two(a: &[u64], b: &[u64], plan: Plan) -> bool
+    requires { ⌜ AnyOk plan (now a) (now b) ⌝ }
+    ensures { λ r. ⌜ r ≡ ltb 0 (length (resultTwo plan (now (a .entry)) (now (b .entry)))) ⌝ }
+{
+    let none = [0u64; 1];
+    sweeps::any(a, b, &none, plan)
+}
+
 // An operation on two blocks.
-pub fn from_two(a: &[u64], b: &[u64], plan: Plan, limits: Limits, weight: usize, o: &mut [u64]) -> Judged
+pub fn from_two(
+    a: &[u64],
+    b: &[u64],
+    plan: Plan,
+    limits: Limits,
+    weight: usize,
+    o: &mut [u64],
+) -> Judged
     requires { ⌜ TwoFit (plan .table) (plan .a) (plan .b) (plan .out) weight × (plan .c ≡ 2) × (limits .first < 65536) × (limits .second < 65536) × (limits .out < 65536) ⌝ }
     ensures { λ r. ⌜ outcome (judgedSays r) (now (o .exit) ∷ []) ≡ fromTwo (layout (plan .a) (limits .first)) (layout (plan .b) (limits .second)) (layout (plan .out) (limits .out)) (λ es fs. result (plan .table) (plan .out) es fs []) (now (a .entry)) (now (b .entry)) (now (o .entry)) ⌝ }
 {

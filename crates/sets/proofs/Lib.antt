@@ -1,3 +1,4 @@
 pub mod Asking
 pub mod Sizes
 pub mod Emptying
+pub mod Operating

@@ -7,12 +7,13 @@ use lib.Dec.{leb}
 use lib.ListN.{length}
 use Rattle.entries.specs.Entries.{Entry}
 use Rattle.entries.specs.Build.{pick}
-use Rattle.entries.specs.Sets.{M, member}
-use Rattle.entries.specs.Questions.{rangeAt, sizeOf, leastMember, leastFree}
+use Rattle.entries.specs.Sets.{M, member, union, intersection, difference, symmetricDifference, complement}
+use Rattle.entries.specs.Questions.{rangeAt, sizeOf, leastMember, leastFree, isEmpty}
 use Rattle.answers.specs.Answers.{Answer, given, Outcome, outcome, judged, truth, optional, lessOne}
 use Rattle.blocks.specs.Blocks.{setLimit, entriesOf, blockOf, verdict}
 use Rattle.blocks.specs.Calls.{writable}
 use Rattle.edits.specs.Calls.{editCall}
+use Rattle.operations.specs.Calls.{Layout, layout, fromTwo, fromOne}
 use Rattle.searches.specs.Calls.{windowCall, windowRefusalCall}
 
 -- a question about a set: 1, 2, 3 of its block, then the answer
@@ -63,3 +64,40 @@ insertCall w a b = editCall 2 setLimit w a b (some [])
 
 abbrev pub removeCall : List ℕ → ℕ → ℕ → Outcome
 removeCall w a b = editCall 2 setLimit w a b none
+
+-- a question about two sets: 1, 2, 3 of each in turn, then the answer
+abbrev pub askedTwo : List ℕ → List ℕ → (List Entry → List Entry → Answer) → Outcome
+askedTwo w v answer =
+    judged (verdict 2 setLimit w) 0 []
+    (judged (verdict 2 setLimit v) 1 [] (outcome (answer (entriesOf 2 w) (entriesOf 2 v)) []))
+
+-- «Of two sets: equal, one within the other, no common number.» Equal: nothing is in just one of them.
+unfoldable pub equalCall : List ℕ → List ℕ → Outcome
+equalCall w v = askedTwo w v (λ es fs. truth (isEmpty (symmetricDifference es fs)))
+
+-- the first is within the second: nothing of the first is outside the second
+unfoldable pub withinCall : List ℕ → List ℕ → Outcome
+withinCall w v = askedTwo w v (λ es fs. truth (isEmpty (difference es fs)))
+
+-- no common number
+unfoldable pub disjointCall : List ℕ → List ℕ → Outcome
+disjointCall w v = askedTwo w v (λ es fs. truth (isEmpty (intersection es fs)))
+
+-- «Into a separate output: union, intersection, difference, symmetric difference, complement within 0..M.»
+abbrev pub setLayout : Layout
+setLayout = layout 2 setLimit
+
+unfoldable pub unionCall : List ℕ → List ℕ → List ℕ → Outcome
+unionCall w v o = fromTwo setLayout setLayout setLayout union w v o
+
+unfoldable pub intersectionCall : List ℕ → List ℕ → List ℕ → Outcome
+intersectionCall w v o = fromTwo setLayout setLayout setLayout intersection w v o
+
+unfoldable pub differenceCall : List ℕ → List ℕ → List ℕ → Outcome
+differenceCall w v o = fromTwo setLayout setLayout setLayout difference w v o
+
+unfoldable pub symmetricDifferenceCall : List ℕ → List ℕ → List ℕ → Outcome
+symmetricDifferenceCall w v o = fromTwo setLayout setLayout setLayout symmetricDifference w v o
+
+unfoldable pub complementCall : List ℕ → List ℕ → Outcome
+complementCall w o = fromOne setLayout setLayout complement w o

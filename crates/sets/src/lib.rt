@@ -5,17 +5,22 @@ ghost use mathlib.Core.List.{[], _∷_};
 ghost use Prim.Native.Nat.{_+_};
 ghost use lib.ListN.{length};
 ghost use Rattle.entries.specs.Sets.{member};
-ghost use Rattle.entries.specs.Questions.{rangeAt, sizeOf, leastMember, leastFree};
+ghost use Rattle.entries.specs.Questions.{rangeAt, sizeOf, leastMember, isEmpty};
+ghost use Rattle.sweeps.specs.Sweeps.{result};
+ghost use Rattle.operations.specs.Calls.{fromTwo};
+ghost use Rattle.operations.specs.Steps.{TwoFit};
 ghost use Rattle.answers.specs.Answers.{outcome, truth, optional, lessOne};
 ghost use Rattle.answers.specs.Says.{judgedSays, truthSays, foundSays, rangedSays, sizedSays};
 ghost use Rattle.blocks.specs.Blocks.{SoundBlock, setLimit, entriesOf};
-ghost use Rattle.sets.specs.Calls.{ends, nonMember, makeEmptyCall, memberCall, rangeAtCall, sizeCall, leastMemberCall, leastNonMemberCall, setWindowCall, setWindowRefusalCall, insertCall, removeCall};
+ghost use Rattle.sets.specs.Calls.{ends, nonMember, askedTwo, equalCall, withinCall, disjointCall, setLayout, unionCall, intersectionCall, differenceCall, symmetricDifferenceCall, complementCall, makeEmptyCall, memberCall, rangeAtCall, sizeCall, leastMemberCall, leastNonMemberCall, setWindowCall, setWindowRefusalCall, insertCall, removeCall};
 ghost use Rattle.sets.specs.Steps.{Counted};
 use answers::Found;
 use answers::Judged;
 use answers::Ranged;
 use answers::Sized;
 use answers::Truth;
+use operations::Limits;
+use sweeps::Plan;
 
 const M: u64 = 18446744073709551615;
 
@@ -207,4 +212,117 @@ pub fn remove(block: &mut [u64], a: u64, b: u64) -> Judged
     ensures { λ r. ⌜ outcome (judgedSays r) (now (block .exit) ∷ []) ≡ removeCall (now (block .entry)) a b ⌝ }
 {
     answers::judged_of(edits::edit_out(block, 2, blocks::SET_LIMIT, a, b), 0)
+}
+
+// Yes where the table keeps no number of the two sets.
+fn keeps_none(a: &[u64], b: &[u64], table: u8) -> Truth
+    ensures { λ r. ⌜ outcome (truthSays r) [] ≡ askedTwo (now (a .entry)) (now (b .entry)) (λ es fs. truth (isEmpty (result table 2 es fs []))) ⌝ }
+{
+    let v = blocks::judge(a, 2, blocks::SET_LIMIT);
+    if v != 0 {
+        return Truth::Refused(answers::refusal_of(v, 0));
+    }
+    let u = blocks::judge(b, 2, blocks::SET_LIMIT);
+    if u != 0 {
+        return Truth::Refused(answers::refusal_of(u, 1));
+    }
+    let plan = Plan {
+        table: table,
+        a: 2,
+        b: 2,
+        c: 2,
+        out: 2,
+    };
+    if operations::any_of_two(a, b, plan) {
+        return Truth::No;
+    }
+    Truth::Yes
+}
+
+// Whether the two sets have the same members.
+pub fn equal(a: &[u64], b: &[u64]) -> Truth
+    ensures { λ r. ⌜ outcome (truthSays r) [] ≡ equalCall (now (a .entry)) (now (b .entry)) ⌝ }
+{
+    keeps_none(a, b, 102)
+}
+
+// Whether every member of the first is a member of the second.
+pub fn within(a: &[u64], b: &[u64]) -> Truth
+    ensures { λ r. ⌜ outcome (truthSays r) [] ≡ withinCall (now (a .entry)) (now (b .entry)) ⌝ }
+{
+    keeps_none(a, b, 34)
+}
+
+// Whether no number is a member of both.
+pub fn disjoint(a: &[u64], b: &[u64]) -> Truth
+    ensures { λ r. ⌜ outcome (truthSays r) [] ≡ disjointCall (now (a .entry)) (now (b .entry)) ⌝ }
+{
+    keeps_none(a, b, 136)
+}
+
+// The numbers that a table keeps of two sets, into out.
+fn two_sets(a: &[u64], b: &[u64], table: u8, out: &mut [u64]) -> Judged
+    requires { ⌜ TwoFit table 2 2 2 1 ⌝ }
+    ensures { λ r. ⌜ outcome (judgedSays r) (now (out .exit) ∷ []) ≡ fromTwo setLayout setLayout setLayout (λ es fs. result table 2 es fs []) (now (a .entry)) (now (b .entry)) (now (out .entry)) ⌝ }
+{
+    let plan = Plan {
+        table: table,
+        a: 2,
+        b: 2,
+        c: 2,
+        out: 2,
+    };
+    let limits = Limits {
+        first: blocks::SET_LIMIT,
+        second: blocks::SET_LIMIT,
+        out: blocks::SET_LIMIT,
+    };
+    operations::from_two(a, b, plan, limits, 1, out)
+}
+
+// The numbers of either set, into out.
+pub fn union(a: &[u64], b: &[u64], out: &mut [u64]) -> Judged
+    ensures { λ r. ⌜ outcome (judgedSays r) (now (out .exit) ∷ []) ≡ unionCall (now (a .entry)) (now (b .entry)) (now (out .entry)) ⌝ }
+{
+    two_sets(a, b, 238, out)
+}
+
+// The numbers of both sets, into out.
+pub fn intersection(a: &[u64], b: &[u64], out: &mut [u64]) -> Judged
+    ensures { λ r. ⌜ outcome (judgedSays r) (now (out .exit) ∷ []) ≡ intersectionCall (now (a .entry)) (now (b .entry)) (now (out .entry)) ⌝ }
+{
+    two_sets(a, b, 136, out)
+}
+
+// The numbers of the first set that are not in the second, into out.
+pub fn difference(a: &[u64], b: &[u64], out: &mut [u64]) -> Judged
+    ensures { λ r. ⌜ outcome (judgedSays r) (now (out .exit) ∷ []) ≡ differenceCall (now (a .entry)) (now (b .entry)) (now (out .entry)) ⌝ }
+{
+    two_sets(a, b, 34, out)
+}
+
+// The numbers of exactly one of the sets, into out.
+pub fn symmetric_difference(a: &[u64], b: &[u64], out: &mut [u64]) -> Judged
+    ensures { λ r. ⌜ outcome (judgedSays r) (now (out .exit) ∷ []) ≡ symmetricDifferenceCall (now (a .entry)) (now (b .entry)) (now (out .entry)) ⌝ }
+{
+    two_sets(a, b, 102, out)
+}
+
+// The numbers from 0 to 2^64 - 1 that are not in the set, into out.
+pub fn complement(set: &[u64], out: &mut [u64]) -> Judged
+    ensures { λ r. ⌜ outcome (judgedSays r) (now (out .exit) ∷ []) ≡ complementCall (now (set .entry)) (now (out .entry)) ⌝ }
+{
+    let plan = Plan {
+        table: 85,
+        a: 2,
+        b: 2,
+        c: 2,
+        out: 2,
+    };
+    let limits = Limits {
+        first: blocks::SET_LIMIT,
+        second: blocks::SET_LIMIT,
+        out: blocks::SET_LIMIT,
+    };
+    operations::from_one(set, plan, limits, out)
 }

@@ -1,0 +1,20 @@
+use Rattle.operations.proofs.Making.{any-inputs, any-fit}
+use native.Mathlib.Omega.{arith}
+use borrow.Author.Needs.{needs}
+use Rattle.operations.proofs.any_of_two.Statement.{statement}
+use Rattle.operations.proofs.any_of_two.Tie as tie
+use Rattle.operations.proofs.any_of_two.Reads as reads
+use Rattle.operations.proofs.any_of_two.Lts as lts
+use Rattle.sweeps.proofs.any.Reads as any-reads
+
+slice-aggregate-any : tie.Need-slice-aggregate-any
+slice-aggregate-any c = search needs
+
+any-requires : tie.Need-any-requires
+any-requires c κs = let a = c .before .before .before in (any-inputs (a .pre), any-fit (a .pre))
+
+returns : tie.Need-returns
+returns c = search needs
+
+pub any-of-two-spec : {M : Type 1} → statement M
+any-of-two-spec = tie.close (tie.spec slice-aggregate-any any-requires returns)

@@ -1,0 +1,104 @@
+-- The tables of the set operations: how many ranges each can make, and that it makes the operation's own list.
+use mathlib.Core.Path.{_≡_, refl, sym, _∙_, ap}
+use mathlib.Core.Bool.{Bool, true, false}
+use mathlib.Core.List.{List, [], _∷_}
+use Prim.Native.Nat.{ℕ, _+_, _-_, _≤_}
+use native.Mathlib.Omega.{arith}
+use lib.Dec.{ltb}
+use lib.ListN.{length}
+use borrow.Author.Tests.{lt-ltb}
+use Rattle.answers.specs.Answers.{judged as judgedBy, truth, Answer, outcome}
+use Rattle.entries.specs.Entries.{Entry, Sound}
+use Rattle.entries.specs.Build.{andb}
+use Rattle.entries.specs.Sets.{member, union, intersection, difference, symmetricDifference, complement}
+use Rattle.entries.specs.Questions.{isEmpty}
+use Rattle.entries.proofs.Limits.{union-bound, difference-bound, symmetric-bound, intersection-bound, complement-bound}
+use Rattle.entries.proofs.Sets.{intersection-is}
+use Rattle.entries.proofs.Questions.{none-empty}
+use Rattle.sweeps.specs.Sweeps.{result, Bounded}
+use Rattle.sweeps.proofs.Tables.{union-table, intersection-table, difference-table, symmetric-table, complement-table, fit-set}
+use Rattle.operations.specs.Steps.{TwoFit, OneFit}
+use Rattle.answers.specs.Says.{refusalSays, refusalOf}
+use Rattle.answers.proofs.Numbers.{refused-as, given-as}
+use Rattle.blocks.specs.Blocks.{setLimit, entriesOf, verdict}
+use Rattle.blocks.proofs.Judging.{verdict-most}
+use Rattle.sets.specs.Calls.{askedTwo}
+use Rattle.entries.proofs.Values.{true≢false}
+use Rattle.answers.specs.declared.Refusal.{Refusal}
+
+empty-length : (es : List Entry) → isEmpty es ≡ true → length es ≡ 0
+empty-length [] h = refl
+empty-length (e ∷ es) h = absurd (true≢false (sym h))
+
+and-none : (b : Bool) → andb b false ≡ false
+and-none true = refl
+and-none false = refl
+
+-- «intersection n+m-1 (0 if n or m is 0)»
+pub intersection-none : (fs : List Entry) → length (intersection [] fs) ≡ 0
+intersection-none fs = empty-length (intersection [] fs) (none-empty (intersection [] fs) ((intersection-is [] fs) .sound) (λ x. (intersection-is [] fs) .members x))
+
+pub none-intersection : (es : List Entry) → length (intersection es []) ≡ 0
+none-intersection es = empty-length (intersection es []) (none-empty (intersection es []) ((intersection-is es []) .sound) (λ x. (intersection-is es []) .members x ∙ and-none (member es x)))
+
+intersection-most : (es fs : List Entry) → Sound es → Sound fs → length (intersection es fs) ≤ length es + length fs
+intersection-most [] fs s t = omega (arith, intersection-none fs)
+intersection-most (e ∷ es) [] s t = omega (arith, none-intersection (e ∷ es))
+intersection-most (e ∷ es) (f ∷ fs) s t = omega (arith, intersection-bound e f es fs s t)
+
+-- a table that makes an operation with at most n + m ranges
+fitting : (t : ℕ) (op : List Entry → List Entry → List Entry) → ((es fs : List Entry) → Bounded es → Bounded fs → result t 2 es fs [] ≡ op es fs)
+    → ((es fs : List Entry) → Sound es → Sound fs → length (op es fs) ≤ length es + length fs) → TwoFit t 2 2 2 1
+fitting t op table most = record {
+  fit = fit-set t 2 2 2 (omega arith) (omega arith) (omega arith);
+  first = omega arith;
+  first-four = omega arith;
+  second = omega arith;
+  second-four = omega arith;
+  small = omega arith;
+  bound = λ es fs s t p q. omega (arith, ap length (table es fs p q), most es fs s t);
+}
+
+pub union-fit : TwoFit 238 2 2 2 1
+union-fit = fitting 238 union union-table union-bound
+
+pub intersection-fit : TwoFit 136 2 2 2 1
+intersection-fit = fitting 136 intersection intersection-table intersection-most
+
+pub difference-fit : TwoFit 34 2 2 2 1
+difference-fit = fitting 34 difference difference-table difference-bound
+
+pub symmetric-fit : TwoFit 102 2 2 2 1
+symmetric-fit = fitting 102 symmetricDifference symmetric-table symmetric-bound
+
+pub complement-fit : OneFit 85 2 2
+complement-fit = record {
+  fit = fit-set 85 2 2 2 (omega arith) (omega arith) (omega arith);
+  first = omega arith;
+  first-four = omega arith;
+  bound = λ es s p. omega (arith, ap length (complement-table es), complement-bound es s);
+}
+
+-- any item, or none
+pub empty-no : (es : List Entry) (t : Bool) → t ≡ ltb 0 (length es) → t ≡ true → truth false ≡ truth (isEmpty es)
+empty-no [] t e z = absurd (true≢false (sym z ∙ e))
+empty-no (x ∷ es) t e z = refl
+
+pub empty-yes : (es : List Entry) (t : Bool) → t ≡ ltb 0 (length es) → t ≡ false → truth true ≡ truth (isEmpty es)
+empty-yes [] t e z = refl
+empty-yes (x ∷ es) t e z = absurd (true≢false (sym (lt-ltb 0 (length (x ∷ es)) (omega arith)) ∙ sym e ∙ z))
+
+-- a question about two sets refused, or answered
+module _ (w v : List ℕ) (answer : List Entry → List Entry → Answer) (k : ℕ) (e : k ≡ verdict 2 setLimit w) where
+  pub refuse-first : (f : Refusal) → (k ≡ 0 → ⊥) → f ≡ refusalOf k 0 → outcome (refusalSays f) [] ≡ askedTwo w v answer
+  refuse-first f n r = refused-as [] 0 _ k (verdict 2 setLimit w) f e (omega (arith, verdict-most 2 setLimit w)) n r
+
+  module _ (z : k ≡ 0) (l : ℕ) (g : l ≡ verdict 2 setLimit v) where
+    pub refuse-second : (f : Refusal) → (l ≡ 0 → ⊥) → f ≡ refusalOf l 1 → outcome (refusalSays f) [] ≡ askedTwo w v answer
+    refuse-second f n r = given-as [] 0 _ _ k (verdict 2 setLimit w) e z (refused-as [] 1 _ l (verdict 2 setLimit v) f g (omega (arith, verdict-most 2 setLimit v)) n r)
+
+    pub give-two : (a : Answer) → l ≡ 0 → a ≡ answer (entriesOf 2 w) (entriesOf 2 v) → outcome a [] ≡ askedTwo w v answer
+    give-two a y q = given-as [] 0 _ _ k (verdict 2 setLimit w) e z (given-as [] 1 _ _ l (verdict 2 setLimit v) g y (ap (λ (b : Answer). outcome b []) q))
+
+pub two-same : (w v : List ℕ) (answer by : List Entry → List Entry → Answer) → answer (entriesOf 2 w) (entriesOf 2 v) ≡ by (entriesOf 2 w) (entriesOf 2 v) → askedTwo w v answer ≡ askedTwo w v by
+two-same w v answer by e = ap (λ (a : Answer). judgedBy (verdict 2 setLimit w) 0 [] (judgedBy (verdict 2 setLimit v) 1 [] (outcome a []))) e

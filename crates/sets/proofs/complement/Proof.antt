@@ -1,0 +1,31 @@
+use denote.Ref.{now}
+use mathlib.Core.Path.{_∙_, refl}
+use mathlib.Core.List.{List, []}
+use Rattle.entries.specs.Entries.{Entry}
+use Rattle.entries.specs.Sets.{complement}
+use Rattle.blocks.specs.Blocks.{entriesOf}
+use Rattle.sweeps.specs.Sweeps.{result}
+use Rattle.sweeps.proofs.Tables.{complement-table}
+use Rattle.operations.proofs.Making.{one-as}
+use Rattle.sets.specs.Calls.{setLayout, complementCall}
+use Rattle.sets.proofs.Operating.{complement-fit}
+use native.Mathlib.Omega.{arith}
+use borrow.Author.Needs.{needs}
+use Rattle.sets.proofs.complement.Statement.{statement}
+use Rattle.sets.proofs.complement.Tie as tie
+use Rattle.sets.proofs.complement.Reads as reads
+use Rattle.sets.proofs.complement.Lts as lts
+use Rattle.operations.proofs.from_one.Reads as from-one-reads
+
+from-one-requires : tie.Need-from-one-requires
+from-one-requires c κs = (complement-fit, refl, refl, omega arith, omega arith)
+
+same-length : tie.Need-same-length
+same-length c = search needs
+
+returns : tie.Need-returns
+unfolding complementCall
+returns c = let a = c .before .before .before .before .before .before in c .before .before .from-one .ensures ∙ one-as setLayout setLayout (λ (es : List Entry). result 85 2 es [] []) complement (now (a .args .set)) (now (a .args .out)) (complement-table (entriesOf 2 (now (a .args .set))))
+
+pub complement-spec : {M : Type 1} → statement M
+complement-spec = tie.close (tie.spec from-one-requires same-length returns)

@@ -1,0 +1,29 @@
+use denote.Ref.{now}
+use mathlib.Core.Path.{_∙_, ap}
+use mathlib.Core.List.{List, []}
+use Rattle.entries.specs.Entries.{Entry}
+use Rattle.entries.specs.Sets.{symmetricDifference}
+use Rattle.entries.specs.Questions.{isEmpty}
+use Rattle.answers.specs.Answers.{truth}
+use Rattle.blocks.specs.Blocks.{entriesOf}
+use Rattle.sweeps.specs.Sweeps.{result}
+use Rattle.sweeps.proofs.Tables.{symmetric-table, bounded}
+use Rattle.sets.specs.Calls.{equalCall}
+use Rattle.sets.proofs.Operating.{two-same}
+use native.Mathlib.Omega.{arith}
+use borrow.Author.Needs.{needs}
+use Rattle.sets.proofs.equal.Statement.{statement}
+use Rattle.sets.proofs.equal.Tie as tie
+use Rattle.sets.proofs.equal.Reads as reads
+use Rattle.sets.proofs.equal.Lts as lts
+use Rattle.sets.proofs.keeps_none.Reads as keeps-none-reads
+
+keeps-none-requires : tie.Need-keeps-none-requires
+keeps-none-requires c κs = search needs
+
+returns : tie.Need-returns
+unfolding equalCall
+returns c = let a = c .before .before .before in c .keeps-none .ensures ∙ two-same (now (a .args .a)) (now (a .args .b)) (λ (es fs : List Entry). truth (isEmpty (result 102 2 es fs []))) (λ (es fs : List Entry). truth (isEmpty (symmetricDifference es fs))) (ap (λ (l : List Entry). truth (isEmpty l)) (symmetric-table (entriesOf 2 (now (a .args .a))) (entriesOf 2 (now (a .args .b))) (bounded 2 (now (a .args .a)) (λ j. omega (arith, c .before .before .shared-slice-known .given j))) (bounded 2 (now (a .args .b)) (λ j. omega (arith, c .before .shared-slice-known2 .given j)))))
+
+pub equal-spec : {M : Type 1} → statement M
+equal-spec = tie.close (tie.spec keeps-none-requires returns)

@@ -1,0 +1,31 @@
+use denote.Ref.{now}
+use mathlib.Core.Path.{_∙_}
+use mathlib.Core.List.{List, []}
+use Rattle.entries.specs.Entries.{Entry}
+use Rattle.entries.specs.Sets.{intersection}
+use Rattle.blocks.specs.Blocks.{entriesOf}
+use Rattle.sweeps.specs.Sweeps.{result}
+use Rattle.sweeps.proofs.Tables.{intersection-table, bounded}
+use Rattle.operations.proofs.Making.{two-as}
+use Rattle.sets.specs.Calls.{setLayout, intersectionCall}
+use Rattle.sets.proofs.Operating.{intersection-fit}
+use native.Mathlib.Omega.{arith}
+use borrow.Author.Needs.{needs}
+use Rattle.sets.proofs.intersection.Statement.{statement}
+use Rattle.sets.proofs.intersection.Tie as tie
+use Rattle.sets.proofs.intersection.Reads as reads
+use Rattle.sets.proofs.intersection.Lts as lts
+use Rattle.sets.proofs.two_sets.Reads as two-sets-reads
+
+two-sets-requires : tie.Need-two-sets-requires
+two-sets-requires c κs = intersection-fit
+
+same-length : tie.Need-same-length
+same-length c = search needs
+
+returns : tie.Need-returns
+unfolding intersectionCall
+returns c = let a = c .before .before .before .before .before .before .before in c .before .before .two-sets .ensures ∙ two-as setLayout setLayout setLayout (λ (es fs : List Entry). result 136 2 es fs []) intersection (now (a .args .a)) (now (a .args .b)) (now (a .args .out)) (intersection-table (entriesOf 2 (now (a .args .a))) (entriesOf 2 (now (a .args .b))) (bounded 2 (now (a .args .a)) (λ j. omega (arith, c .before .before .before .before .before .before .shared-slice-known .given j))) (bounded 2 (now (a .args .b)) (λ j. omega (arith, c .before .before .before .before .before .shared-slice-known2 .given j))))
+
+pub intersection-spec : {M : Type 1} → statement M
+intersection-spec = tie.close (tie.spec two-sets-requires same-length returns)
