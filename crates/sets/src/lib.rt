@@ -24,6 +24,17 @@ use sweeps::Plan;
 
 const M: u64 = 18446744073709551615;
 
+// The tables of the sweep: bit a + 2b says whether a number is kept that is in the first set (a) and in the second (b).
+const IN_EITHER: u8 = 238;
+
+const IN_BOTH: u8 = 136;
+
+const FIRST_ALONE: u8 = 34;
+
+const JUST_ONE: u8 = 102;
+
+const NOT_FIRST: u8 = 85;
+
 // Makes the block the empty set. Its old words are not judged.
 pub fn make_empty(block: &mut [u64]) -> Judged
     ensures { λ r. ⌜ outcome (judgedSays r) (now (block .exit) ∷ []) ≡ makeEmptyCall (now (block .entry)) ⌝ }
@@ -243,21 +254,21 @@ fn keeps_none(a: &[u64], b: &[u64], table: u8) -> Truth
 pub fn equal(a: &[u64], b: &[u64]) -> Truth
     ensures { λ r. ⌜ outcome (truthSays r) [] ≡ equalCall (now (a .entry)) (now (b .entry)) ⌝ }
 {
-    keeps_none(a, b, 102)
+    keeps_none(a, b, JUST_ONE)
 }
 
 // Whether every member of the first is a member of the second.
 pub fn within(a: &[u64], b: &[u64]) -> Truth
     ensures { λ r. ⌜ outcome (truthSays r) [] ≡ withinCall (now (a .entry)) (now (b .entry)) ⌝ }
 {
-    keeps_none(a, b, 34)
+    keeps_none(a, b, FIRST_ALONE)
 }
 
 // Whether no number is a member of both.
 pub fn disjoint(a: &[u64], b: &[u64]) -> Truth
     ensures { λ r. ⌜ outcome (truthSays r) [] ≡ disjointCall (now (a .entry)) (now (b .entry)) ⌝ }
 {
-    keeps_none(a, b, 136)
+    keeps_none(a, b, IN_BOTH)
 }
 
 // The numbers that a table keeps of two sets, into out.
@@ -284,28 +295,28 @@ fn two_sets(a: &[u64], b: &[u64], table: u8, out: &mut [u64]) -> Judged
 pub fn union(a: &[u64], b: &[u64], out: &mut [u64]) -> Judged
     ensures { λ r. ⌜ outcome (judgedSays r) (now (out .exit) ∷ []) ≡ unionCall (now (a .entry)) (now (b .entry)) (now (out .entry)) ⌝ }
 {
-    two_sets(a, b, 238, out)
+    two_sets(a, b, IN_EITHER, out)
 }
 
 // The numbers of both sets, into out.
 pub fn intersection(a: &[u64], b: &[u64], out: &mut [u64]) -> Judged
     ensures { λ r. ⌜ outcome (judgedSays r) (now (out .exit) ∷ []) ≡ intersectionCall (now (a .entry)) (now (b .entry)) (now (out .entry)) ⌝ }
 {
-    two_sets(a, b, 136, out)
+    two_sets(a, b, IN_BOTH, out)
 }
 
 // The numbers of the first set that are not in the second, into out.
 pub fn difference(a: &[u64], b: &[u64], out: &mut [u64]) -> Judged
     ensures { λ r. ⌜ outcome (judgedSays r) (now (out .exit) ∷ []) ≡ differenceCall (now (a .entry)) (now (b .entry)) (now (out .entry)) ⌝ }
 {
-    two_sets(a, b, 34, out)
+    two_sets(a, b, FIRST_ALONE, out)
 }
 
 // The numbers of exactly one of the sets, into out.
 pub fn symmetric_difference(a: &[u64], b: &[u64], out: &mut [u64]) -> Judged
     ensures { λ r. ⌜ outcome (judgedSays r) (now (out .exit) ∷ []) ≡ symmetricDifferenceCall (now (a .entry)) (now (b .entry)) (now (out .entry)) ⌝ }
 {
-    two_sets(a, b, 102, out)
+    two_sets(a, b, JUST_ONE, out)
 }
 
 // The numbers from 0 to 2^64 - 1 that are not in the set, into out.
@@ -313,7 +324,7 @@ pub fn complement(set: &[u64], out: &mut [u64]) -> Judged
     ensures { λ r. ⌜ outcome (judgedSays r) (now (out .exit) ∷ []) ≡ complementCall (now (set .entry)) (now (out .entry)) ⌝ }
 {
     let plan = Plan {
-        table: 85,
+        table: NOT_FIRST,
         a: 2,
         b: 2,
         c: 2,
