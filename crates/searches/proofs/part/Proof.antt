@@ -16,7 +16,7 @@ count-of-requires : tie.Need-count-of-requires
 count-of-requires c κs = search needs
 
 first-from-requires : tie.Need-first-from-requires
-first-from-requires c κs = let a = c .before .before in (held (a .args .s) (a .pre .two) (now (a .args .block)) (c .count-of .result) (c .count-of .ensures) (a .args .limit) (a .pre .block), a .pre .two)
+first-from-requires c κs = let a = c .before .before in (held (a .args .s) (a .pre .two) (now (a .args .block)) (c .count-of .result) (c .count-of .ensures) (a .args .limit) (a .pre .block), omega (arith, a .pre .two))
 
 first-past-requires : tie.Need-first-past-requires
 first-past-requires c κs = let a = c .before .before .before in (held (a .args .s) (a .pre .two) (now (a .args .block)) (c .before .count-of .result) (c .before .count-of .ensures) (a .args .limit) (a .pre .block), omega (arith, a .pre .two))
