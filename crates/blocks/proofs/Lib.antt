@@ -4,3 +4,4 @@ pub mod Moves
 pub mod Copying
 pub mod Tests
 pub mod Finding
+pub mod Canonical

@@ -38,7 +38,7 @@ part-eq a b p q n h g e =
     lb : length (take n (drop q b)) ≡ n
     lb = length-take-le n (drop q b) (omega (arith, length-drop q b))
 
-zeros : (a : List ℕ) (p : ℕ) → ((k : ℕ) → p ≤ k → getD a k 0 ≡ 0) → drop p a ≡ replicate (length a - p) 0
+pub zeros : (a : List ℕ) (p : ℕ) → ((k : ℕ) → p ≤ k → getD a k 0 ≡ 0) → drop p a ≡ replicate (length a - p) 0
 zeros a p h =
     ext-getD 0 (drop p a) (replicate (length a - p) 0) (length-drop p a ∙ sym (length-replicate (length a - p) 0))
     (λ k l. getD-drop p a k 0 ∙ h (p + k) (omega arith) ∙ sym (getD-replicate (length a - p) k 0 0 (omega (arith, length-drop p a))))

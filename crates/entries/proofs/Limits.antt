@@ -1,17 +1,20 @@
 -- The limits of 01 on the number of ranges and entries, each from `start-bound` or `change-bound`.
-use mathlib.Core.Path.{_≡_, refl, ap, ap₂}
+use mathlib.Core.Path.{_≡_, refl, sym, _∙_, ap, ap₂}
+use mathlib.Core.Logic.{_≢_}
 use mathlib.Core.Bool.{Bool, true, false}
 use mathlib.Core.Option.{Option, none, some}
 use mathlib.Core.List.{List, [], _∷_, _++_}
 use Prim.Native.Nat.{ℕ, zero, suc, _+_, _-_, _*_, _≤_, _<_}
 use native.Mathlib.Omega.{arith}
-use native.Mathlib.Decide.{decLe, ℕ-discrete}
+use native.Mathlib.Decide.{decLt, decLe, ℕ-discrete}
 use lib.ListN.{length, length-append}
 use lib.Dec.{leb}
 use borrow.Author.Tests.{le-leb, leb-true}
 use Rattle.entries.specs.Entries.{Value, Entry, orElse, valueAt, Sound, ListOf}
-use Rattle.entries.specs.Build.{andb, cutsOf, combine}
-use Rattle.entries.specs.Sets.{M, has, mark, member, orb, lessb, xorb, setOp, union, intersection, difference, symmetricDifference, complement}
+use Rattle.entries.specs.Build.{with, put, andb, cutsOf, combine}
+use Rattle.entries.proofs.Put.{put-is, with-in, with-under, with-past}
+use Rattle.entries.proofs.Plain.{plain-marks}
+use Rattle.entries.specs.Sets.{Plain, M, has, mark, member, orb, lessb, xorb, setOp, union, intersection, difference, symmetricDifference, complement}
 use Rattle.entries.specs.Maps.{keepIf, overlay, restriction}
 use Rattle.entries.proofs.Cuts.{NotIn, notin-append}
 use Rattle.entries.proofs.Canon.{none≢some}
@@ -187,3 +190,43 @@ complement-bound a sa =
       where
         smaller : (y : ℕ) → imp (leb (suc y) M) (leb y M)
         smaller y h = le-leb y M (omega (arith, leb-true (suc y) M h))
+
+-- AN EDIT: o on a..b. Nothing starts but at a, right after b, or where it started before.
+module _ (es : List Entry) (a b : ℕ) (ab : a ≤ b) (o : Option Value) (s : Sound es) where
+  put-down : (x : ℕ) → NotIn x (lows es) → x ≢ a → (x ≡ suc b → Down (prev (with es a b o) x) (with es a b o x)) → Down (prev (with es a b o) x) (with es a b o x)
+  put-down zero n p q = λ v r. starts es s zero n v (sym (with-under es a b o zero (omega arith)) ∙ r)
+  put-down (suc y) n p q = go (decLe (suc y) b) (decLt (suc y) a) (ℕ-discrete (suc y) (suc b))
+    where
+      go : Dec (suc y ≤ b) → Dec (suc y < a) → Dec (suc y ≡ suc b) → Down (with es a b o y) (with es a b o (suc y))
+      go d (yes h) e v r = with-under es a b o y (omega arith) ∙ starts es s (suc y) n v (sym (with-under es a b o (suc y) h) ∙ r)
+      go (yes k) (no h) e v r = with-in es a b o y (omega arith) (omega arith) ∙ sym (with-in es a b o (suc y) (omega arith) k) ∙ r
+      go (no k) (no h) (yes e) v r = q e v r
+      go (no k) (no h) (no e) v r = with-past es a b o y (omega arith) ∙ starts es s (suc y) n v (sym (with-past es a b o (suc y) (omega arith)) ∙ r)
+
+  -- «Assign v to a..b .. at most n+2 entries after»
+  pub put-bound : length (put es a b o) ≤ length es + 2
+  put-bound =
+      let k = start-bound (with es a b o) (put es a b o) (a ∷ suc b ∷ lows es) (put-is es a b o) (λ x n. put-down x (n .1 .1) (n .0) (λ e. absurd (n .1 .0 e))) in
+      omega (arith, length-lows es)
+
+-- «Erase a..b; at most n+1», and «remove n+1»
+pub erase-bound : (es : List Entry) (a b : ℕ) → a ≤ b → Sound es → length (put es a b none) ≤ length es + 1
+erase-bound es a b ab s =
+    let k = start-bound (with es a b none) (put es a b none) (suc b ∷ lows es) (put-is es a b none) (λ x n. go x n (ℕ-discrete x a)) in
+    omega (arith, length-lows es)
+  where
+    go : (x : ℕ) → NotIn x (suc b ∷ lows es) → Dec (x ≡ a) → Down (prev (with es a b none) x) (with es a b none x)
+    go x n (no p) = put-down es a b ab none s x (n .1) p (λ e. absurd (n .0 e))
+    go x n (yes p) = λ v r. absurd (none≢some _ _ (with-in es a b none x (omega arith) (omega arith)) r)
+
+-- «insert .. n+1»
+pub insert-bound : (es : List Entry) (a b : ℕ) → a ≤ b → Sound es → Plain es → length (put es a b (some [])) ≤ length es + 1
+insert-bound es a b ab s f =
+    let k = start-bound (with es a b (some [])) (put es a b (some [])) (a ∷ lows es) (put-is es a b (some [])) (λ x n. put-down es a b ab (some []) s x (n .1) (n .0) (λ e. joined x e)) in
+    omega (arith, length-lows es)
+  where
+    joined : (x : ℕ) → x ≡ suc b → Down (prev (with es a b (some [])) x) (with es a b (some []) x)
+    joined zero e v r = absurd (omega arith)
+    joined (suc y) e v r =
+        with-in es a b (some []) y (omega arith) (omega arith)
+        ∙ ap some (sym (plain-marks es f (suc y) v (sym (with-past es a b (some []) (suc y) (omega arith)) ∙ r)))

@@ -1,0 +1,64 @@
+-- One list has one block of each length: reading a stored block, and the block of a sound one with zeros after it.
+use mathlib.Core.Path.{_≡_, refl, sym, _∙_, ap, ap₂}
+use mathlib.Core.List.{List, [], _∷_, _++_}
+use Prim.Native.Nat.{ℕ, _+_, _*_, _-_, _≤_, _<_}
+use native.Mathlib.Omega.{arith}
+use lib.ListN.{length, getD, take, drop, replicate, length-append, length-replicate, length-drop, take-append-drop}
+use lib.Seq.{drop-cons, drop-drop, length-take-le}
+use Rattle.entries.specs.Entries.{Entry, Sound}
+use Rattle.entries.specs.Sets.{Plain}
+use Rattle.blocks.specs.Blocks.{entriesOf, wordsOf, blockOf, capacity, verdict, SoundBlock}
+use Rattle.blocks.proofs.Words.{Shaped, words-length, items-length, read-back, write-back}
+use Rattle.blocks.proofs.Moves.{zeros, block-path}
+use Rattle.blocks.proofs.Judging.{room, sound-verdict}
+
+-- a set's items have two words
+pub plain-shaped : (es : List Entry) → Plain es → Shaped 2 es
+plain-shaped [] f = tt
+plain-shaped (e ∷ es) f = (ap (λ (v : List ℕ). 2 + length v) (f .0), plain-shaped es (f .1))
+
+module _ (s : ℕ) (two : 2 ≤ s) (L : ℕ) (es : List Entry) (h : Shaped s es) where
+  -- the entries of a stored block are those that were stored
+  pub entries-stored : entriesOf s (blockOf L es) ≡ es
+  unfolding blockOf
+  entries-stored = read-back s two es (replicate (L - (1 + length (wordsOf es))) 0) h
+
+  pub length-stored : 1 + s * length es ≤ L → length (blockOf L es) ≡ L
+  unfolding blockOf
+  length-stored r = omega (arith, length-append (wordsOf es) (replicate (L - (1 + length (wordsOf es))) 0), length-replicate {A = ℕ} (L - (1 + length (wordsOf es))) 0, words-length s es h)
+
+  head-stored : getD (blockOf L es) 0 0 ≡ length es
+  unfolding blockOf
+  head-stored = refl
+
+  pub sound-stored : (limit : ℕ) → 0 < L → length es ≤ capacity s limit L → Sound es → verdict s limit (blockOf L es) ≡ 0
+  sound-stored limit p q t =
+      let l = length-stored (room s limit L (length es) p q) in
+      sound-verdict s limit (blockOf L es) (record {
+        some = omega arith;
+        fits = rw (l, head-stored) q;
+        sound = rw entries-stored t;
+      })
+
+-- every word after the stored form is 0
+abbrev pub Zeros : ℕ → List ℕ → Type 0
+Zeros s w = (j : ℕ) → 1 + s * getD w 0 0 ≤ j → getD w j 0 ≡ 0
+
+-- a sound block with zeros after it is the block of its entries
+pub block-is : (s limit : ℕ) (w : List ℕ) → 2 ≤ s → SoundBlock s limit w → Zeros s w → w ≡ blockOf (length w) (entriesOf s w)
+block-is s limit w two b z =
+    drop-cons w 0 0 (b .some)
+    ∙ ap (λ (l : List ℕ). n ∷ l) (sym (take-append-drop (s * n) (drop 1 w)) ∙ ap₂ _++_ (sym words) (drop-drop (s * n) 1 w ∙ zeros w (1 + s * n) z))
+    ∙ block-path (length w) (entriesOf s w) n (length w - (1 + s * n)) (wordsOf (entriesOf s w)) (sym (items-length s n (drop 1 w))) refl (omega (arith, ap length words, held))
+  where
+    n : ℕ
+    n = getD w 0 0
+
+    fits : 1 + s * n ≤ length w
+    fits = room s limit (length w) n (b .some) (b .fits)
+
+    words : wordsOf (entriesOf s w) ≡ take (s * n) (drop 1 w)
+    words = write-back s two n (drop 1 w) (omega (arith, fits, length-drop 1 w))
+
+    held : length (take (s * n) (drop 1 w)) ≡ s * n
+    held = length-take-le (s * n) (drop 1 w) (omega (arith, fits, length-drop 1 w))
