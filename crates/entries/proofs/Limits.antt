@@ -11,16 +11,17 @@ use lib.ListN.{length, length-append}
 use lib.Dec.{leb}
 use borrow.Author.Tests.{le-leb, leb-true}
 use Rattle.entries.specs.Entries.{Value, Entry, orElse, valueAt, Sound, ListOf}
+use Rattle.entries.specs.Maps.{domain, keepIf, overlay, restriction}
+use Rattle.entries.proofs.Building.{built}
+use Rattle.entries.proofs.Operations.{endOf, value-ends, value-changes, combined}
+use Rattle.entries.proofs.Bounds.{StartsIn, lows, ends, length-lows, length-ends, prev, Down, Up, starts, stops, start-bound, bound, change-bound, still, length-cuts}
 use Rattle.entries.specs.Build.{with, put, andb, cutsOf, combine}
 use Rattle.entries.proofs.Put.{put-is, with-in, with-under, with-past}
 use Rattle.entries.proofs.Plain.{plain-marks}
 use Rattle.entries.specs.Sets.{Plain, M, has, mark, member, orb, lessb, xorb, setOp, union, intersection, difference, symmetricDifference, complement}
-use Rattle.entries.specs.Maps.{keepIf, overlay, restriction}
 use Rattle.entries.proofs.Cuts.{NotIn, notin-append}
 use Rattle.entries.proofs.Canon.{none≢some}
 use Rattle.entries.proofs.Sides.{none-under, under}
-use Rattle.entries.proofs.Operations.{combined}
-use Rattle.entries.proofs.Bounds.{lows, ends, length-lows, length-ends, prev, Down, Up, StartsIn, starts, stops, start-bound, bound, change-bound, still, length-cuts}
 use Rattle.entries.proofs.Sets.{complement-lists, symmetric-is}
 
 -- one truth follows from another
@@ -230,3 +231,22 @@ insert-bound es a b ab s f =
     joined (suc y) e v r =
         with-in es a b (some []) y (omega arith) (omega arith)
         ∙ ap some (sym (plain-marks es f (suc y) v (sym (with-past es a b (some []) (suc y) (omega arith)) ∙ r)))
+
+-- the set of numbers that have a value: no more ranges than entries
+pub domain-lists : (es : List Entry) → ListOf (λ x. mark (member es x)) (domain es)
+unfolding domain
+domain-lists es = built (λ x. mark (member es x)) (endOf es) (cutsOf es) (λ y h. ap (λ (o : Option Value). mark (has o)) (value-ends es y h)) (λ y n. ap (λ (o : Option Value). mark (has o)) (value-changes es y n))
+
+pub domain-bound : (es : List Entry) → Sound es → length (domain es) ≤ length es
+unfolding imp
+domain-bound es s =
+    let k = start-bound (λ x. mark (member es x)) (domain es) (lows es) (domain-lists es) go in
+    omega (arith, length-lows es)
+  where
+    go : StartsIn (λ x. mark (member es x)) (lows es)
+    go zero n v q = absurd (none≢some _ _ (first (valueAt es zero) (starts es s zero n)) q)
+      where
+        first : (o : Option Value) → Down none o → mark (has o) ≡ none
+        first none d = refl
+        first (some u) d = absurd (none≢some none u refl (d u refl))
+    go (suc y) n v q = mark-down (member es y) (member es (suc y)) (down-imp (valueAt es y) (valueAt es (suc y)) (starts es s (suc y) n)) v q

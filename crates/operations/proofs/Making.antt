@@ -5,7 +5,7 @@ use mathlib.Core.List.{List, [], _∷_}
 use Prim.Native.Nat.{ℕ, zero, suc, _+_, _*_, _-_, _≤_, _<_}
 use native.Mathlib.Omega.{arith}
 use lib.Dec.{leb}
-use lib.ListN.{length, getD, drop}
+use lib.ListN.{length, getD, drop, length-drop}
 use borrow.Author.Tests.{leb-true, leb-false, le-ltb, lt-ltb, eq-eqb, ne-eqb}
 use Rattle.answers.specs.declared.Judged.{Judged}
 use Rattle.sweeps.specs.declared.Plan.{Plan}
@@ -18,8 +18,8 @@ use Rattle.answers.specs.Says.{judgedSays, judgedOf}
 use Rattle.answers.proofs.Numbers.{judged-says}
 use Rattle.blocks.specs.Blocks.{capacity, blockOf, entriesOf, verdict, SoundBlock}
 use Rattle.blocks.specs.Calls.{stored, writable}
-use Rattle.blocks.proofs.Judging.{room, verdict-most}
-use Rattle.blocks.proofs.Words.{items-length}
+use Rattle.blocks.proofs.Judging.{verdict-sound, room, verdict-most}
+use Rattle.blocks.proofs.Words.{Shaped, items-shaped, items-length}
 use Rattle.sweeps.proofs.Tables.{input, bounded}
 use Rattle.operations.specs.Calls.{Layout, fromTwo, fromOne}
 use Rattle.operations.specs.Steps.{AnyOk, StoreOk, Wrote, TwoFit, OneFit}
@@ -78,6 +78,10 @@ module _ (position : ℕ) (o : List ℕ) (next : Outcome) where
   pub with-words : (y : Outcome) → (length o ≡ 0 → ⊥) → y ≡ next → y ≡ writable position o next
   with-words y n q = rw (ne-eqb (length o) 0 n) q
 
+-- a sound block's values have all their words
+pub entries-shaped : (s limit : ℕ) (w : List ℕ) → 2 ≤ s → SoundBlock s limit w → Shaped s (entriesOf s w)
+entries-shaped s limit w two b = items-shaped s two (getD w 0 0) (drop 1 w) (omega (arith, room s limit (length w) (getD w 0 0) (b .some) (b .fits), length-drop 1 w))
+
 -- how many items two inputs can make
 small-mul : (k n : ℕ) → k ≤ 2 → k * n ≤ n + n
 small-mul zero n h = omega arith
@@ -101,7 +105,7 @@ module _ (plan : Plan) (la lb : ℕ) (weight : ℕ) (a b : List ℕ) (f : TwoFit
     fit = f .fit;
     most = omega (
       arith,
-      f .bound (entriesOf (plan .a) a) (entriesOf (plan .b) b) (sa .sound) (sb .sound) (bounded (plan .a) a wa) (bounded (plan .b) b wb),
+      f .bound (entriesOf (plan .a) a) (entriesOf (plan .b) b) (sa .sound) (sb .sound) (bounded (plan .a) a wa) (bounded (plan .b) b wb) (entries-shaped (plan .a) la a (f .first) sa) (entries-shaped (plan .b) lb b (f .second) sb),
       ap₂ (λ (x y : ℕ). weight * x + y) (items-length (plan .a) (getD a 0 0) (drop 1 a) ∙ sym en) (items-length (plan .b) (getD b 0 0) (drop 1 b) ∙ sym em),
     );
     small = h;
@@ -131,11 +135,20 @@ module _ {plan : Plan} {limit bound : ℕ} {a b : List ℕ} {L : ℕ} (g : Store
   pub store-most : length (resultOf plan a b (0 ∷ [])) ≤ bound
   store-most = g .most
 
--- two ways to make the same entries have the same outcome
-pub two-as : (first second out : Layout) (make by : List Entry → List Entry → List Entry) (w v o : List ℕ) → make (entriesOf (first .width) w) (entriesOf (second .width) v) ≡ by (entriesOf (first .width) w) (entriesOf (second .width) v)
+-- two ways to make the same entries of sound blocks have the same outcome
+pub two-as : (first second out : Layout) (make by : List Entry → List Entry → List Entry) (w v o : List ℕ)
+    → (SoundBlock (first .width) (first .limit) w → SoundBlock (second .width) (second .limit) v → make (entriesOf (first .width) w) (entriesOf (second .width) v) ≡ by (entriesOf (first .width) w) (entriesOf (second .width) v))
     → fromTwo first second out make w v o ≡ fromTwo first second out by w v o
-two-as first second out make by w v o e =
-    ap (λ (l : List Entry). judgedBy (verdict (first .width) (first .limit) w) 0 (o ∷ []) (judgedBy (verdict (second .width) (second .limit) v) 1 (o ∷ []) (writable 2 o (stored 2 (out .width) (out .limit) o l)))) e
+two-as first second out make by w v o e = go (verdict (first .width) (first .limit) w) refl (verdict (second .width) (second .limit) v) refl
+  where
+    tail : List Entry → Outcome
+    tail l = writable 2 o (stored 2 (out .width) (out .limit) o l)
+
+    go : (j : ℕ) → verdict (first .width) (first .limit) w ≡ j → (k : ℕ) → verdict (second .width) (second .limit) v ≡ k
+        → judgedBy j 0 (o ∷ []) (judgedBy k 1 (o ∷ []) (tail (make (entriesOf (first .width) w) (entriesOf (second .width) v)))) ≡ judgedBy j 0 (o ∷ []) (judgedBy k 1 (o ∷ []) (tail (by (entriesOf (first .width) w) (entriesOf (second .width) v))))
+    go (suc j) p k q = refl
+    go zero p (suc k) q = refl
+    go zero p zero q = ap tail (e (verdict-sound (first .width) (first .limit) w p) (verdict-sound (second .width) (second .limit) v q))
 
 pub one-as : (first out : Layout) (make by : List Entry → List Entry) (w o : List ℕ) → make (entriesOf (first .width) w) ≡ by (entriesOf (first .width) w) → fromOne first out make w o ≡ fromOne first out by w o
 one-as first out make by w o e = ap (λ (l : List Entry). judgedBy (verdict (first .width) (first .limit) w) 0 (o ∷ []) (writable 1 o (stored 1 (out .width) (out .limit) o l))) e

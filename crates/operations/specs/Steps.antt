@@ -7,6 +7,7 @@ use lib.Dec.{leb}
 use lib.ListN.{length}
 use Rattle.entries.specs.Entries.{Entry, Sound}
 use Rattle.entries.specs.Build.{pick}
+use Rattle.blocks.proofs.Words.{Shaped}
 use Rattle.blocks.specs.Blocks.{capacity, blockOf, entriesOf}
 use Rattle.sweeps.specs.Sweeps.{result, Fit, Input, Bounded}
 use Rattle.sweeps.specs.declared.Plan.{Plan}
@@ -45,7 +46,7 @@ pub record TwoFit (t sa sb s weight : ℕ) : Type 0 where
   pub second : 2 ≤ sb
   pub second-four : sb ≤ 4
   pub small : weight ≤ 2
-  pub bound : (es fs : List Entry) → Sound es → Sound fs → Bounded es → Bounded fs → length (result t s es fs []) ≤ weight * length es + length fs
+  pub bound : (es fs : List Entry) → Sound es → Sound fs → Bounded es → Bounded fs → Shaped sa es → Shaped sb fs → length (result t s es fs []) ≤ weight * length es + length fs
 
 -- a table on one sound list: at most one item more
 pub record OneFit (t sa s : ℕ) : Type 0 where

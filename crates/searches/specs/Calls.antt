@@ -3,7 +3,9 @@ use mathlib.Core.List.{List, [], _∷_}
 use Prim.Native.Nat.{ℕ, _+_, _*_}
 use lib.Dec.{ltb, eqb}
 use lib.ListN.{length, take, drop}
+use Rattle.entries.specs.Entries.{valueAt}
 use Rattle.entries.specs.Build.{pick}
+use Rattle.entries.specs.Sets.{has}
 use Rattle.entries.specs.Questions.{meeting, whollyBelow}
 use Rattle.answers.specs.Answers.{Outcome, outcome, given, refuse, judged}
 use Rattle.blocks.specs.Blocks.{entriesOf, verdict}
@@ -25,3 +27,11 @@ windowCall s limit w a b = pick (eqb (windowVerdict s limit w a b) 0) (windowPar
 -- «a companion question on the same inputs gives the refusal, or says that there is none»
 abbrev pub windowRefusalCall : ℕ → ℕ → List ℕ → ℕ → ℕ → Outcome
 windowRefusalCall s limit w a b = judged (windowVerdict s limit w a b) 0 [] (outcome (given []) [])
+
+-- the place of the entry that holds x: behind the count and the entries wholly below x; 0 where there is none
+unfoldable pub entryPlace : ℕ → List ℕ → ℕ → ℕ
+entryPlace s w x = pick (has (valueAt (entriesOf s w) x)) (1 + s * length (whollyBelow x (entriesOf s w))) 0
+
+-- «the three words of the deciding entry, as a part of whichever map holds it»: s words from there (`entry-words` in proofs/Entries)
+abbrev pub entryPart : ℕ → List ℕ → ℕ → List ℕ
+entryPart s w x = pick (has (valueAt (entriesOf s w) x)) (take s (drop (1 + s * length (whollyBelow x (entriesOf s w))) w)) []

@@ -3,7 +3,7 @@ ghost use mathlib.Core.Path.{_≡_};
 ghost use Prim.Native.Nat.{_≤_, _<_};
 ghost use lib.ListN.{length, getD};
 ghost use Rattle.blocks.specs.Blocks.{SoundBlock};
-ghost use Rattle.searches.specs.Calls.{windowPart, windowVerdict, windowCall};
+ghost use Rattle.searches.specs.Calls.{windowPart, windowVerdict, windowCall, entryPlace};
 ghost use Rattle.searches.specs.Steps.{Judged};
 
 // The number of items of a block.
@@ -12,6 +12,23 @@ pub fn count_of(block: &[u64]) -> usize
     ensures { λ r. ⌜ r ≡ getD (now (block .entry)) 0 0 ⌝ }
 {
     blocks::wide(blocks::word(block, 0))
+}
+
+// The place of the first word of the entry of a sound block that holds x, or 0 where there is none.
+pub fn entry_place(block: &[u64], s: usize, limit: usize, x: u64) -> usize
+    requires { ⌜ (2 ≤ s) × SoundBlock s limit (now block) ⌝ }
+    ensures { λ r. ⌜ r ≡ entryPlace s (now (block .entry)) x ⌝ }
+{
+    let n = count_of(block);
+    let i = blocks::first_from(block, s, 2, n, x);
+    if n <= i {
+        return 0;
+    }
+    let place = s * i + 1;
+    if x < blocks::word(block, place) {
+        return 0;
+    }
+    place
 }
 
 // The number of the refusal of a window, or 0.

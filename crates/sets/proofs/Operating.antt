@@ -56,7 +56,7 @@ fitting t op table most = record {
   second = omega arith;
   second-four = omega arith;
   small = omega arith;
-  bound = λ es fs s t p q. omega (arith, ap length (table es fs p q), most es fs s t);
+  bound = λ es fs s t p q h k. omega (arith, ap length (table es fs p q), most es fs s t);
 }
 
 pub union-fit : TwoFit 238 2 2 2 1

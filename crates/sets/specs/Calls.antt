@@ -13,7 +13,7 @@ use Rattle.answers.specs.Answers.{Answer, given, Outcome, outcome, judged, trut
 use Rattle.blocks.specs.Blocks.{setLimit, entriesOf, blockOf, verdict}
 use Rattle.blocks.specs.Calls.{writable}
 use Rattle.edits.specs.Calls.{editCall}
-use Rattle.operations.specs.Calls.{Layout, layout, fromTwo, fromOne}
+use Rattle.operations.specs.Calls.{setLayout, fromTwo, fromOne}
 use Rattle.searches.specs.Calls.{windowCall, windowRefusalCall}
 
 -- a question about a set: 1, 2, 3 of its block, then the answer
@@ -84,9 +84,6 @@ unfoldable pub disjointCall : List ℕ → List ℕ → Outcome
 disjointCall w v = askedTwo w v (λ es fs. truth (isEmpty (intersection es fs)))
 
 -- «Into a separate output: union, intersection, difference, symmetric difference, complement within 0..M.»
-abbrev pub setLayout : Layout
-setLayout = layout 2 setLimit
-
 unfoldable pub unionCall : List ℕ → List ℕ → List ℕ → Outcome
 unionCall w v o = fromTwo setLayout setLayout setLayout union w v o
 

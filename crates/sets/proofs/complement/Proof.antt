@@ -7,7 +7,8 @@ use Rattle.blocks.specs.Blocks.{entriesOf}
 use Rattle.sweeps.specs.Sweeps.{result}
 use Rattle.sweeps.proofs.Tables.{complement-table}
 use Rattle.operations.proofs.Making.{one-as}
-use Rattle.sets.specs.Calls.{setLayout, complementCall}
+use Rattle.operations.specs.Calls.{setLayout}
+use Rattle.sets.specs.Calls.{complementCall}
 use Rattle.sets.proofs.Operating.{complement-fit}
 use native.Mathlib.Omega.{arith}
 use borrow.Author.Needs.{needs}

@@ -7,7 +7,8 @@ use Rattle.blocks.specs.Blocks.{entriesOf}
 use Rattle.sweeps.specs.Sweeps.{result}
 use Rattle.sweeps.proofs.Tables.{difference-table, bounded}
 use Rattle.operations.proofs.Making.{two-as}
-use Rattle.sets.specs.Calls.{setLayout, differenceCall}
+use Rattle.operations.specs.Calls.{setLayout}
+use Rattle.sets.specs.Calls.{differenceCall}
 use Rattle.sets.proofs.Operating.{difference-fit}
 use native.Mathlib.Omega.{arith}
 use borrow.Author.Needs.{needs}
@@ -25,7 +26,7 @@ same-length c = search needs
 
 returns : tie.Need-returns
 unfolding differenceCall
-returns c = let a = c .before .before .before .before .before .before .before in c .before .before .two-sets .ensures ∙ two-as setLayout setLayout setLayout (λ (es fs : List Entry). result 34 2 es fs []) difference (now (a .args .a)) (now (a .args .b)) (now (a .args .out)) (difference-table (entriesOf 2 (now (a .args .a))) (entriesOf 2 (now (a .args .b))) (bounded 2 (now (a .args .a)) (λ j. omega (arith, c .before .before .before .before .before .before .shared-slice-known .given j))) (bounded 2 (now (a .args .b)) (λ j. omega (arith, c .before .before .before .before .before .shared-slice-known2 .given j))))
+returns c = let a = c .before .before .before .before .before .before .before in c .before .before .two-sets .ensures ∙ two-as setLayout setLayout setLayout (λ (es fs : List Entry). result 34 2 es fs []) difference (now (a .args .a)) (now (a .args .b)) (now (a .args .out)) (λ p q. difference-table (entriesOf 2 (now (a .args .a))) (entriesOf 2 (now (a .args .b))) (bounded 2 (now (a .args .a)) (λ j. omega (arith, c .before .before .before .before .before .before .shared-slice-known .given j))) (bounded 2 (now (a .args .b)) (λ j. omega (arith, c .before .before .before .before .before .shared-slice-known2 .given j))))
 
 pub difference-spec : {M : Type 1} → statement M
 difference-spec = tie.close (tie.spec two-sets-requires same-length returns)

@@ -7,7 +7,8 @@ use Rattle.blocks.specs.Blocks.{entriesOf}
 use Rattle.sweeps.specs.Sweeps.{result}
 use Rattle.sweeps.proofs.Tables.{union-table, bounded}
 use Rattle.operations.proofs.Making.{two-as}
-use Rattle.sets.specs.Calls.{setLayout, unionCall}
+use Rattle.operations.specs.Calls.{setLayout}
+use Rattle.sets.specs.Calls.{unionCall}
 use Rattle.sets.proofs.Operating.{union-fit}
 use native.Mathlib.Omega.{arith}
 use borrow.Author.Needs.{needs}
@@ -25,7 +26,7 @@ same-length c = search needs
 
 returns : tie.Need-returns
 unfolding unionCall
-returns c = let a = c .before .before .before .before .before .before .before in c .before .before .two-sets .ensures ∙ two-as setLayout setLayout setLayout (λ (es fs : List Entry). result 238 2 es fs []) union (now (a .args .a)) (now (a .args .b)) (now (a .args .out)) (union-table (entriesOf 2 (now (a .args .a))) (entriesOf 2 (now (a .args .b))) (bounded 2 (now (a .args .a)) (λ j. omega (arith, c .before .before .before .before .before .before .shared-slice-known .given j))) (bounded 2 (now (a .args .b)) (λ j. omega (arith, c .before .before .before .before .before .shared-slice-known2 .given j))))
+returns c = let a = c .before .before .before .before .before .before .before in c .before .before .two-sets .ensures ∙ two-as setLayout setLayout setLayout (λ (es fs : List Entry). result 238 2 es fs []) union (now (a .args .a)) (now (a .args .b)) (now (a .args .out)) (λ p q. union-table (entriesOf 2 (now (a .args .a))) (entriesOf 2 (now (a .args .b))) (bounded 2 (now (a .args .a)) (λ j. omega (arith, c .before .before .before .before .before .before .shared-slice-known .given j))) (bounded 2 (now (a .args .b)) (λ j. omega (arith, c .before .before .before .before .before .shared-slice-known2 .given j))))
 
 pub union-spec : {M : Type 1} → statement M
 union-spec = tie.close (tie.spec two-sets-requires same-length returns)

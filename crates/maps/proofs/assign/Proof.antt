@@ -1,0 +1,30 @@
+use Rattle.edits.proofs.Small.{edit-most}
+use Rattle.answers.proofs.Numbers.{numbered-as}
+use native.Mathlib.Omega.{arith}
+use borrow.Author.Needs.{needs}
+use Rattle.maps.proofs.assign.Statement.{statement}
+use Rattle.maps.proofs.assign.Tie as tie
+use Rattle.maps.proofs.assign.Reads as reads
+use Rattle.maps.proofs.assign.Lts as lts
+use Rattle.answers.proofs.judged_of.Reads as judged-of-reads
+use Rattle.edits.proofs.edit_put.Reads as edit-put-reads
+
+slice-aggregate-edit-put : tie.Need-slice-aggregate-edit-put
+slice-aggregate-edit-put c = search needs
+
+edit-put-requires : tie.Need-edit-put-requires
+edit-put-requires c κs = search needs
+
+judged-of-requires : tie.Need-judged-of-requires
+judged-of-requires c κs = search needs
+
+same-length : tie.Need-same-length
+same-length c = search needs
+
+returns : tie.Need-returns
+returns c = numbered-as 0 (c .judged-of .ensures) (edit-most _ _ _ _ _ _ (c .before .before .before .before .edit-put .result) _ (c .before .before .before .before .edit-put .ensures)) (c .before .before .before .before .edit-put .ensures)
+
+pub assign-spec : {M : Type 1} → statement M
+assign-spec =
+    tie.close
+    (tie.spec slice-aggregate-edit-put edit-put-requires judged-of-requires same-length returns)

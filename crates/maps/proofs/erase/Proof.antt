@@ -1,0 +1,25 @@
+use Rattle.edits.proofs.Small.{edit-most}
+use Rattle.answers.proofs.Numbers.{numbered-as}
+use native.Mathlib.Omega.{arith}
+use borrow.Author.Needs.{needs}
+use Rattle.maps.proofs.erase.Statement.{statement}
+use Rattle.maps.proofs.erase.Tie as tie
+use Rattle.maps.proofs.erase.Reads as reads
+use Rattle.maps.proofs.erase.Lts as lts
+use Rattle.answers.proofs.judged_of.Reads as judged-of-reads
+use Rattle.edits.proofs.edit_out.Reads as edit-out-reads
+
+edit-out-requires : tie.Need-edit-out-requires
+edit-out-requires c κs = search needs
+
+judged-of-requires : tie.Need-judged-of-requires
+judged-of-requires c κs = search needs
+
+same-length : tie.Need-same-length
+same-length c = search needs
+
+returns : tie.Need-returns
+returns c = numbered-as 0 (c .judged-of .ensures) (edit-most _ _ _ _ _ _ (c .before .before .before .edit-out .result) _ (c .before .before .before .edit-out .ensures)) (c .before .before .before .edit-out .ensures)
+
+pub erase-spec : {M : Type 1} → statement M
+erase-spec = tie.close (tie.spec edit-out-requires judged-of-requires same-length returns)

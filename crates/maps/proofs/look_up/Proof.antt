@@ -1,0 +1,32 @@
+use denote.Ref.{now}
+use mathlib.Core.Path.{sym, _∙_}
+use Rattle.blocks.proofs.Judging.{verdict-sound}
+use Rattle.maps.proofs.Looking.{look-refused, look-given}
+use native.Mathlib.Omega.{arith}
+use borrow.Author.Needs.{needs}
+use Rattle.maps.proofs.look_up.Statement.{statement}
+use Rattle.maps.proofs.look_up.Tie as tie
+use Rattle.maps.proofs.look_up.Reads as reads
+use Rattle.maps.proofs.look_up.Lts as lts
+use Rattle.answers.proofs.refusal_of.Reads as refusal-of-reads
+use Rattle.blocks.proofs.judge.Reads as judge-reads
+use Rattle.maps.proofs.value_in.Reads as value-in-reads
+
+judge-requires : tie.Need-judge-requires
+judge-requires c κs = search needs
+
+refusal-of-requires : tie.Need-refusal-of-requires
+refusal-of-requires c κs = search needs
+
+returns : tie.Need-returns
+returns c = let a = c .before .before .before .before in look-refused (now (a .args .block)) (a .args .x) (c .before .before .judge .result) (c .refusal-of .result) (c .before .before .judge .ensures) (c .before .if1 .taken) (c .refusal-of .ensures)
+
+value-in-requires : tie.Need-value-in-requires
+value-in-requires c κs = verdict-sound 3 2730 (now (c .before .before .before .args .block)) (sym (c .before .judge .ensures) ∙ c .if1 .left)
+
+returns-2 : tie.Need-returns-2
+returns-2 c = let a = c .before .before .before .before in look-given (now (a .args .block)) (a .args .x) (c .before .before .judge .result) _ (c .before .before .judge .ensures) (c .before .if1 .left) (c .value-in .ensures)
+
+pub look-up-spec : {M : Type 1} → statement M
+look-up-spec =
+    tie.close (tie.spec judge-requires refusal-of-requires returns value-in-requires returns-2)
