@@ -5,6 +5,7 @@ use mathlib.Core.Option.{Option, none, some}
 use mathlib.Core.List.{List, [], _∷_}
 use Prim.Native.Nat.{ℕ, zero, suc, _+_, _*_, _-_, _≤_, _<_}
 use native.Mathlib.Omega.{arith}
+use native.Mathlib.Decide.{ℕ-discrete}
 use native.Mathlib.Nat.{mul-suc, mul-zero}
 use lib.ListN.{length, getD, take, drop}
 use lib.Seq.{drop-drop}
@@ -210,6 +211,14 @@ module _ (s : ℕ) (w : List ℕ) (x : ℕ) (g : Input s w) where
         go zero e t = absurd (m (omega (arith, mul-suc s zero, mul-zero s)))
         go (suc k) e t = t .1 .0
 
+    -- and in a set not right behind it
+    later-apart : s ≡ 2 → (b + s ≡ 1 + s * getD w 0 0 → ⊥) → getD w (b + s) 0 ≡ suc (getD w (b + 1) 0) → ⊥
+    later-apart z m d = go (f .more) (f .ends) (f .sound)
+      where
+        go : (k : ℕ) → b + s * suc k ≡ 1 + s * getD w 0 0 → Sound (items s (suc k) b w) → ⊥
+        go zero e t = m (omega (arith, mul-suc s zero, mul-zero s))
+        go (suc k) e t = t .1 .1 d (rw z)
+
     later-here : (b + s ≡ 1 + s * getD w 0 0 → ⊥) → b + s + s ≤ length w
     later-here m = here s w (getD w (b + 1) 0 + 1) (b + s) g (pass s w x b g f (getD w (b + 1) 0) refl) m
 
@@ -241,6 +250,9 @@ module _ (s : ℕ) (w : List ℕ) (x : ℕ) (g : Input s w) where
     -- the item's words
     pub in-here : p + s ≤ 1 + length w
     in-here = omega (arith, o .place, here s w x (o .base) g (o .cur) (o .side .0))
+
+    pub in-not-end : p ≡ end → ⊥
+    in-not-end e = let k = not-end s w g (o .base) (o .cur .left) (o .cur .ends) (o .side .0) in omega (arith, o .place, o .end, g .two)
 
     module _ (h q : ℕ) (eh : h ≡ getD w p 0) (eq : q ≡ p + (s - 1)) where
       high-is : getD w (o .base + 1) 0 ≡ h
@@ -274,3 +286,30 @@ module _ (s : ℕ) (w : List ℕ) (x : ℕ) (g : Input s w) where
 
         pub leave-apart : (l : ℕ) → l ≡ getD w q 0 → (l - h ≡ 1 → ⊥) → TurnAt s w x (cursor p true end) (turn h (cursor q false end))
         leave-apart l el z = turned q false (omega arith) (λ m. omega (arith, next-later))
+
+      -- in a set
+      pub leave-set : s ≡ 2 → TurnAt s w x (cursor p true end) (turn h (cursor q false end))
+      leave-set z = go (ℕ-discrete q end)
+        where
+          go : Dec (q ≡ end) → TurnAt s w x (cursor p true end) (turn h (cursor q false end))
+          go (yes e) = leave-last e
+          go (no n) =
+              leave-apart n (getD w q 0) refl
+              (λ e. later-apart (o .base) end (o .cur) (o .side .0) (o .side .1) (o .end) z (not-last n)
+              (ap (λ (i : ℕ). getD w i 0) next-is ∙ omega (arith, next-later n) ∙ ap suc (sym high-is)))
+
+  -- at the end, whatever the cursor says of itself
+  pub turn-end : {c : Cursor} → Point s w x c → c .place ≡ c .end → x < 18446744073709551616 → TurnAt s w x c (turn 18446744073709551615 c)
+  turn-end {c} o e f = go (c .inside) refl
+    where
+      go : (t : Bool) → c .inside ≡ t → TurnAt s w x c (turn 18446744073709551615 c)
+      go true z = absurd (in-not-end (point-as true z o) e)
+      go false z = subst (λ (d : Cursor). TurnAt s w x d (turn 18446744073709551615 d)) (cursor-is c false z) (turn-none (point-as false z o) e f)
+
+  -- before the end a word stands at the cursor
+  pub word-here : {c : Cursor} → Point s w x c → (c .place ≡ c .end → ⊥) → c .place < length w
+  word-here {c} o n = go (c .inside) refl
+    where
+      go : (t : Bool) → c .inside ≡ t → c .place < length w
+      go true z = omega (arith, in-here (point-as true z o), g .two)
+      go false z = omega (arith, out-here (point-as false z o) n, g .two)

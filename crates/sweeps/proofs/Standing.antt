@@ -9,27 +9,35 @@ use native.Mathlib.Nat.{mul-le-mul-left}
 use native.Mathlib.Numerals.{add-one}
 use lib.ListN.{length}
 use Rattle.entries.specs.Entries.{Value, Entry}
-use Rattle.entries.specs.Build.{pick}
+use Rattle.entries.specs.Build.{pick, andb}
 use Rattle.entries.proofs.Canon.{unique}
 use Rattle.entries.proofs.Step.{Upto, upto-start, upto-end}
 use Rattle.entries.proofs.Bounds.{prev}
-use Rattle.sweeps.specs.Cursors.{items, shown, valueOf, sweptOf, resultOf, Points, SegmentAt, sameAs, begins, grow, Room, Holds, Stopped}
+use Rattle.sweeps.specs.Cursors.{items, shown, valueOf, sweptOf, resultOf, Points, SegmentAt, sameAs, bit, begins, grow, Addable, Holds, Stopped}
 use Rattle.sweeps.specs.declared.Plan.{Plan}
 use Rattle.sweeps.specs.declared.Words.{Words}
 use Rattle.sweeps.specs.declared.Cursor.{Cursor}
 use Rattle.sweeps.specs.declared.Segment.{Segment}
 use Rattle.sweeps.proofs.Tables.{swept-above, result-is}
-use Rattle.sweeps.proofs.Growing.{grow-step, joins-some, length-grow, begins-one, no-longer}
+use Rattle.sweeps.proofs.Growing.{grow-and, grow-step, joins-some, length-grow, begins-one, no-longer}
 
 pub result-lists : (plan : Plan) (a b c : List ℕ) → Rattle.entries.specs.Entries.ListOf (sweptOf plan a b c) (resultOf plan a b c)
 result-lists plan a b c = result-is (plan .table) (plan .out) _ _ _
 
--- room for what a segment adds
-room-made : (keep : Bool) (s n l m : ℕ) (u q : Bool) → 1 + s * pick keep l 0 ≤ m → n + begins u q ≤ l → (q ≡ true → 0 < n) → n < 18446744073709551615 → Room keep s n u q m
-room-made false s n l m u q h k z w = w
-room-made true s n l m false q h k z w = omega (arith, mul-le-mul-left {m = n} {n = l} s (omega arith))
-room-made true s n l m true true h k z w = (z refl, omega (arith, mul-le-mul-left {m = n} {n = l} s (omega arith)))
-room-made true s n l m true false h k z w = omega (arith, mul-le-mul-left {m = suc n} {n = l} s (omega arith))
+-- a value that goes on is there
+less-and : (u q : Bool) → bit (andb u q) ≤ bit u
+less-and true true = omega arith
+less-and true false = omega arith
+less-and false q = omega arith
+
+bit-and : (u q : Bool) (n : ℕ) → (q ≡ true → 0 < n) → bit (andb u q) ≤ n
+bit-and true true n h = h refl
+bit-and true false n h = omega arith
+bit-and false q n h = omega arith
+
+room-made : (keep : Bool) (s n l m : ℕ) → 1 + s * pick keep l 0 ≤ m → n ≤ l → 1 + s * pick keep n 0 ≤ m
+room-made true s n l m h k = omega (arith, mul-le-mul-left {m = n} {n = l} s k)
+room-made false s n l m h k = h
 
 -- the sweep stands at x: the cursors, the value right before x, the list made so far, and that it is stored
 pub record Standing (plan : Plan) (a b c : List ℕ) (keep : Bool) (x : ℕ) (i j k : Cursor) (was : Bool) (v : Words) (n : ℕ) (o : List ℕ) : Type 0 where
@@ -64,22 +72,27 @@ module _ {plan : Plan} {a b c : List ℕ} {keep : Bool} {x : ℕ} {i j k : Curso
   pub stopped-early : (stop : ℕ) → n ≤ stop → stop ≤ n → Stopped keep (plan .out) stop (resultOf plan a b c) n o
   stopped-early stop l m = record { size = omega (arith, most); holds = λ z. absurd (omega (arith, most)) }
 
-  module _ {r : Segment} (g : SegmentAt plan a b c x r) {q : Bool} (e : q ≡ sameAs (shown was (valueOf (plan .out) v)) (valueOf (plan .out) (r .value))) where
+  module _ {r : Segment} (g : SegmentAt plan a b c x r) {q : Bool} (e : q ≡ andb (r .inside) (sameAs (shown was (valueOf (plan .out) v)) (valueOf (plan .out) (r .value)))) where
     abbrev next : List Entry → List Entry
     next es = grow (r .inside) q es x (r .last) (valueOf (plan .out) (r .value))
 
     next-upto : Upto (sweptOf plan a b c) (suc (r .last)) (next (h .list))
-    next-upto = rw (e, h .before) (grow-step (sweptOf plan a b c) x (h .list) (r .last) (valueOf (plan .out) (r .value)) (r .inside) (g .from-x) (h .upto) (g .same))
+    next-upto = rw (e, grow-and (r .inside) (sameAs (shown was (valueOf (plan .out) v)) (valueOf (plan .out) (r .value))) (h .list) x (r .last) (valueOf (plan .out) (r .value)), h .before) (grow-step (sweptOf plan a b c) x (h .list) (r .last) (valueOf (plan .out) (r .value)) (r .inside) (g .from-x) (h .upto) (g .same))
 
     next-size : length (next (h .list)) ≡ n + begins (r .inside) q
     next-size = omega (arith, h .size, length-grow (r .inside) q (h .list) x (r .last) (valueOf (plan .out) (r .value)))
 
-    pub standing-room : (len : ℕ) → 1 + plan .out * pick keep (length (resultOf plan a b c)) 0 ≤ len → n < 18446744073709551615 → Room keep (plan .out) n (r .inside) q len
-    standing-room len f w =
-        room-made keep (plan .out) n (length (resultOf plan a b c)) len (r .inside) q f
-        (omega (arith, next-size, no-longer (sweptOf plan a b c) (suc (r .last)) (next (h .list)) (resultOf plan a b c) next-upto (result-lists plan a b c)))
-        (λ z. omega (arith, h .size, joins-some (sweptOf plan a b c) x (h .list) (valueOf (plan .out) (r .value)) (h .upto) (ap (λ (p : Option Value). sameAs p (valueOf (plan .out) (r .value))) (sym (h .before)) ∙ sym e ∙ z)))
-        w
+    pub standing-room : (len : ℕ) → 2 ≤ plan .out → plan .out ≤ 4 → 1 + plan .out * pick keep (length (resultOf plan a b c)) 0 ≤ len → n < 18446744073709551615 → Addable keep (plan .out) n (r .inside) q len
+    standing-room len two four f w = record {
+      two = two;
+      four = four;
+      few = w;
+      from-one = rw e (bit-and (r .inside) _ n
+          (λ z. omega (arith, h .size, joins-some (sweptOf plan a b c) x (h .list) (valueOf (plan .out) (r .value)) (h .upto) (ap (λ (p : Option Value). sameAs p (valueOf (plan .out) (r .value))) (sym (h .before)) ∙ z))));
+      goes-on = rw e (less-and (r .inside) _);
+      room = room-made keep (plan .out) (n + begins (r .inside) q) (length (resultOf plan a b c)) len f
+          (omega (arith, next-size, no-longer (sweptOf plan a b c) (suc (r .last)) (next (h .list)) (resultOf plan a b c) next-upto (result-lists plan a b c)));
+    }
 
     module _ {n′ : ℕ} (o′ : List ℕ) (m : (n′ ≡ n + begins (r .inside) q) × Holds keep (plan .out) n′ o′ (next (items (plan .out) n 1 o))) where
       next-holds : Holds keep (plan .out) n′ o′ (next (h .list))

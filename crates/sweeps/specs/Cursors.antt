@@ -107,39 +107,44 @@ sameAs (some u) v = sameWords u v
 
 -- a segment with a value that does not go on begins an entry
 abbrev pub begins : Bool → Bool → ℕ
-begins true true = 0
-begins true false = 1
-begins false j = 0
+begins inside join = bit inside - bit join
 
--- the last entry made to end at h
-abbrev pub raise : List Entry → ℕ → List Entry
-raise [] h = []
-raise (l ∷ []) h = entry (l .low) h (l .value) ∷ []
-raise (e ∷ f ∷ es) h = e ∷ raise (f ∷ es) h
+-- the last entry made to end at h; its value is v already
+abbrev pub raise : List Entry → ℕ → Value → List Entry
+raise [] h v = []
+raise (l ∷ []) h v = entry (l .low) h v ∷ []
+raise (e ∷ f ∷ es) h v = e ∷ raise (f ∷ es) h v
 
 -- the segment x..h put behind a list
 abbrev pub grow : Bool → Bool → List Entry → ℕ → ℕ → Value → List Entry
 grow false j es x h v = es
-grow true true es x h v = raise es h
+grow true true es x h v = raise es h v
 grow true false es x h v = es ++ entry x h v ∷ []
 
--- room in l words for n items and the segment, where items are stored
-abbrev pub Room : Bool → ℕ → ℕ → Bool → Bool → ℕ → Type 0
-Room false s n inside join l = n < 18446744073709551615
-Room true s n false join l = 1 + s * n ≤ l
-Room true s n true true l = (0 < n) × (1 + s * n ≤ l)
-Room true s n true false l = 1 + s * suc n ≤ l
+-- a segment can be added to n items in l words: it goes on only with a value and from an item, and where items are stored there is room
+pub record Addable (keep : Bool) (s n : ℕ) (inside join : Bool) (l : ℕ) : Type 0 where
+  pub two : 2 ≤ s
+  pub four : s ≤ 4
+  pub few : n < 18446744073709551615
+  pub from-one : bit join ≤ n
+  pub goes-on : bit join ≤ bit inside
+  pub room : 1 + s * pick keep (n + begins inside join) 0 ≤ l
 
 -- the n items behind word 0 are es, where items are stored
 abbrev pub Holds : Bool → ℕ → ℕ → List ℕ → List Entry → Type 0
 Holds true s n o es = items s n 1 o ≡ es
 Holds false s n o es = Unit {0}
 
--- the words below q kept, and an item laid at q
+-- the words below q kept, and an item laid at q, if it has room
 pub record Laid (s : ℕ) (d : List ℕ) (q x h : ℕ) (v : Value) (o : List ℕ) : Type 0 where
   pub long : length o ≡ length d
   pub kept : (j : ℕ) → j < q → getD o j 0 ≡ getD d j 0
-  pub item : itemFrom s o q ≡ entry x h v
+  pub item : q + s ≤ length d → itemFrom s o q ≡ entry x h v
+
+-- item k laid with its own low end, where it goes on, or with x, where items are stored
+abbrev pub Stored : Bool → ℕ → List ℕ → ℕ → Bool → ℕ → ℕ → Value → List ℕ → Type 0
+Stored true s d k join x h v o = Laid s d (1 + s * k) (pick join (getD d (1 + s * k) 0) x) h v o
+Stored false s d k join x h v o = Unit {0}
 
 -- what a sweep that stops at `stop` items answers and stores
 pub record Stopped (keep : Bool) (s stop : ℕ) (es : List Entry) (r : ℕ) (o : List ℕ) : Type 0 where

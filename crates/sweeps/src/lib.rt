@@ -6,10 +6,10 @@ ghost use mathlib.Core.List.{[], _∷_};
 ghost use Prim.Native.Nat.{_+_, _*_, _-_, _≤_, _<_, min};
 ghost use lib.Dec.{leb, ltb, eqb};
 ghost use lib.ListN.{length, getD, take, drop};
-ghost use Rattle.entries.specs.Build.{pick, sameWords};
+ghost use Rattle.entries.specs.Build.{pick, andb, sameWords};
 ghost use Rattle.blocks.specs.Blocks.{blockOf};
 ghost use Rattle.sweeps.specs.Sweeps.{Inputs, Input, Fit, halved, accepts};
-ghost use Rattle.sweeps.specs.Cursors.{cursor, items, shown, valueOf, valueBehind, resultOf, Point, TurnAt, Points, firstBehind, SegmentAt, sameAs, begins, grow, Room, Holds, Laid, Stopped};
+ghost use Rattle.sweeps.specs.Cursors.{cursor, items, shown, valueOf, valueBehind, resultOf, Point, TurnAt, Points, firstBehind, SegmentAt, sameAs, bit, begins, grow, Addable, Holds, Laid, Stored, Stopped};
 
 const M: u64 = 18446744073709551615;
 
@@ -118,12 +118,48 @@ fn leave(w: &[u64], s: usize, p: usize, end: usize, x: u64) -> Turn
     }
 }
 
+// The run at x in a set, whose words are low and high ends in turn, and no item touches the next.
+fn flip(w: &[u64], s: usize, c: Cursor, x: u64) -> Turn
+    requires { ⌜ Input s (now w) ⌝ }
+    requires { ⌜ Point s (now w) x c ⌝ }
+    requires { ⌜ s ≡ 2 ⌝ }
+    ensures { λ r. ⌜ TurnAt s (now (w .entry)) x c r ⌝ }
+{
+    let p = c.place;
+    let end = c.end;
+    if p == end {
+        return Turn { last: M, then: c };
+    }
+    let end_word = blocks::word(w, p);
+    if c.inside {
+        return Turn {
+            last: end_word,
+            then: Cursor {
+                place: p + 1,
+                inside: false,
+                end: end,
+            },
+        };
+    }
+    Turn {
+        last: end_word - 1,
+        then: Cursor {
+            place: p + 1,
+            inside: true,
+            end: end,
+        },
+    }
+}
+
 // The run at x. Only the contract names x.
 fn run_at(w: &[u64], s: usize, c: Cursor, x: u64) -> Turn
     requires { ⌜ Input s (now w) ⌝ }
     requires { ⌜ Point s (now w) x c ⌝ }
     ensures { λ r. ⌜ TurnAt s (now (w .entry)) x c r ⌝ }
 {
+    if s == 2 {
+        return flip(w, s, c, x);
+    }
     let p = c.place;
     let end = c.end;
     if c.inside {
@@ -288,12 +324,18 @@ fn same_value(s: usize, u: Words, v: Words) -> bool
     false
 }
 
-// Whether the value v goes on from the number before.
-fn joins(s: usize, was: bool, u: Words, v: Words) -> bool
+// Whether a segment with the value v goes on from the number before.
+fn joins(s: usize, inside: bool, was: bool, u: Words, v: Words) -> bool
     requires { ⌜ (2 ≤ s) × (s ≤ 4) ⌝ }
-    ensures { λ r. ⌜ r ≡ sameAs (shown was (valueOf s u)) (valueOf s v) ⌝ }
+    ensures { λ r. ⌜ r ≡ andb inside (sameAs (shown was (valueOf s u)) (valueOf s v)) ⌝ }
 {
-    if was { same_value(s, u, v) } else { false }
+    if inside {
+        if was {
+            return same_value(s, u, v);
+        }
+        return false;
+    }
+    false
 }
 
 // An item into the s words from q on.
@@ -313,27 +355,44 @@ fn lay(o: &mut [u64], s: usize, q: usize, x: u64, h: u64, v: Words)
     o[q + 3] = v.second;
 }
 
-// The segment from x to h stored behind the n items of o: as a new item, or into the last one.
-fn put(o: &mut [u64], s: usize, n: usize, join: bool, x: u64, h: u64, v: Words)
-    requires { ⌜ (2 ≤ s) × (s ≤ 4) × Room true s n true join (length (now o)) ⌝ }
-    ensures { λ _. ⌜ items s (n + begins true join) 1 (now (o .exit)) ≡ grow true join (items s n 1 (now (o .entry))) x h (valueOf s v) ⌝ }
+fn either(b: bool, x: u64, y: u64) -> u64
+    ensures { λ r. ⌜ r ≡ pick b x y ⌝ }
 {
-    if join {
-        let at = 2 + s * (n - 1);
-        o[at] = h;
+    if b { x } else { y }
+}
+
+// The segment from x to h as item k of o, where keep says so: its low end stays where it goes on. Without a value it is stored too, behind
+// the items and as far as o goes, since a test would cost more than the words.
+fn store(o: &mut [u64], s: usize, k: usize, keep: bool, join: bool, x: u64, h: u64, v: Words)
+    requires { ⌜ (2 ≤ s) × (s ≤ 4) × (1 + s * pick keep k 0 ≤ length (now o)) ⌝ }
+    ensures { λ _. ⌜ Stored keep s (now (o .entry)) k join x h (valueOf s v) (now (o .exit)) ⌝ }
+{
+    if keep {
+        let q = 1 + s * k;
+        if s <= o.len() - q {
+            let low = either(join, o[q], x);
+            lay(o, s, q, low, h, v);
+            return;
+        }
         return;
     }
-    lay(o, s, 1 + s * n, x, h, v);
 }
 
-fn grown(n: usize, join: bool) -> usize
-    requires { ⌜ n < 18446744073709551615 ⌝ }
-    ensures { λ r. ⌜ r ≡ n + begins true join ⌝ }
+fn less(n: usize, join: bool) -> usize
+    requires { ⌜ bit join ≤ n ⌝ }
+    ensures { λ r. ⌜ r ≡ n - bit join ⌝ }
 {
-    if join { n } else { n + 1 }
+    if join { n - 1 } else { n }
 }
 
-// How many items there are with the segment from x to h, which is stored where keep says so.
+fn more(k: usize, inside: bool) -> usize
+    requires { ⌜ k < 18446744073709551615 ⌝ }
+    ensures { λ r. ⌜ r ≡ k + bit inside ⌝ }
+{
+    if inside { k + 1 } else { k }
+}
+
+// How many items there are with the segment from x to h, which is stored where keep says so: as a new item, or into the last one.
 fn add(
     o: &mut [u64],
     s: usize,
@@ -345,17 +404,12 @@ fn add(
     h: u64,
     v: Words,
 ) -> usize
-    requires { ⌜ (2 ≤ s) × (s ≤ 4) × Room keep s n inside join (length (now o)) ⌝ }
+    requires { ⌜ Addable keep s n inside join (length (now o)) ⌝ }
     ensures { λ r. ⌜ (r ≡ n + begins inside join) × Holds keep s r (now (o .exit)) (grow inside join (items s n 1 (now (o .entry))) x h (valueOf s v)) ⌝ }
 {
-    if inside {
-        if keep {
-            put(o, s, n, join, x, h, v);
-            return grown(n, join);
-        }
-        return grown(n, join);
-    }
-    n
+    let k = less(n, join);
+    store(o, s, k, keep, join, x, h, v);
+    more(k, inside)
 }
 
 // How many items the result has, as far as they are fewer than stop. Where keep says so and all were met, they stand in o behind word 0.
@@ -386,7 +440,7 @@ fn sweep(
     while n < stop {
         let s = segment_at(a, b, c, plan, i, j, k, x);
         let v = s.value;
-        let join = joins(plan.out, was, before, v);
+        let join = joins(plan.out, s.inside, was, before, v);
         n = add(o, plan.out, n, keep, s.inside, join, x, s.last, v);
         if s.last == M {
             return n;

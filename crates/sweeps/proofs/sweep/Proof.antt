@@ -46,7 +46,7 @@ add-requires : tie.Need-add-requires Inv-loop μ-loop
 add-requires c κs =
     let a = c .before .before .before .before .before .before .before .before .before .before .before .before .before in
     let l = c .before .before .before .before .before .loop in
-    (a .pre .1 .0 .two, a .pre .1 .0 .four, standing-room (l .inv .0) (c .before .before .before .segment-at .ensures) (c .before .joins .ensures) (length (l .o)) (omega (arith, a .pre .1 .1, l .inv .2)) (omega (arith, c .before .before .before .before .loop-test .taken)))
+    standing-room (l .inv .0) (c .before .before .before .segment-at .ensures) (c .before .joins .ensures) (length (l .o)) (a .pre .1 .0 .two) (a .pre .1 .0 .four) (omega (arith, a .pre .1 .1, l .inv .2)) (omega (arith, c .before .before .before .before .loop-test .taken))
 
 same-length : tie.Need-same-length Inv-loop μ-loop
 same-length c = search needs
