@@ -18,9 +18,8 @@ use Rattle.blocks.specs.Blocks.{itemsOf, entriesOf}
 use Rattle.blocks.specs.Steps.{itemFrom}
 use Rattle.blocks.proofs.Tests.{item-from}
 use Rattle.sweeps.specs.Sweeps.{Input}
-use Rattle.sweeps.specs.Cursors.{items, cursor, turn, valueBehind, Ahead, Cur, bit, Sided, Point, TurnAt}
 use Rattle.sweeps.specs.declared.Cursor.{Cursor}
-use Rattle.sweeps.specs.declared.Turn.{Turn}
+use Rattle.sweeps.specs.Cursors.{Turn, items, cursor, turn, valueBehind, Ahead, Cur, bit, Sided, Point, TurnAt}
 
 -- items by place and by what is left of the words
 pub items-are : (s k p : ℕ) (w : List ℕ) → items s k p w ≡ itemsOf s k (drop p w)

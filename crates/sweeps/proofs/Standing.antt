@@ -13,10 +13,11 @@ use Rattle.entries.specs.Build.{pick, andb}
 use Rattle.entries.proofs.Canon.{unique}
 use Rattle.entries.proofs.Step.{Upto, upto-start, upto-end}
 use Rattle.entries.proofs.Bounds.{prev}
-use Rattle.sweeps.specs.Cursors.{items, shown, valueOf, sweptOf, resultOf, Points, SegmentAt, sameAs, bit, begins, grow, Addable, Holds, Stopped}
+use Rattle.sweeps.specs.Cursors.{items, shown, valueOf, sweptOf, resultOf, PointsAt, SegmentAt, sameAs, bit, begins, grow, Addable, Holds, Stopped}
 use Rattle.sweeps.specs.declared.Plan.{Plan}
 use Rattle.sweeps.specs.declared.Words.{Words}
-use Rattle.sweeps.specs.declared.Cursor.{Cursor}
+use Rattle.sweeps.specs.declared.Places.{Places}
+use Rattle.sweeps.specs.declared.Sides.{Sides}
 use Rattle.sweeps.specs.declared.Segment.{Segment}
 use Rattle.sweeps.proofs.Tables.{swept-above, result-is}
 use Rattle.sweeps.proofs.Growing.{grow-and, grow-step, joins-some, length-grow, begins-one, no-longer}
@@ -40,17 +41,17 @@ room-made true s n l m h k = omega (arith, mul-le-mul-left {m = n} {n = l} s k)
 room-made false s n l m h k = h
 
 -- the sweep stands at x: the cursors, the value right before x, the list made so far, and that it is stored
-pub record Standing (plan : Plan) (a b c : List ℕ) (keep : Bool) (x : ℕ) (i j k : Cursor) (was : Bool) (v : Words) (n : ℕ) (o : List ℕ) : Type 0 where
+pub record Standing (plan : Plan) (a b c : List ℕ) (keep : Bool) (x : ℕ) (at : Places) (sides : Sides) (ends : Places) (was : Bool) (v : Words) (n : ℕ) (o : List ℕ) : Type 0 where
   pub fits : x < 18446744073709551616
-  pub points : Points plan a b c x i j k
+  pub points : PointsAt plan a b c x at sides ends
   pub before : shown was (valueOf (plan .out) v) ≡ prev (sweptOf plan a b c) x
   pub list : List Entry
   pub upto : Upto (sweptOf plan a b c) x list
   pub size : n ≡ length list
   pub holds : Holds keep (plan .out) n o list
 
-pub standing-zero : (plan : Plan) (a b c : List ℕ) (keep : Bool) (i j k : Cursor) (v : Words) (o : List ℕ) → Points plan a b c 0 i j k → Standing plan a b c keep 0 i j k false v 0 o
-standing-zero plan a b c keep i j k v o h = record {
+pub standing-zero : (plan : Plan) (a b c : List ℕ) (keep : Bool) (at : Places) (sides : Sides) (ends : Places) (v : Words) (o : List ℕ) → PointsAt plan a b c 0 at sides ends → Standing plan a b c keep 0 at sides ends false v 0 o
+standing-zero plan a b c keep at sides ends v o h = record {
   fits = omega arith;
   points = h;
   before = refl;
@@ -64,7 +65,7 @@ standing-zero plan a b c keep i j k v o h = record {
     none true = refl
     none false = tt
 
-module _ {plan : Plan} {a b c : List ℕ} {keep : Bool} {x : ℕ} {i j k : Cursor} {was : Bool} {v : Words} {n : ℕ} {o : List ℕ} (h : Standing plan a b c keep x i j k was v n o) where
+module _ {plan : Plan} {a b c : List ℕ} {keep : Bool} {x : ℕ} {at : Places} {sides : Sides} {ends : Places} {was : Bool} {v : Words} {n : ℕ} {o : List ℕ} (h : Standing plan a b c keep x at sides ends was v n o) where
   most : n ≤ length (resultOf plan a b c)
   most = omega (arith, h .size, no-longer (sweptOf plan a b c) x (h .list) (resultOf plan a b c) (h .upto) (result-lists plan a b c))
 
@@ -72,7 +73,7 @@ module _ {plan : Plan} {a b c : List ℕ} {keep : Bool} {x : ℕ} {i j k : Curso
   pub stopped-early : (stop : ℕ) → n ≤ stop → stop ≤ n → Stopped keep (plan .out) stop (resultOf plan a b c) n o
   stopped-early stop l m = record { size = omega (arith, most); holds = λ z. absurd (omega (arith, most)) }
 
-  module _ {r : Segment} (g : SegmentAt plan a b c x r) {q : Bool} (e : q ≡ andb (r .inside) (sameAs (shown was (valueOf (plan .out) v)) (valueOf (plan .out) (r .value)))) where
+  module _ {r : Segment} (g : SegmentAt plan a b c x ends r) {q : Bool} (e : q ≡ andb (r .inside) (sameAs (shown was (valueOf (plan .out) v)) (valueOf (plan .out) (r .value)))) where
     abbrev next : List Entry → List Entry
     next es = grow (r .inside) q es x (r .last) (valueOf (plan .out) (r .value))
 
@@ -102,7 +103,7 @@ module _ {plan : Plan} {a b c : List ℕ} {keep : Bool} {x : ℕ} {i j k : Curso
           go true y z = y ∙ ap next z
           go false y z = tt
 
-      pub standing-next : (r .last ≡ 18446744073709551615 → ⊥) → Standing plan a b c keep (r .last + 1) (r .a) (r .b) (r .c) (r .inside) (r .value) n′ o′
+      pub standing-next : (r .last ≡ 18446744073709551615 → ⊥) → Standing plan a b c keep (r .last + 1) (r .at) (r .sides) ends (r .inside) (r .value) n′ o′
       standing-next ne = record {
         fits = omega (arith, g .fits);
         points = g .points;

@@ -14,7 +14,8 @@ use Rattle.sweeps.specs.Sweeps.{firstOf, swept, result}
 use Rattle.sweeps.specs.declared.Plan.{Plan}
 use Rattle.sweeps.specs.declared.Words.{Words}
 use Rattle.sweeps.specs.declared.Cursor.{Cursor}
-use Rattle.sweeps.specs.declared.Turn.{Turn}
+use Rattle.sweeps.specs.declared.Places.{Places}
+use Rattle.sweeps.specs.declared.Sides.{Sides}
 use Rattle.sweeps.specs.declared.Segment.{Segment}
 
 -- k items of s words from place p on
@@ -39,6 +40,11 @@ sweptOf plan a b c = swept (plan .table) (plan .out) (entriesOf (plan .a) a) (en
 
 abbrev pub resultOf : Plan → List ℕ → List ℕ → List ℕ → List Entry
 resultOf plan a b c = result (plan .table) (plan .out) (entriesOf (plan .a) a) (entriesOf (plan .b) b) (entriesOf (plan .c) c)
+
+-- the last number of a run, and the cursor behind it
+pub record Turn : Type 0 where
+  pub last : ℕ
+  pub then : Cursor
 
 abbrev pub cursor : ℕ → Bool → ℕ → Cursor
 cursor p b e = record { place = p; inside = b; end = e }
@@ -67,7 +73,7 @@ abbrev pub Sided : Bool → ℕ → List ℕ → ℕ → ℕ → Type 0
 Sided true s w x p = (p ≡ 1 + s * getD w 0 0 → ⊥) × (getD w p 0 ≤ x)
 Sided false s w x p = (p ≡ 1 + s * getD w 0 0 → ⊥) → x < getD w p 0
 
--- The cursor stands at x: outside at the low word of the next item or at the end, inside at its high word.
+-- The cursor stands at x: outside at the low word of the next item or at the end of the items, inside at the item's high word.
 pub record Point (s : ℕ) (w : List ℕ) (x : ℕ) (c : Cursor) : Type 0 where
   pub base : ℕ
   pub place : c .place ≡ base + bit (c .inside)
@@ -88,17 +94,20 @@ pub record Points (plan : Plan) (a b c : List ℕ) (x : ℕ) (i j k : Cursor) : 
   pub at-b : Point (plan .b) b x j
   pub at-c : Point (plan .c) c x k
 
+abbrev pub PointsAt : Plan → List ℕ → List ℕ → List ℕ → ℕ → Places → Sides → Places → Type 0
+PointsAt plan a b c x at sides ends = Points plan a b c x (cursor (at .a) (sides .a) (ends .a)) (cursor (at .b) (sides .b) (ends .b)) (cursor (at .c) (sides .c) (ends .c))
+
 -- the value of the first input that is inside
-abbrev pub firstBehind : Plan → List ℕ → List ℕ → List ℕ → Cursor → Cursor → Cursor → Value
-firstBehind plan a b c i j k = firstOf (shown (i .inside) (valueBehind (plan .a) a (i .place)))
-    (shown (j .inside) (valueBehind (plan .b) b (j .place))) (shown (k .inside) (valueBehind (plan .c) c (k .place)))
+abbrev pub firstBehind : Plan → List ℕ → List ℕ → List ℕ → Places → Sides → Value
+firstBehind plan a b c at sides = firstOf (shown (sides .a) (valueBehind (plan .a) a (at .a)))
+    (shown (sides .b) (valueBehind (plan .b) b (at .b))) (shown (sides .c) (valueBehind (plan .c) c (at .c)))
 
 -- from x to the last number of the segment the sweep gives one value, or none; the cursors behind it
-pub record SegmentAt (plan : Plan) (a b c : List ℕ) (x : ℕ) (s : Segment) : Type 0 where
+pub record SegmentAt (plan : Plan) (a b c : List ℕ) (x : ℕ) (ends : Places) (s : Segment) : Type 0 where
   pub from-x : x ≤ s .last
   pub fits : s .last < 18446744073709551616
   pub same : (y : ℕ) → x ≤ y → y ≤ s .last → sweptOf plan a b c y ≡ shown (s .inside) (valueOf (plan .out) (s .value))
-  pub points : Points plan a b c (s .last + 1) (s .a) (s .b) (s .c)
+  pub points : PointsAt plan a b c (s .last + 1) (s .at) (s .sides) ends
 
 -- whether a value goes on
 abbrev pub sameAs : Option Value → Value → Bool

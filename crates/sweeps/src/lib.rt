@@ -9,7 +9,7 @@ ghost use lib.ListN.{length, getD, take, drop};
 ghost use Rattle.entries.specs.Build.{pick, andb, sameWords};
 ghost use Rattle.blocks.specs.Blocks.{blockOf};
 ghost use Rattle.sweeps.specs.Sweeps.{Inputs, Input, Fit, halved, accepts};
-ghost use Rattle.sweeps.specs.Cursors.{cursor, items, shown, valueOf, valueBehind, resultOf, Point, TurnAt, Points, firstBehind, SegmentAt, sameAs, bit, begins, grow, Addable, Holds, Laid, Stored, Stopped};
+ghost use Rattle.sweeps.specs.Cursors.{cursor, turn, items, shown, valueOf, valueBehind, resultOf, Point, TurnAt, PointsAt, firstBehind, SegmentAt, sameAs, bit, begins, grow, Addable, Holds, Laid, Stored, Stopped};
 
 const M: u64 = 18446744073709551615;
 
@@ -28,6 +28,20 @@ pub struct Words {
     pub second: u64,
 }
 
+// A place in each input.
+pub struct Places {
+    pub a: usize,
+    pub b: usize,
+    pub c: usize,
+}
+
+// For each input, whether the sweep stands inside an item of it.
+pub struct Sides {
+    pub a: bool,
+    pub b: bool,
+    pub c: bool,
+}
+
 // Where a sweep stands in an input: outside at the low word of the next item or at the end of the items, inside at the item's high word.
 pub struct Cursor {
     pub place: usize,
@@ -35,10 +49,18 @@ pub struct Cursor {
     pub end: usize,
 }
 
-// The last number of a run, and the cursor behind it.
-pub struct Turn {
+// The three cursors.
+pub struct Starts {
+    pub at: Places,
+    pub sides: Sides,
+    pub ends: Places,
+}
+
+// The last number of a run, and the place and the side of the cursor behind it.
+pub struct Run {
     pub last: u64,
-    pub then: Cursor,
+    pub next: usize,
+    pub then: bool,
 }
 
 // The last number of a segment, whether it has a value, the value, and the cursors behind it.
@@ -46,12 +68,11 @@ pub struct Segment {
     pub last: u64,
     pub inside: bool,
     pub value: Words,
-    pub a: Cursor,
-    pub b: Cursor,
-    pub c: Cursor,
+    pub at: Places,
+    pub sides: Sides,
 }
 
-// The cursor at 0.
+// The cursor at 0: outside at the first low word, or inside the first item where that begins at 0.
 fn start(w: &[u64], s: usize) -> Cursor
     requires { ⌜ Input s (now w) ⌝ }
     ensures { λ r. ⌜ Point s (now (w .entry)) 0 r ⌝ }
@@ -79,110 +100,116 @@ fn start(w: &[u64], s: usize) -> Cursor
     }
 }
 
+// The three cursors at 0.
+fn begin(a: &[u64], b: &[u64], c: &[u64], plan: Plan) -> Starts
+    requires { ⌜ Inputs (plan .a) (plan .b) (plan .c) (now a) (now b) (now c) ⌝ }
+    ensures { λ r. ⌜ PointsAt plan (now (a .entry)) (now (b .entry)) (now (c .entry)) 0 (r .at) (r .sides) (r .ends) ⌝ }
+{
+    let i = start(a, plan.a);
+    let j = start(b, plan.b);
+    let k = start(c, plan.c);
+    Starts {
+        at: Places {
+            a: i.place,
+            b: j.place,
+            c: k.place,
+        },
+        sides: Sides {
+            a: i.inside,
+            b: j.inside,
+            c: k.inside,
+        },
+        ends: Places {
+            a: i.end,
+            b: j.end,
+            c: k.end,
+        },
+    }
+}
+
 // The run at x from inside an item whose high word stands at p: to its high end, and then into the next item where that touches it.
-fn leave(w: &[u64], s: usize, p: usize, end: usize, x: u64) -> Turn
+fn leave(w: &[u64], s: usize, p: usize, end: usize, x: u64) -> Run
     requires { ⌜ Input s (now w) ⌝ }
     requires { ⌜ Point s (now w) x (cursor p true end) ⌝ }
-    ensures { λ r. ⌜ TurnAt s (now (w .entry)) x (cursor p true end) r ⌝ }
+    ensures { λ r. ⌜ TurnAt s (now (w .entry)) x (cursor p true end) (turn (r .last) (cursor (r .next) (r .then) end)) ⌝ }
 {
     let high = blocks::word(w, p);
     let q = p + (s - 1);
     if q == end {
-        return Turn {
+        return Run {
             last: high,
-            then: Cursor {
-                place: q,
-                inside: false,
-                end: end,
-            },
+            next: q,
+            then: false,
         };
     }
     let low = blocks::word(w, q);
     if low - high == 1 {
-        return Turn {
+        return Run {
             last: high,
-            then: Cursor {
-                place: q + 1,
-                inside: true,
-                end: end,
-            },
+            next: q + 1,
+            then: true,
         };
     }
-    Turn {
+    Run {
         last: high,
-        then: Cursor {
-            place: q,
-            inside: false,
-            end: end,
-        },
+        next: q,
+        then: false,
     }
 }
 
 // The run at x in a set, whose words are low and high ends in turn, and no item touches the next.
-fn flip(w: &[u64], s: usize, c: Cursor, x: u64) -> Turn
+fn flip(w: &[u64], s: usize, p: usize, inside: bool, end: usize, x: u64) -> Run
     requires { ⌜ Input s (now w) ⌝ }
-    requires { ⌜ Point s (now w) x c ⌝ }
+    requires { ⌜ Point s (now w) x (cursor p inside end) ⌝ }
     requires { ⌜ s ≡ 2 ⌝ }
-    ensures { λ r. ⌜ TurnAt s (now (w .entry)) x c r ⌝ }
+    ensures { λ r. ⌜ TurnAt s (now (w .entry)) x (cursor p inside end) (turn (r .last) (cursor (r .next) (r .then) end)) ⌝ }
 {
-    let p = c.place;
-    let end = c.end;
     if p == end {
-        return Turn { last: M, then: c };
-    }
-    let end_word = blocks::word(w, p);
-    if c.inside {
-        return Turn {
-            last: end_word,
-            then: Cursor {
-                place: p + 1,
-                inside: false,
-                end: end,
-            },
+        return Run {
+            last: M,
+            next: p,
+            then: inside,
         };
     }
-    Turn {
-        last: end_word - 1,
-        then: Cursor {
-            place: p + 1,
-            inside: true,
-            end: end,
-        },
+    let found = blocks::word(w, p);
+    if inside {
+        return Run {
+            last: found,
+            next: p + 1,
+            then: false,
+        };
+    }
+    Run {
+        last: found - 1,
+        next: p + 1,
+        then: true,
     }
 }
 
 // The run at x. Only the contract names x.
-fn run_at(w: &[u64], s: usize, c: Cursor, x: u64) -> Turn
+fn run_at(w: &[u64], s: usize, p: usize, inside: bool, end: usize, x: u64) -> Run
     requires { ⌜ Input s (now w) ⌝ }
-    requires { ⌜ Point s (now w) x c ⌝ }
-    ensures { λ r. ⌜ TurnAt s (now (w .entry)) x c r ⌝ }
+    requires { ⌜ Point s (now w) x (cursor p inside end) ⌝ }
+    ensures { λ r. ⌜ TurnAt s (now (w .entry)) x (cursor p inside end) (turn (r .last) (cursor (r .next) (r .then) end)) ⌝ }
 {
     if s == 2 {
-        return flip(w, s, c, x);
+        return flip(w, s, p, inside, end, x);
     }
-    let p = c.place;
-    let end = c.end;
-    if c.inside {
+    if inside {
         return leave(w, s, p, end, x);
     }
     if p == end {
-        return Turn {
+        return Run {
             last: M,
-            then: Cursor {
-                place: p,
-                inside: false,
-                end: end,
-            },
+            next: p,
+            then: false,
         };
     }
     let low = blocks::word(w, p);
-    Turn {
+    Run {
         last: low - 1,
-        then: Cursor {
-            place: p + 1,
-            inside: true,
-            end: end,
-        },
+        next: p + 1,
+        then: true,
     }
 }
 
@@ -206,11 +233,18 @@ fn least(a: u64, b: u64) -> u64
     if a < b { a } else { b }
 }
 
-// The cursor behind a segment that ends at e: it turns where its run ends there.
-fn moved(c: Cursor, t: Turn, e: u64) -> Cursor
-    ensures { λ r. ⌜ r ≡ pick (eqb (t .last) e) (t .then) c ⌝ }
+// The place of a cursor behind a segment: that behind its run, where the run ends there too.
+fn moved(ends: bool, next: usize, p: usize) -> usize
+    ensures { λ r. ⌜ r ≡ pick ends next p ⌝ }
 {
-    if t.last == e { t.then } else { c }
+    if ends { next } else { p }
+}
+
+// And its side.
+fn turned(ends: bool, then: bool, inside: bool) -> bool
+    ensures { λ r. ⌜ r ≡ pick ends then inside ⌝ }
+{
+    if ends { then } else { inside }
 }
 
 // The words of a value behind place p, as many as an output of s words an item takes.
@@ -237,43 +271,44 @@ fn words_behind(w: &[u64], s: usize, p: usize) -> Words
     }
 }
 
+fn nothing() -> Words {
+    Words {
+        first: 0,
+        second: 0,
+    }
+}
+
 // The value of the first input that is inside, where the table accepts. A set has none to read.
 fn carried(
     a: &[u64],
     b: &[u64],
     c: &[u64],
     plan: Plan,
-    i: Cursor,
-    j: Cursor,
-    k: Cursor,
+    at: Places,
+    sides: Sides,
+    ends: Places,
     x: u64,
     kept: bool,
 ) -> Words
     requires { ⌜ Inputs (plan .a) (plan .b) (plan .c) (now a) (now b) (now c) ⌝ }
     requires { ⌜ Fit (plan .table) (plan .out) (plan .a) (plan .b) (plan .c) ⌝ }
-    requires { ⌜ Points plan (now a) (now b) (now c) x i j k ⌝ }
-    requires { ⌜ kept ≡ accepts (plan .table) (i .inside) (j .inside) (k .inside) ⌝ }
-    ensures { λ r. ⌜ shown kept (take (plan .out - 2) (firstBehind plan (now (a .entry)) (now (b .entry)) (now (c .entry)) i j k)) ≡ shown kept (valueOf (plan .out) r) ⌝ }
+    requires { ⌜ PointsAt plan (now a) (now b) (now c) x at sides ends ⌝ }
+    requires { ⌜ kept ≡ accepts (plan .table) (sides .a) (sides .b) (sides .c) ⌝ }
+    ensures { λ r. ⌜ shown kept (take (plan .out - 2) (firstBehind plan (now (a .entry)) (now (b .entry)) (now (c .entry)) at sides)) ≡ shown kept (valueOf (plan .out) r) ⌝ }
 {
     if plan.out == 2 {
-        return Words {
-            first: 0,
-            second: 0,
-        };
+        return nothing();
     }
     if kept {
-        if i.inside {
-            return words_behind(a, plan.out, i.place);
+        if sides.a {
+            return words_behind(a, plan.out, at.a);
         }
-        if j.inside {
-            return words_behind(b, plan.out, j.place);
+        if sides.b {
+            return words_behind(b, plan.out, at.b);
         }
-        return words_behind(c, plan.out, k.place);
+        return words_behind(c, plan.out, at.c);
     }
-    Words {
-        first: 0,
-        second: 0,
-    }
+    nothing()
 }
 
 // The segment that starts at x, with the three cursors at x.
@@ -282,28 +317,38 @@ fn segment_at(
     b: &[u64],
     c: &[u64],
     plan: Plan,
-    i: Cursor,
-    j: Cursor,
-    k: Cursor,
+    at: Places,
+    sides: Sides,
+    ends: Places,
     x: u64,
 ) -> Segment
     requires { ⌜ Inputs (plan .a) (plan .b) (plan .c) (now a) (now b) (now c) ⌝ }
     requires { ⌜ Fit (plan .table) (plan .out) (plan .a) (plan .b) (plan .c) ⌝ }
-    requires { ⌜ Points plan (now a) (now b) (now c) x i j k ⌝ }
-    ensures { λ r. ⌜ SegmentAt plan (now (a .entry)) (now (b .entry)) (now (c .entry)) x r ⌝ }
+    requires { ⌜ PointsAt plan (now a) (now b) (now c) x at sides ends ⌝ }
+    ensures { λ r. ⌜ SegmentAt plan (now (a .entry)) (now (b .entry)) (now (c .entry)) x ends r ⌝ }
 {
-    let ra = run_at(a, plan.a, i, x);
-    let rb = run_at(b, plan.b, j, x);
-    let rc = run_at(c, plan.c, k, x);
-    let e = least(least(ra.last, rb.last), rc.last);
-    let kept = accepted(plan.table, i.inside, j.inside, k.inside);
+    let i = run_at(a, plan.a, at.a, sides.a, ends.a, x);
+    let j = run_at(b, plan.b, at.b, sides.b, ends.b, x);
+    let k = run_at(c, plan.c, at.c, sides.c, ends.c, x);
+    let e = least(least(i.last, j.last), k.last);
+    let kept = accepted(plan.table, sides.a, sides.b, sides.c);
+    let value = carried(a, b, c, plan, at, sides, ends, x, kept);
+    let next = Places {
+        a: moved(i.last == e, i.next, at.a),
+        b: moved(j.last == e, j.next, at.b),
+        c: moved(k.last == e, k.next, at.c),
+    };
+    let then = Sides {
+        a: turned(i.last == e, i.then, sides.a),
+        b: turned(j.last == e, j.then, sides.b),
+        c: turned(k.last == e, k.then, sides.c),
+    };
     Segment {
         last: e,
         inside: kept,
-        value: carried(a, b, c, plan, i, j, k, x, kept),
-        a: moved(i, ra, e),
-        b: moved(j, rb, e),
-        c: moved(k, rc, e),
+        value: value,
+        at: next,
+        sides: then,
     }
 }
 
@@ -427,18 +472,16 @@ fn sweep(
     requires { ⌜ 1 + plan .out * pick keep (length (resultOf plan (now a) (now b) (now c))) 0 ≤ length (now o) ⌝ }
     ensures { λ r. ⌜ Stopped keep (plan .out) stop (resultOf plan (now (a .entry)) (now (b .entry)) (now (c .entry))) r (now (o .exit)) ⌝ }
 {
-    let mut i = start(a, plan.a);
-    let mut j = start(b, plan.b);
-    let mut k = start(c, plan.c);
+    let first = begin(a, b, c, plan);
+    let ends = first.ends;
+    let mut at = first.at;
+    let mut sides = first.sides;
     let mut x: u64 = 0;
     let mut was = false;
-    let mut before = Words {
-        first: 0,
-        second: 0,
-    };
+    let mut before = nothing();
     let mut n: usize = 0;
     while n < stop {
-        let s = segment_at(a, b, c, plan, i, j, k, x);
+        let s = segment_at(a, b, c, plan, at, sides, ends, x);
         let v = s.value;
         let join = joins(plan.out, s.inside, was, before, v);
         n = add(o, plan.out, n, keep, s.inside, join, x, s.last, v);
@@ -448,9 +491,8 @@ fn sweep(
         x = s.last + 1;
         was = s.inside;
         before = v;
-        i = s.a;
-        j = s.b;
-        k = s.c;
+        at = s.at;
+        sides = s.sides;
     }
     n
 }

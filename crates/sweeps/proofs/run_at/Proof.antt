@@ -35,13 +35,13 @@ word-requires c κs =
     let a = c .before .before .before .before in
     omega (arith, out-here (a .args .s) (now (a .args .w)) (a .args .x) (a .pre .0) (point-as false (c .before .if2 .left) (a .pre .1)) (c .if3 .left), a .pre .0 .two)
 
-sub-t10 : tie.Need-sub-t10
-sub-t10 c =
+sub-t9 : tie.Need-sub-t9
+sub-t9 c =
     let a = c .before .before .before .before .before in
     omega (arith, out-side (a .args .s) (now (a .args .w)) (a .args .x) (a .pre .0) (point-as false (c .before .before .if2 .left) (a .pre .1)) (c .before .if3 .left), c .word .ensures)
 
-add-t11 : tie.Need-add-t11
-add-t11 c =
+add-t10 : tie.Need-add-t10
+add-t10 c =
     let a = c .before .before .before .before .before in
     record { fits = omega (arith, out-here (a .args .s) (now (a .args .w)) (a .args .x) (a .pre .0) (point-as false (c .before .before .if2 .left) (a .pre .1)) (c .before .if3 .left), a .pre .0 .two) }
 
@@ -60,6 +60,6 @@ run-at-spec =
     returns-2
     returns-3
     word-requires
-    sub-t10
-    add-t11
+    sub-t9
+    add-t10
     returns-4)
