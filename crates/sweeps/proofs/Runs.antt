@@ -1,6 +1,6 @@
 -- What a cursor reads: the run at x, and where the cursor goes behind it.
 use mathlib.Core.Path.{_≡_, refl, sym, _∙_, ap, ap₂, subst}
-use mathlib.Core.Bool.{Bool, true, false}
+use mathlib.Core.Bool.{Bool, true, false, not}
 use mathlib.Core.Option.{Option, none, some}
 use mathlib.Core.List.{List, [], _∷_}
 use Prim.Native.Nat.{ℕ, zero, suc, _+_, _*_, _-_, _≤_, _<_}
@@ -17,9 +17,9 @@ use Rattle.entries.proofs.Sides.{val-in, val-past, none-under}
 use Rattle.blocks.specs.Blocks.{itemsOf, entriesOf}
 use Rattle.blocks.specs.Steps.{itemFrom}
 use Rattle.blocks.proofs.Tests.{item-from}
-use Rattle.sweeps.specs.Sweeps.{Input}
+use Rattle.sweeps.specs.Sweeps.{bit, Input}
 use Rattle.sweeps.specs.declared.Cursor.{Cursor}
-use Rattle.sweeps.specs.Cursors.{Turn, items, cursor, turn, valueBehind, Ahead, Cur, bit, Sided, Point, TurnAt}
+use Rattle.sweeps.specs.Cursors.{Turn, items, cursor, turn, valueBehind, Ahead, Cur, Sided, Point, TurnAt}
 
 -- items by place and by what is left of the words
 pub items-are : (s k p : ℕ) (w : List ℕ) → items s k p w ≡ itemsOf s k (drop p w)
@@ -312,3 +312,23 @@ module _ (s : ℕ) (w : List ℕ) (x : ℕ) (g : Input s w) where
       go : (t : Bool) → c .inside ≡ t → c .place < length w
       go true z = omega (arith, in-here (point-as true z o), g .two)
       go false z = omega (arith, out-here (point-as false z o) n, g .two)
+
+  -- in a set, before the end: the word found is the run's last number, or the first behind it
+  module _ {p end : ℕ} {inside : Bool} (o : Point s w x (cursor p inside end)) (z : s ≡ 2) (n : p ≡ end → ⊥) (h : ℕ) (eh : h ≡ getD w p 0) where
+    pub set-found : 1 ≤ h + bit inside
+    set-found = go inside refl
+      where
+        go : (t : Bool) → inside ≡ t → 1 ≤ h + bit t
+        go true e = omega arith
+        go false e = omega (arith, out-side (point-as false e o) n)
+
+    pub turn-set : TurnAt s w x (cursor p inside end) (turn (h + bit inside - 1) (cursor (p + 1) (not inside) end))
+    turn-set = go inside refl
+      where
+        go : (t : Bool) → inside ≡ t → TurnAt s w x (cursor p inside end) (turn (h + bit t - 1) (cursor (p + 1) (not t) end))
+        go true e =
+            let k : h + 1 - 1 ≡ h = omega arith in
+            turn-as true e (rw k (leave-set (point-as true e o) h (p + 1) eh (omega arith) z))
+        go false e =
+            let k : h + 0 - 1 ≡ h - 1 = omega arith in
+            turn-as false e (rw k (turn-out (point-as false e o) n h eh))

@@ -13,7 +13,8 @@ use Rattle.entries.specs.Build.{pick, andb}
 use Rattle.entries.proofs.Canon.{unique}
 use Rattle.entries.proofs.Step.{Upto, upto-start, upto-end}
 use Rattle.entries.proofs.Bounds.{prev}
-use Rattle.sweeps.specs.Cursors.{items, shown, valueOf, sweptOf, resultOf, PointsAt, SegmentAt, sameAs, bit, begins, grow, Addable, Holds, Stopped}
+use Rattle.sweeps.specs.Sweeps.{bit}
+use Rattle.sweeps.specs.Cursors.{items, shown, valueOf, sweptOf, resultOf, PointsAt, SegmentAt, sameAs, begins, grow, Addable, Holds, Stopped}
 use Rattle.sweeps.specs.declared.Plan.{Plan}
 use Rattle.sweeps.specs.declared.Words.{Words}
 use Rattle.sweeps.specs.declared.Places.{Places}

@@ -17,7 +17,8 @@ use Rattle.blocks.specs.Steps.{itemFrom, Cleared}
 use Rattle.blocks.proofs.Words.{items-length}
 use Rattle.blocks.proofs.Moves.{part-eq, splice-entries}
 use Rattle.blocks.proofs.Tests.{le-mul}
-use Rattle.sweeps.specs.Cursors.{items, valueOf, bit, begins, raise, grow, Addable, Holds, Laid, Stored}
+use Rattle.sweeps.specs.Sweeps.{bit}
+use Rattle.sweeps.specs.Cursors.{items, valueOf, begins, raise, grow, Addable, Holds, Laid, Stored}
 use Rattle.sweeps.specs.declared.Words.{Words}
 use Rattle.sweeps.proofs.Runs.{items-are}
 use Rattle.sweeps.proofs.Segments.{words-two, words-three, words-four}

@@ -10,7 +10,7 @@ use Rattle.entries.specs.Entries.{Value, Entry, entry, valueAt, Sound}
 use Rattle.entries.specs.Build.{pick, sameWords}
 use Rattle.blocks.specs.Blocks.{itemsOf, entriesOf}
 use Rattle.blocks.specs.Steps.{itemFrom}
-use Rattle.sweeps.specs.Sweeps.{firstOf, swept, result}
+use Rattle.sweeps.specs.Sweeps.{bit, firstOf, swept, result}
 use Rattle.sweeps.specs.declared.Plan.{Plan}
 use Rattle.sweeps.specs.declared.Words.{Words}
 use Rattle.sweeps.specs.declared.Cursor.{Cursor}
@@ -63,10 +63,6 @@ pub record Cur (s : ℕ) (w : List ℕ) (x p : ℕ) : Type 0 where
   pub sound : Sound (items s left p w)
   pub rest : (y : ℕ) → x ≤ y → valueAt (entriesOf s w) y ≡ valueAt (items s left p w) y
   pub ahead : Ahead x (items s left p w)
-
-abbrev pub bit : Bool → ℕ
-bit true = 1
-bit false = 0
 
 -- inside: x is in the item at p; outside: it is below that item, if there is one
 abbrev pub Sided : Bool → ℕ → List ℕ → ℕ → ℕ → Type 0

@@ -5,7 +5,7 @@ use mathlib.Core.Path.{_≡_}
 use mathlib.Core.Bool.{Bool, true, false}
 use mathlib.Core.Option.{Option, none, some}
 use mathlib.Core.List.{List, [], _∷_, _++_}
-use Prim.Native.Nat.{ℕ, _+_, _*_, _-_, _/_, _%_, _≤_, _<_}
+use Prim.Native.Nat.{ℕ, _+_, _*_, _-_, _/_, _%_, _^_, _≤_, _<_}
 use lib.Dec.{ltb, eqb}
 use lib.ListN.{length, getD, take}
 use Rattle.entries.specs.Entries.{Value, Entry, valueAt, Sound}
@@ -13,12 +13,13 @@ use Rattle.entries.specs.Build.{pick, build, cutsOf}
 use Rattle.entries.specs.Sets.{has}
 use Rattle.blocks.specs.Blocks.{entriesOf}
 
-abbrev pub halved : ℕ → Bool → ℕ → ℕ
-halved v b m = pick b (v / m) (v % m)
+abbrev pub bit : Bool → ℕ
+bit true = 1
+bit false = 0
 
 -- bit a + 2b + 4c of the table
 unfoldable pub accepts : ℕ → Bool → Bool → Bool → Bool
-accepts t a b c = eqb (halved (halved (halved t c 16) b 4) a 2) 1
+accepts t a b c = eqb (t / 2 ^ (bit a + 2 * bit b + 4 * bit c) % 2) 1
 
 -- the value of the first list that has one
 abbrev pub firstOf : Option Value → Option Value → Option Value → Value

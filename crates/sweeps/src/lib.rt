@@ -8,8 +8,8 @@ ghost use lib.Dec.{leb, ltb, eqb};
 ghost use lib.ListN.{length, getD, take, drop};
 ghost use Rattle.entries.specs.Build.{pick, andb, sameWords};
 ghost use Rattle.blocks.specs.Blocks.{blockOf};
-ghost use Rattle.sweeps.specs.Sweeps.{Inputs, Input, Fit, halved, accepts};
-ghost use Rattle.sweeps.specs.Cursors.{cursor, turn, items, shown, valueOf, valueBehind, resultOf, Point, TurnAt, PointsAt, firstBehind, SegmentAt, sameAs, bit, begins, grow, Addable, Holds, Laid, Stored, Stopped};
+ghost use Rattle.sweeps.specs.Sweeps.{bit, Inputs, Input, Fit, accepts};
+ghost use Rattle.sweeps.specs.Cursors.{cursor, turn, items, shown, valueOf, valueBehind, resultOf, Point, TurnAt, PointsAt, firstBehind, SegmentAt, sameAs, begins, grow, Addable, Holds, Laid, Stored, Stopped};
 
 const M: u64 = 18446744073709551615;
 
@@ -157,6 +157,14 @@ fn leave(w: &[u64], s: usize, p: usize, end: usize, x: u64) -> Run
     }
 }
 
+// The last number of a run, by the word found behind it or at its end.
+fn last_of(found: u64, inside: bool) -> u64
+    requires { ⌜ 1 ≤ found + bit inside ⌝ }
+    ensures { λ r. ⌜ r ≡ found + bit inside - 1 ⌝ }
+{
+    if inside { found } else { found - 1 }
+}
+
 // The run at x in a set, whose words are low and high ends in turn, and no item touches the next.
 fn flip(w: &[u64], s: usize, p: usize, inside: bool, end: usize, x: u64) -> Run
     requires { ⌜ Input s (now w) ⌝ }
@@ -172,17 +180,10 @@ fn flip(w: &[u64], s: usize, p: usize, inside: bool, end: usize, x: u64) -> Run
         };
     }
     let found = blocks::word(w, p);
-    if inside {
-        return Run {
-            last: found,
-            next: p + 1,
-            then: false,
-        };
-    }
     Run {
-        last: found - 1,
+        last: last_of(found, inside),
         next: p + 1,
-        then: true,
+        then: !inside,
     }
 }
 
@@ -213,18 +214,18 @@ fn run_at(w: &[u64], s: usize, p: usize, inside: bool, end: usize, x: u64) -> Ru
     }
 }
 
-fn halve(v: u8, b: bool, m: u8) -> u8
-    requires { ⌜ 0 < m ⌝ }
-    ensures { λ r. ⌜ r ≡ halved v b m ⌝ }
+fn bit_of(b: bool) -> u8
+    ensures { λ r. ⌜ (r ≡ bit b) × (r ≤ 1) ⌝ }
 {
-    if b { v / m } else { v % m }
+    if b { 1 } else { 0 }
 }
 
 // Bit a + 2b + 4c of the table t.
 fn accepted(t: u8, a: bool, b: bool, c: bool) -> bool
     ensures { λ r. ⌜ r ≡ accepts t a b c ⌝ }
 {
-    halve(halve(halve(t, c, 16), b, 4), a, 2) == 1
+    let k = bit_of(a) + 2 * bit_of(b) + 4 * bit_of(c);
+    (t >> k) % 2 == 1
 }
 
 fn least(a: u64, b: u64) -> u64
