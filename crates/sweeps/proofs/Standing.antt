@@ -7,14 +7,17 @@ use Prim.Native.Nat.{ℕ, suc, _+_, _*_, _≤_, _<_}
 use native.Mathlib.Omega.{arith}
 use native.Mathlib.Nat.{mul-le-mul-left}
 use native.Mathlib.Numerals.{add-one}
+use lib.Dec.{eqb}
+use borrow.Author.Tests.{eqb-true}
 use lib.ListN.{length}
 use Rattle.entries.specs.Entries.{Value, Entry}
 use Rattle.entries.specs.Build.{pick, andb}
+use Rattle.entries.proofs.Values.{and-true}
 use Rattle.entries.proofs.Canon.{unique}
 use Rattle.entries.proofs.Step.{Upto, upto-start, upto-end}
 use Rattle.entries.proofs.Bounds.{prev}
 use Rattle.sweeps.specs.Sweeps.{bit}
-use Rattle.sweeps.specs.Cursors.{items, shown, valueOf, sweptOf, resultOf, PointsAt, SegmentAt, sameAs, begins, grow, Addable, Holds, Stopped}
+use Rattle.sweeps.specs.Cursors.{setPlan, onlySets, items, shown, valueOf, sweptOf, resultOf, PointsAt, SegmentAt, sameAs, begins, grow, Addable, Holds, Stopped}
 use Rattle.sweeps.specs.declared.Plan.{Plan}
 use Rattle.sweeps.specs.declared.Words.{Words}
 use Rattle.sweeps.specs.declared.Places.{Places}
@@ -25,6 +28,20 @@ use Rattle.sweeps.proofs.Growing.{grow-and, grow-step, joins-some, leng
 
 pub result-lists : (plan : Plan) (a b c : List ℕ) → Rattle.entries.specs.Entries.ListOf (sweptOf plan a b c) (resultOf plan a b c)
 result-lists plan a b c = result-is (plan .table) (plan .out) _ _ _
+
+-- a plan of sets only
+pub sets-only : (plan : Plan) (t : Bool) → t ≡ onlySets plan → t ≡ true → plan ≡ setPlan (plan .table)
+sets-only plan t e f =
+    let p = and-true (eqb (plan .a) 2) _ (sym e ∙ f) in
+    let q = and-true (eqb (plan .b) 2) _ (p .1) in
+    let r = and-true (eqb (plan .c) 2) _ (q .1) in
+    λ i. record {
+      table = plan .table;
+      a = eqb-true (plan .a) 2 (p .0) i;
+      b = eqb-true (plan .b) 2 (q .0) i;
+      c = eqb-true (plan .c) 2 (r .0) i;
+      out = eqb-true (plan .out) 2 (r .1) i;
+    }
 
 -- a value that goes on is there
 less-and : (u q : Bool) → bit (andb u q) ≤ bit u

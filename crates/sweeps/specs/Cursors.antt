@@ -7,7 +7,7 @@ use Prim.Native.Nat.{ℕ, zero, suc, _+_, _*_, _-_, _≤_, _<_, min}
 use lib.Dec.{eqb}
 use lib.ListN.{length, getD, take, drop}
 use Rattle.entries.specs.Entries.{Value, Entry, entry, valueAt, Sound}
-use Rattle.entries.specs.Build.{pick, sameWords}
+use Rattle.entries.specs.Build.{pick, andb, sameWords}
 use Rattle.blocks.specs.Blocks.{itemsOf, entriesOf}
 use Rattle.blocks.specs.Steps.{itemFrom}
 use Rattle.sweeps.specs.Sweeps.{bit, firstOf, swept, result}
@@ -34,6 +34,13 @@ valueOf s v = take (s - 2) (v .first ∷ v .second ∷ [])
 -- the value whose words stand behind place p
 abbrev pub valueBehind : ℕ → List ℕ → ℕ → Value
 valueBehind s w p = take (s - 2) (drop (p + 1) w)
+
+-- sets from sets
+abbrev pub setPlan : ℕ → Plan
+setPlan t = record { table = t; a = 2; b = 2; c = 2; out = 2 }
+
+abbrev pub onlySets : Plan → Bool
+onlySets plan = andb (eqb (plan .a) 2) (andb (eqb (plan .b) 2) (andb (eqb (plan .c) 2) (eqb (plan .out) 2)))
 
 abbrev pub sweptOf : Plan → List ℕ → List ℕ → List ℕ → ℕ → Option Value
 sweptOf plan a b c = swept (plan .table) (plan .out) (entriesOf (plan .a) a) (entriesOf (plan .b) b) (entriesOf (plan .c) c)

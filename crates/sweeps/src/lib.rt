@@ -9,7 +9,7 @@ ghost use lib.ListN.{length, getD, take, drop};
 ghost use Rattle.entries.specs.Build.{pick, andb, sameWords};
 ghost use Rattle.blocks.specs.Blocks.{blockOf};
 ghost use Rattle.sweeps.specs.Sweeps.{bit, Inputs, Input, Fit, accepts};
-ghost use Rattle.sweeps.specs.Cursors.{cursor, turn, items, shown, valueOf, valueBehind, resultOf, Point, TurnAt, PointsAt, firstBehind, SegmentAt, sameAs, begins, grow, Addable, Holds, Laid, Stored, Stopped};
+ghost use Rattle.sweeps.specs.Cursors.{setPlan, onlySets, cursor, turn, items, shown, valueOf, valueBehind, resultOf, Point, TurnAt, PointsAt, firstBehind, SegmentAt, sameAs, begins, grow, Addable, Holds, Laid, Stored, Stopped};
 
 const M: u64 = 18446744073709551615;
 
@@ -193,9 +193,6 @@ fn run_at(w: &[u64], s: usize, p: usize, inside: bool, end: usize, x: u64) -> Ru
     requires { ⌜ Point s (now w) x (cursor p inside end) ⌝ }
     ensures { λ r. ⌜ TurnAt s (now (w .entry)) x (cursor p inside end) (turn (r .last) (cursor (r .next) (r .then) end)) ⌝ }
 {
-    if s == 2 {
-        return flip(w, s, p, inside, end, x);
-    }
     if inside {
         return leave(w, s, p, end, x);
     }
@@ -353,6 +350,45 @@ fn segment_at(
     }
 }
 
+// The same for sets only: no widths to look at and no values to read.
+fn set_segment_at(
+    a: &[u64],
+    b: &[u64],
+    c: &[u64],
+    table: u8,
+    at: Places,
+    sides: Sides,
+    ends: Places,
+    x: u64,
+) -> Segment
+    requires { ⌜ Inputs 2 2 2 (now a) (now b) (now c) ⌝ }
+    requires { ⌜ PointsAt (setPlan table) (now a) (now b) (now c) x at sides ends ⌝ }
+    ensures { λ r. ⌜ SegmentAt (setPlan table) (now (a .entry)) (now (b .entry)) (now (c .entry)) x ends r ⌝ }
+{
+    let i = flip(a, 2, at.a, sides.a, ends.a, x);
+    let j = flip(b, 2, at.b, sides.b, ends.b, x);
+    let k = flip(c, 2, at.c, sides.c, ends.c, x);
+    let e = least(least(i.last, j.last), k.last);
+    let kept = accepted(table, sides.a, sides.b, sides.c);
+    let next = Places {
+        a: moved(i.last == e, i.next, at.a),
+        b: moved(j.last == e, j.next, at.b),
+        c: moved(k.last == e, k.next, at.c),
+    };
+    let then = Sides {
+        a: turned(i.last == e, i.then, sides.a),
+        b: turned(j.last == e, j.then, sides.b),
+        c: turned(k.last == e, k.then, sides.c),
+    };
+    Segment {
+        last: e,
+        inside: kept,
+        value: nothing(),
+        at: next,
+        sides: then,
+    }
+}
+
 // Whether two values of an output of s words an item are the same.
 fn same_value(s: usize, u: Words, v: Words) -> bool
     requires { ⌜ (2 ≤ s) × (s ≤ 4) ⌝ }
@@ -458,8 +494,8 @@ fn add(
     more(k, inside)
 }
 
-// How many items the result has, as far as they are fewer than stop. Where keep says so and all were met, they stand in o behind word 0.
-fn sweep(
+// The sweep for any plan.
+fn sweep_any(
     a: &[u64],
     b: &[u64],
     c: &[u64],
@@ -496,6 +532,93 @@ fn sweep(
         sides = s.sides;
     }
     n
+}
+
+// The sweep for sets.
+fn sweep_sets(
+    a: &[u64],
+    b: &[u64],
+    c: &[u64],
+    table: u8,
+    stop: usize,
+    keep: bool,
+    o: &mut [u64],
+) -> usize
+    requires { ⌜ Inputs 2 2 2 (now a) (now b) (now c) ⌝ }
+    requires { ⌜ 1 + 2 * pick keep (length (resultOf (setPlan table) (now a) (now b) (now c))) 0 ≤ length (now o) ⌝ }
+    ensures { λ r. ⌜ Stopped keep 2 stop (resultOf (setPlan table) (now (a .entry)) (now (b .entry)) (now (c .entry))) r (now (o .exit)) ⌝ }
+{
+    let first = begin(a, b, c, set_plan(table));
+    let ends = first.ends;
+    let mut at = first.at;
+    let mut sides = first.sides;
+    let mut x: u64 = 0;
+    let mut was = false;
+    let mut before = nothing();
+    let mut n: usize = 0;
+    while n < stop {
+        let s = set_segment_at(a, b, c, table, at, sides, ends, x);
+        let v = s.value;
+        let join = joins(2, s.inside, was, before, v);
+        n = add(o, 2, n, keep, s.inside, join, x, s.last, v);
+        if s.last == M {
+            return n;
+        }
+        x = s.last + 1;
+        was = s.inside;
+        before = v;
+        at = s.at;
+        sides = s.sides;
+    }
+    n
+}
+
+fn set_plan(table: u8) -> Plan
+    ensures { λ r. ⌜ r ≡ setPlan table ⌝ }
+{
+    Plan {
+        table: table,
+        a: 2,
+        b: 2,
+        c: 2,
+        out: 2,
+    }
+}
+
+fn only_sets(plan: Plan) -> bool
+    ensures { λ r. ⌜ r ≡ onlySets plan ⌝ }
+{
+    if plan.a == 2 {
+        if plan.b == 2 {
+            if plan.c == 2 {
+                return plan.out == 2;
+            }
+            return false;
+        }
+        return false;
+    }
+    false
+}
+
+// How many items the result has, as far as they are fewer than stop. Where keep says so and all were met, they stand in o behind word 0.
+fn sweep(
+    a: &[u64],
+    b: &[u64],
+    c: &[u64],
+    plan: Plan,
+    stop: usize,
+    keep: bool,
+    o: &mut [u64],
+) -> usize
+    requires { ⌜ Inputs (plan .a) (plan .b) (plan .c) (now a) (now b) (now c) ⌝ }
+    requires { ⌜ Fit (plan .table) (plan .out) (plan .a) (plan .b) (plan .c) ⌝ }
+    requires { ⌜ 1 + plan .out * pick keep (length (resultOf plan (now a) (now b) (now c))) 0 ≤ length (now o) ⌝ }
+    ensures { λ r. ⌜ Stopped keep (plan .out) stop (resultOf plan (now (a .entry)) (now (b .entry)) (now (c .entry))) r (now (o .exit)) ⌝ }
+{
+    if only_sets(plan) {
+        return sweep_sets(a, b, c, plan.table, stop, keep, o);
+    }
+    sweep_any(a, b, c, plan, stop, keep, o)
 }
 
 // Whether the result has at most cap items; bound is any number that it does not exceed, so that where bound fits nothing is counted.
