@@ -56,48 +56,69 @@ module _ (s : ℕ) (two : 2 ≤ s) where
       laid-new n r l ∙ sym (ap (λ (es : List Entry). raise es h v) (items-snoc w n 1 (1 + s * n) refl) ∙ raise-snoc (items s n 1 w) (itemFrom s w (1 + s * n)) h v)
 
 -- an item's words stored, by how many there are
-module _ (s : ℕ) (d : List ℕ) (q x h : ℕ) (v : Words) (room : q + s ≤ length d) where
-  abbrev pub ends : List ℕ
-  ends = set (set d q x) (q + 1) h
+pub bit-one : (b : Bool) → bit b ≤ 1
+bit-one true = omega arith
+bit-one false = omega arith
 
-  pub lay-two : s ≡ 2 → Laid s d q x h (valueOf s v) ends
+-- x as the low end, or in the high end's place, and h as the high end
+module _ (d : List ℕ) (q x h : ℕ) (join : Bool) (low : ℕ) (el : low ≡ q + bit join) (room : q + 2 ≤ length d) where
+  abbrev ends : List ℕ
+  ends = set (set d low x) (q + 1) h
+
+  ends-kept : (j : ℕ) → j < q → getD ends j 0 ≡ getD d j 0
+  ends-kept j l = getD-set-other (set d low x) (q + 1) j h 0 (omega arith) ∙ getD-set-other d low j x 0 (omega arith)
+
+  ends-low : getD ends q 0 ≡ pick join (getD d q 0) x
+  ends-low = getD-set-other (set d low x) (q + 1) q h 0 (omega arith) ∙ ap (λ (i : ℕ). getD (set d i x) q 0) el ∙ go join
+    where
+      go : (t : Bool) → getD (set d (q + bit t) x) q 0 ≡ pick t (getD d q 0) x
+      go true = getD-set-other d (q + 1) q x 0 (omega arith)
+      go false = let k : q + 0 ≡ q = omega arith in rw k (getD-set-same d q x 0 (omega arith))
+
+  ends-high : getD ends (q + 1) 0 ≡ h
+  ends-high = getD-set-same (set d low x) (q + 1) h 0 (simp length-set (omega arith))
+
+module _ (s : ℕ) (d : List ℕ) (q x h : ℕ) (join : Bool) (low : ℕ) (el : low ≡ q + bit join) (v : Words) (two : 2 ≤ s) (room : q + s ≤ length d) where
+  has-two : q + 2 ≤ length d
+  has-two = omega arith
+
+  abbrev both : List ℕ
+  both = set (set d low x) (q + 1) h
+
+  pub lay-two : s ≡ 2 → Laid s d q (pick join (getD d q 0) x) h (valueOf s v) both
   lay-two e = record {
     long = simp length-set;
-    kept = λ j l. getD-set-other (set d q x) (q + 1) j h 0 (omega arith) ∙ getD-set-other d q j x 0 (omega arith);
-    item = λ fits. entry-path (itemFrom s ends q) (entry x h (valueOf s v)) (getD-set-other (set d q x) (q + 1) q h 0 (omega arith) ∙ getD-set-same d q x 0 (omega arith))
-        (getD-set-same (set d q x) (q + 1) h 0 (simp length-set (omega arith)))
-        (sym (words-two s v ends (q + 2) e));
+    kept = ends-kept d q x h join low el has-two;
+    item = λ fits. entry-path (itemFrom s both q) (entry (pick join (getD d q 0) x) h (valueOf s v)) (ends-low d q x h join low el has-two) (ends-high d q x h join low el has-two)
+        (sym (words-two s v both (q + 2) e));
   }
 
-  abbrev pub ends-first : List ℕ
-  ends-first = set ends (q + 2) (v .first)
+  abbrev third : List ℕ
+  third = set both (q + 2) (v .first)
 
-  pub lay-three : s ≡ 3 → Laid s d q x h (valueOf s v) ends-first
+  pub lay-three : s ≡ 3 → Laid s d q (pick join (getD d q 0) x) h (valueOf s v) third
   lay-three e = record {
     long = simp length-set;
-    kept = λ j l. getD-set-other ends (q + 2) j (v .first) 0 (omega arith) ∙ getD-set-other (set d q x) (q + 1) j h 0 (omega arith) ∙ getD-set-other d q j x 0 (omega arith);
-    item = λ fits. entry-path (itemFrom s ends-first q) (entry x h (valueOf s v))
-        (getD-set-other ends (q + 2) q (v .first) 0 (omega arith) ∙ getD-set-other (set d q x) (q + 1) q h 0 (omega arith) ∙ getD-set-same d q x 0 (omega arith))
-        (getD-set-other ends (q + 2) (q + 1) (v .first) 0 (omega arith) ∙ getD-set-same (set d q x) (q + 1) h 0 (simp length-set (omega arith)))
-        (sym (words-three s v ends-first (q + 2) e (simp length-set (omega arith)) (sym (getD-set-same ends (q + 2) (v .first) 0 (simp length-set (omega arith))))));
+    kept = λ j l. getD-set-other both (q + 2) j (v .first) 0 (omega arith) ∙ ends-kept d q x h join low el has-two j l;
+    item = λ fits. entry-path (itemFrom s third q) (entry (pick join (getD d q 0) x) h (valueOf s v))
+        (getD-set-other both (q + 2) q (v .first) 0 (omega arith) ∙ ends-low d q x h join low el has-two)
+        (getD-set-other both (q + 2) (q + 1) (v .first) 0 (omega arith) ∙ ends-high d q x h join low el has-two)
+        (sym (words-three s v third (q + 2) e (simp length-set (omega arith)) (sym (getD-set-same both (q + 2) (v .first) 0 (simp length-set (omega arith))))));
   }
 
-  abbrev pub ends-both : List ℕ
-  ends-both = set ends-first (q + 3) (v .second)
+  abbrev fourth : List ℕ
+  fourth = set third (q + 3) (v .second)
 
-  pub lay-four : s ≡ 4 → Laid s d q x h (valueOf s v) ends-both
+  pub lay-four : s ≡ 4 → Laid s d q (pick join (getD d q 0) x) h (valueOf s v) fourth
   lay-four e = record {
     long = simp length-set;
-    kept = λ j l. getD-set-other ends-first (q + 3) j (v .second) 0 (omega arith) ∙ getD-set-other ends (q + 2) j (v .first) 0 (omega arith)
-        ∙ getD-set-other (set d q x) (q + 1) j h 0 (omega arith) ∙ getD-set-other d q j x 0 (omega arith);
-    item = λ fits. entry-path (itemFrom s ends-both q) (entry x h (valueOf s v))
-        (getD-set-other ends-first (q + 3) q (v .second) 0 (omega arith) ∙ getD-set-other ends (q + 2) q (v .first) 0 (omega arith)
-        ∙ getD-set-other (set d q x) (q + 1) q h 0 (omega arith) ∙ getD-set-same d q x 0 (omega arith))
-        (getD-set-other ends-first (q + 3) (q + 1) (v .second) 0 (omega arith) ∙ getD-set-other ends (q + 2) (q + 1) (v .first) 0 (omega arith)
-        ∙ getD-set-same (set d q x) (q + 1) h 0 (simp length-set (omega arith)))
-        (sym (words-four s v ends-both (q + 2) e (simp length-set (omega arith))
-        (sym (getD-set-other ends-first (q + 3) (q + 2) (v .second) 0 (omega arith) ∙ getD-set-same ends (q + 2) (v .first) 0 (simp length-set (omega arith))))
-        (sym (let k : q + 2 + 1 ≡ q + 3 = omega arith in ap (λ (i : ℕ). getD ends-both i 0) k ∙ getD-set-same ends-first (q + 3) (v .second) 0 (simp length-set (omega arith))))));
+    kept = λ j l. getD-set-other third (q + 3) j (v .second) 0 (omega arith) ∙ getD-set-other both (q + 2) j (v .first) 0 (omega arith) ∙ ends-kept d q x h join low el has-two j l;
+    item = λ fits. entry-path (itemFrom s fourth q) (entry (pick join (getD d q 0) x) h (valueOf s v))
+        (getD-set-other third (q + 3) q (v .second) 0 (omega arith) ∙ getD-set-other both (q + 2) q (v .first) 0 (omega arith) ∙ ends-low d q x h join low el has-two)
+        (getD-set-other third (q + 3) (q + 1) (v .second) 0 (omega arith) ∙ getD-set-other both (q + 2) (q + 1) (v .first) 0 (omega arith) ∙ ends-high d q x h join low el has-two)
+        (sym (words-four s v fourth (q + 2) e (simp length-set (omega arith))
+        (sym (getD-set-other third (q + 3) (q + 2) (v .second) 0 (omega arith) ∙ getD-set-same both (q + 2) (v .first) 0 (simp length-set (omega arith))))
+        (sym (let k : q + 2 + 1 ≡ q + 3 = omega arith in ap (λ (i : ℕ). getD fourth i 0) k ∙ getD-set-same third (q + 3) (v .second) 0 (simp length-set (omega arith))))));
   }
 
 -- a segment added to the items

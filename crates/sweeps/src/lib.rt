@@ -420,12 +420,21 @@ fn joins(s: usize, inside: bool, was: bool, u: Words, v: Words) -> bool
     false
 }
 
-// An item into the s words from q on.
-fn lay(o: &mut [u64], s: usize, q: usize, x: u64, h: u64, v: Words)
-    requires { ⌜ (2 ≤ s) × (s ≤ 4) × (q + s ≤ length (now o)) ⌝ }
-    ensures { λ _. ⌜ Laid s (now (o .entry)) q x h (valueOf s v) (now (o .exit)) ⌝ }
+fn more(k: usize, inside: bool) -> usize
+    requires { ⌜ k < 18446744073709551615 ⌝ }
+    ensures { λ r. ⌜ r ≡ k + bit inside ⌝ }
 {
-    o[q] = x;
+    if inside { k + 1 } else { k }
+}
+
+// An item into the s words from q on. Where it goes on its low end stays: x is written in the place of the high end, and h over it, as a
+// test would cost more.
+fn lay(o: &mut [u64], s: usize, q: usize, join: bool, x: u64, h: u64, v: Words)
+    requires { ⌜ (2 ≤ s) × (s ≤ 4) × (q + s ≤ length (now o)) ⌝ }
+    ensures { λ _. ⌜ Laid s (now (o .entry)) q (pick join (getD (now (o .entry)) q 0) x) h (valueOf s v) (now (o .exit)) ⌝ }
+{
+    let low = more(q, join);
+    o[low] = x;
     o[q + 1] = h;
     if s == 2 {
         return;
@@ -437,12 +446,6 @@ fn lay(o: &mut [u64], s: usize, q: usize, x: u64, h: u64, v: Words)
     o[q + 3] = v.second;
 }
 
-fn either(b: bool, x: u64, y: u64) -> u64
-    ensures { λ r. ⌜ r ≡ pick b x y ⌝ }
-{
-    if b { x } else { y }
-}
-
 // The segment from x to h as item k of o, where keep says so: its low end stays where it goes on. Without a value it is stored too, behind
 // the items and as far as o goes, since a test would cost more than the words.
 fn store(o: &mut [u64], s: usize, k: usize, keep: bool, join: bool, x: u64, h: u64, v: Words)
@@ -452,8 +455,7 @@ fn store(o: &mut [u64], s: usize, k: usize, keep: bool, join: bool, x: u64, h: u
     if keep {
         let q = 1 + s * k;
         if s <= o.len() - q {
-            let low = either(join, o[q], x);
-            lay(o, s, q, low, h, v);
+            lay(o, s, q, join, x, h, v);
             return;
         }
         return;
@@ -465,13 +467,6 @@ fn less(n: usize, join: bool) -> usize
     ensures { λ r. ⌜ r ≡ n - bit join ⌝ }
 {
     if join { n - 1 } else { n }
-}
-
-fn more(k: usize, inside: bool) -> usize
-    requires { ⌜ k < 18446744073709551615 ⌝ }
-    ensures { λ r. ⌜ r ≡ k + bit inside ⌝ }
-{
-    if inside { k + 1 } else { k }
 }
 
 // How many items there are with the segment from x to h, which is stored where keep says so: as a new item, or into the last one.

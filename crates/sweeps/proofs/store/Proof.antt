@@ -1,7 +1,6 @@
 use denote.Ref.{now}
 use Prim.Native.Nat.{_+_, _*_}
-use mathlib.Core.Path.{_≡_, subst}
-use Rattle.sweeps.specs.Cursors.{valueOf, Laid}
+use Rattle.sweeps.specs.Cursors.{valueOf}
 use Rattle.sweeps.proofs.Storing.{laid-not}
 use native.Mathlib.Omega.{arith}
 use borrow.Author.Needs.{needs}
@@ -9,7 +8,6 @@ use Rattle.sweeps.proofs.store.Statement.{statement}
 use Rattle.sweeps.proofs.store.Tie as tie
 use Rattle.sweeps.proofs.store.Reads as reads
 use Rattle.sweeps.proofs.store.Lts as lts
-use Rattle.sweeps.proofs.either.Reads as either-reads
 use Rattle.sweeps.proofs.lay.Reads as lay-reads
 
 mul-q : tie.Need-mul-q
@@ -21,15 +19,6 @@ add-q c = let a = c .before .before in let h = rw (c .if1 .taken) at (a .pre .2)
 sub-if2 : tie.Need-sub-if2
 sub-if2 c = let a = c .before .before in let h = rw (c .if1 .taken) at (a .pre .2) in omega arith
 
-mul-either : tie.Need-mul-either
-mul-either c = search needs
-
-slice-read-either : tie.Need-slice-read-either
-slice-read-either c = search needs
-
-either-requires : tie.Need-either-requires
-either-requires c κs = search needs
-
 lay-requires : tie.Need-lay-requires
 lay-requires c κs = search needs
 
@@ -37,7 +26,7 @@ same-length : tie.Need-same-length
 same-length c = search needs
 
 returns : tie.Need-returns
-returns c = rw (c .before .before .before .before .before .before .before .if1 .taken) (rw (c .before .before .before .before .either .ensures) at (c .before .before .lay .ensures))
+returns c = rw (c .before .before .before .before .before .if1 .taken) (c .before .before .lay .ensures)
 
 returns-2 : tie.Need-returns-2
 returns-2 c =
@@ -50,16 +39,4 @@ returns-3 c = rw (c .if1 .left) tt
 
 pub store-spec : {M : Type 1} → statement M
 store-spec =
-    tie.close
-    (tie.spec
-    mul-q
-    add-q
-    sub-if2
-    mul-either
-    slice-read-either
-    either-requires
-    lay-requires
-    same-length
-    returns
-    returns-2
-    returns-3)
+    tie.close (tie.spec mul-q add-q sub-if2 lay-requires same-length returns returns-2 returns-3)
