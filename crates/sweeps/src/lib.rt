@@ -583,16 +583,16 @@ fn set_plan(table: u8) -> Plan
 fn only_sets(plan: Plan) -> bool
     ensures { λ r. ⌜ r ≡ onlySets plan ⌝ }
 {
-    if plan.a == 2 {
-        if plan.b == 2 {
-            if plan.c == 2 {
-                return plan.out == 2;
-            }
-            return false;
-        }
+    if plan.a != 2 {
         return false;
     }
-    false
+    if plan.b != 2 {
+        return false;
+    }
+    if plan.c != 2 {
+        return false;
+    }
+    plan.out == 2
 }
 
 // How many items the result has, as far as they are fewer than stop. Where keep says so and all were met, they stand in o behind word 0.
