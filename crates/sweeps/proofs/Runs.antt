@@ -1,7 +1,7 @@
 -- What a cursor reads: the run at x, and where the cursor goes behind it.
 use mathlib.Core.Path.{_≡_, refl, sym, _∙_, ap, ap₂, subst}
 use mathlib.Core.Bool.{Bool, true, false, not}
-use mathlib.Core.Option.{Option, none, some}
+use mathlib.Core.Option.{some}
 use mathlib.Core.List.{List, [], _∷_}
 use Prim.Native.Nat.{ℕ, zero, suc, _+_, _*_, _-_, _≤_, _<_}
 use native.Mathlib.Omega.{arith}
@@ -19,7 +19,7 @@ use Rattle.blocks.specs.Steps.{itemFrom}
 use Rattle.blocks.proofs.Tests.{item-from}
 use Rattle.sweeps.specs.Sweeps.{bit, Input}
 use Rattle.sweeps.specs.declared.Cursor.{Cursor}
-use Rattle.sweeps.specs.Cursors.{Turn, items, cursor, turn, valueBehind, Ahead, Cur, Sided, Point, TurnAt}
+use Rattle.sweeps.specs.Cursors.{Turn, items, cursor, turn, Ahead, Cur, Sided, Point, TurnAt}
 
 -- items by place and by what is left of the words
 pub items-are : (s k p : ℕ) (w : List ℕ) → items s k p w ≡ itemsOf s k (drop p w)

@@ -1,20 +1,18 @@
 -- Three runs make a segment, and its value.
-use mathlib.Core.Path.{_≡_, refl, sym, _∙_, ap, subst}
+use mathlib.Core.Path.{_≡_, refl, sym, _∙_, ap}
 use mathlib.Core.Bool.{Bool, true, false}
-use mathlib.Core.Option.{Option, none, some}
-use mathlib.Core.List.{List, [], _∷_}
+use mathlib.Core.Option.{none, some}
+use mathlib.Core.List.{List, _∷_}
 use Prim.Native.Nat.{ℕ, suc, _+_, _-_, _≤_, _<_, min}
 use native.Mathlib.Omega.{arith}
-use native.Mathlib.Numerals.{add-one}
 use lib.ListN.{length, getD, take, drop}
 use lib.Seq.{drop-cons, take-take}
-use lib.Dec.{ltb, eqb}
+use lib.Dec.{eqb}
 use borrow.Author.Tests.{lt-ltb, eq-eqb, ne-eqb}
 use Rattle.entries.specs.Entries.{Value}
 use Rattle.entries.specs.Build.{pick, andb, sameWords}
 use Rattle.entries.specs.Sets.{has}
-use Rattle.entries.proofs.Values.{true≢false}
-use Rattle.sweeps.specs.Sweeps.{accepts, firstOf, mixed, swept, Input, Inputs, widthOf, Fit}
+use Rattle.sweeps.specs.Sweeps.{accepts, mixed, swept, Input, Inputs, widthOf, Fit}
 use Rattle.sweeps.specs.declared.Cursor.{Cursor}
 use Rattle.sweeps.specs.Cursors.{cursor, turn, shown, valueOf, valueBehind, firstBehind, Point, TurnAt, PointsAt, SegmentAt}
 use Rattle.sweeps.specs.declared.Plan.{Plan}

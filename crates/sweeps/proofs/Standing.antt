@@ -1,7 +1,7 @@
 -- What holds at the head of the sweep's loop: at the start, from one segment to the next, and at the end.
 use mathlib.Core.Path.{_≡_, refl, sym, _∙_, ap, subst}
 use mathlib.Core.Bool.{Bool, true, false}
-use mathlib.Core.Option.{Option, none, some}
+use mathlib.Core.Option.{Option, none}
 use mathlib.Core.List.{List, []}
 use Prim.Native.Nat.{ℕ, suc, _+_, _*_, _≤_, _<_}
 use native.Mathlib.Omega.{arith}
@@ -16,8 +16,8 @@ use Rattle.entries.proofs.Values.{and-true}
 use Rattle.entries.proofs.Canon.{unique}
 use Rattle.entries.proofs.Step.{Upto, upto-start, upto-end}
 use Rattle.entries.proofs.Bounds.{prev}
-use Rattle.sweeps.specs.Sweeps.{bit}
-use Rattle.sweeps.specs.Cursors.{setPlan, onlySets, items, shown, valueOf, sweptOf, resultOf, PointsAt, SegmentAt, sameAs, begins, grow, Addable, Holds, Stopped}
+use Rattle.sweeps.specs.Sweeps.{resultOf, bit}
+use Rattle.sweeps.specs.Cursors.{setPlan, onlySets, items, shown, valueOf, sweptOf, PointsAt, SegmentAt, sameAs, begins, grow, Addable, Holds, Stopped}
 use Rattle.sweeps.specs.declared.Plan.{Plan}
 use Rattle.sweeps.specs.declared.Words.{Words}
 use Rattle.sweeps.specs.declared.Places.{Places}

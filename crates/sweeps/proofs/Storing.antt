@@ -8,13 +8,12 @@ use native.Mathlib.Decide.{decLe}
 use lib.Dec.{leb, ltb}
 use borrow.Author.Tests.{le-leb, lt-leb, le-ltb, lt-ltb}
 use native.Mathlib.Nat.{mul-suc, mul-zero, mul-le-mul-left}
-use lib.ListN.{length, getD, set, take, drop, length-set, take-append-drop}
-use lib.Seq.{getD-set-same, getD-set-other, drop-set-lt}
+use lib.ListN.{length, getD, set, drop, length-set, take-append-drop}
+use lib.Seq.{getD-set-same, getD-set-other}
 use Rattle.entries.specs.Entries.{Value, Entry, entry}
 use Rattle.entries.specs.Build.{pick}
 use Rattle.blocks.specs.Blocks.{itemsOf, blockOf}
 use Rattle.blocks.specs.Steps.{itemFrom, Cleared}
-use Rattle.blocks.proofs.Words.{items-length}
 use Rattle.blocks.proofs.Moves.{part-eq, splice-entries}
 use Rattle.blocks.proofs.Tests.{le-mul}
 use Rattle.sweeps.specs.Sweeps.{bit}

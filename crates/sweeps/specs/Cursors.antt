@@ -8,9 +8,9 @@ use lib.Dec.{eqb}
 use lib.ListN.{length, getD, take, drop}
 use Rattle.entries.specs.Entries.{Value, Entry, entry, valueAt, Sound}
 use Rattle.entries.specs.Build.{pick, andb, sameWords}
-use Rattle.blocks.specs.Blocks.{itemsOf, entriesOf}
+use Rattle.blocks.specs.Blocks.{entriesOf}
 use Rattle.blocks.specs.Steps.{itemFrom}
-use Rattle.sweeps.specs.Sweeps.{bit, firstOf, swept, result}
+use Rattle.sweeps.specs.Sweeps.{bit, firstOf, swept}
 use Rattle.sweeps.specs.declared.Plan.{Plan}
 use Rattle.sweeps.specs.declared.Words.{Words}
 use Rattle.sweeps.specs.declared.Cursor.{Cursor}
@@ -44,9 +44,6 @@ onlySets plan = andb (eqb (plan .a) 2) (andb (eqb (plan .b) 2) (andb (eqb (plan 
 
 abbrev pub sweptOf : Plan → List ℕ → List ℕ → List ℕ → ℕ → Option Value
 sweptOf plan a b c = swept (plan .table) (plan .out) (entriesOf (plan .a) a) (entriesOf (plan .b) b) (entriesOf (plan .c) c)
-
-abbrev pub resultOf : Plan → List ℕ → List ℕ → List ℕ → List Entry
-resultOf plan a b c = result (plan .table) (plan .out) (entriesOf (plan .a) a) (entriesOf (plan .b) b) (entriesOf (plan .c) c)
 
 -- the last number of a run, and the cursor behind it
 pub record Turn : Type 0 where

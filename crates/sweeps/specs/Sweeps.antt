@@ -12,6 +12,7 @@ use Rattle.entries.specs.Entries.{Value, Entry, valueAt, Sound}
 use Rattle.entries.specs.Build.{pick, build, cutsOf}
 use Rattle.entries.specs.Sets.{has}
 use Rattle.blocks.specs.Blocks.{entriesOf}
+use Rattle.sweeps.specs.declared.Plan.{Plan}
 
 abbrev pub bit : Bool → ℕ
 bit true = 1
@@ -39,6 +40,10 @@ swept t s es fs gs x = pick (ltb x 18446744073709551616) (mixed t s (valueAt es 
 -- the one sound list of that function
 unfoldable pub result : ℕ → ℕ → List Entry → List Entry → List Entry → List Entry
 result t s es fs gs = build (swept t s es fs gs) (18446744073709551616 ∷ cutsOf es ++ (cutsOf fs ++ cutsOf gs))
+
+-- the same of the entries that three blocks say
+abbrev pub resultOf : Plan → List ℕ → List ℕ → List ℕ → List Entry
+resultOf plan a b c = result (plan .table) (plan .out) (entriesOf (plan .a) a) (entriesOf (plan .b) b) (entriesOf (plan .c) c)
 
 -- a judged block of s words an item, at most two of them its value
 pub record Input (s : ℕ) (w : List ℕ) : Type 0 where

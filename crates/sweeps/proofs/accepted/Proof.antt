@@ -1,5 +1,4 @@
 use Rattle.sweeps.specs.Sweeps.{accepts}
-use native.Mathlib.Omega.{arith}
 use borrow.Author.Needs.{needs}
 use Rattle.sweeps.proofs.accepted.Statement.{statement}
 use Rattle.sweeps.proofs.accepted.Tie as tie

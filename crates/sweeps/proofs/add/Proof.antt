@@ -1,7 +1,6 @@
 use denote.Ref.{now}
 use Rattle.sweeps.specs.Cursors.{valueOf}
 use Rattle.sweeps.proofs.Storing.{add-room, add-count, added}
-use native.Mathlib.Omega.{arith}
 use borrow.Author.Needs.{needs}
 use Rattle.sweeps.proofs.add.Statement.{statement}
 use Rattle.sweeps.proofs.add.Tie as tie

@@ -1,5 +1,4 @@
 use Rattle.sweeps.proofs.Segments.{carried-set, carried-none, reach-a, carried-a, reach-b, carried-b, reach-c, carried-c}
-use native.Mathlib.Omega.{arith}
 use borrow.Author.Needs.{needs}
 use Rattle.sweeps.proofs.carried.Statement.{statement}
 use Rattle.sweeps.proofs.carried.Tie as tie

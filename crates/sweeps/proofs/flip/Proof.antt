@@ -1,6 +1,5 @@
 use denote.Ref.{now}
 use Rattle.sweeps.proofs.Runs.{turn-end, word-here, set-found, turn-set}
-use borrow.Author.Needs.{needs}
 use native.Mathlib.Omega.{arith}
 use Rattle.sweeps.proofs.flip.Statement.{statement}
 use Rattle.sweeps.proofs.flip.Tie as tie

@@ -1,4 +1,3 @@
-use native.Mathlib.Omega.{arith}
 use borrow.Author.Needs.{needs}
 use Rattle.sweeps.proofs.joins.Statement.{statement}
 use Rattle.sweeps.proofs.joins.Tie as tie

@@ -1,6 +1,4 @@
 use borrow.Author.Tests.{eq-eqb, ne-eqb}
-use borrow.Author.Needs.{needs}
-use native.Mathlib.Omega.{arith}
 use Rattle.sweeps.proofs.only_sets.Statement.{statement}
 use Rattle.sweeps.proofs.only_sets.Tie as tie
 use Rattle.sweeps.proofs.only_sets.Reads as reads

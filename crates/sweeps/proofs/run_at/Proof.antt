@@ -1,7 +1,6 @@
 use denote.Ref.{now}
 use mathlib.Core.Bool.{true, false}
 use Rattle.sweeps.proofs.Runs.{point-as, turn-as, turn-none, out-side, out-here, turn-out}
-use borrow.Author.Needs.{needs}
 use native.Mathlib.Omega.{arith}
 use Rattle.sweeps.proofs.run_at.Statement.{statement}
 use Rattle.sweeps.proofs.run_at.Tie as tie

@@ -1,6 +1,5 @@
 use denote.Ref.{now}
 use Rattle.sweeps.proofs.Segments.{segment-made}
-use native.Mathlib.Omega.{arith}
 use borrow.Author.Needs.{needs}
 use Rattle.sweeps.proofs.segment_at.Statement.{statement}
 use Rattle.sweeps.proofs.segment_at.Tie as tie

@@ -2,7 +2,6 @@ use denote.Ref.{now}
 use mathlib.Core.Path.{refl}
 use Rattle.sweeps.specs.Cursors.{setPlan}
 use Rattle.sweeps.proofs.Segments.{segment-made}
-use native.Mathlib.Omega.{arith}
 use borrow.Author.Needs.{needs}
 use Rattle.sweeps.proofs.set_segment_at.Statement.{statement}
 use Rattle.sweeps.proofs.set_segment_at.Tie as tie

@@ -3,11 +3,10 @@ use Prim.Native.Nat.{_+_, _*_, _≤_}
 use mathlib.Core.Path.{sym, subst}
 use lib.ListN.{length}
 use Rattle.entries.specs.Build.{pick}
-use Rattle.sweeps.specs.Sweeps.{Inputs}
-use Rattle.sweeps.specs.Cursors.{resultOf, Stopped}
+use Rattle.sweeps.specs.Sweeps.{resultOf, Inputs}
+use Rattle.sweeps.specs.Cursors.{Stopped}
 use Rattle.sweeps.specs.declared.Plan.{Plan}
 use Rattle.sweeps.proofs.Standing.{sets-only}
-use native.Mathlib.Omega.{arith}
 use borrow.Author.Needs.{needs}
 use Rattle.sweeps.proofs.sweep.Statement.{statement}
 use Rattle.sweeps.proofs.sweep.Tie as tie
