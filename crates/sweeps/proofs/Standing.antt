@@ -10,7 +10,7 @@ use native.Mathlib.Numerals.{add-one}
 use lib.Dec.{eqb}
 use borrow.Author.Tests.{eqb-true}
 use lib.ListN.{length}
-use Rattle.entries.specs.Entries.{Value, Entry}
+use Rattle.entries.specs.Entries.{Value, Entry, ListOf}
 use Rattle.entries.specs.Build.{pick, andb}
 use Rattle.entries.proofs.Values.{and-true}
 use Rattle.entries.proofs.Canon.{unique}
@@ -26,7 +26,7 @@ use Rattle.sweeps.specs.declared.Segment.{Segment}
 use Rattle.sweeps.proofs.Tables.{swept-above, result-is}
 use Rattle.sweeps.proofs.Growing.{grow-and, grow-step, joins-some, length-grow, begins-one, no-longer}
 
-pub result-lists : (plan : Plan) (a b c : List ℕ) → Rattle.entries.specs.Entries.ListOf (sweptOf plan a b c) (resultOf plan a b c)
+pub result-lists : (plan : Plan) (a b c : List ℕ) → ListOf (sweptOf plan a b c) (resultOf plan a b c)
 result-lists plan a b c = result-is (plan .table) (plan .out) _ _ _
 
 -- a plan of sets only
