@@ -1,6 +1,5 @@
 -- The list that a sweep makes: how a segment grows it, and that it gets no longer than the result.
-use mathlib.Core.Path.{_≡_, refl, sym, _∙_, ap, ap₂}
-use mathlib.Core.Logic.{_≢_}
+use mathlib.Core.Path.{_≡_, refl, sym, _∙_, ap}
 use mathlib.Core.Bool.{Bool, true, false}
 use mathlib.Core.Option.{Option, none, some}
 use mathlib.Core.List.{List, [], _∷_, _++_, append-assoc}
@@ -12,7 +11,7 @@ use lib.Dec.{eqb}
 use borrow.Author.Tests.{eqb-true, eqb-false}
 use Rattle.entries.specs.Entries.{Value, Entry, entry, valueAt, ListOf}
 use Rattle.entries.specs.Build.{andb, sameWords}
-use Rattle.entries.proofs.Values.{true≢false}
+use Rattle.entries.proofs.Values.{true≢false, and-true, words-true}
 use Rattle.entries.proofs.Sides.{val-in, val-past}
 use Rattle.entries.proofs.Canon.{none≢some}
 use Rattle.entries.proofs.Append.{sound-right, value-right}
@@ -21,25 +20,29 @@ use Rattle.entries.proofs.Extend.{push, push-snoc, extend, last, step, Ended, e
 use Rattle.entries.proofs.Bounds.{prev, StartsIn, starts, start-bound, lows, length-lows}
 use Rattle.sweeps.specs.Cursors.{shown, sameAs, begins, raise, grow}
 
-pub raise-snoc : (a : List Entry) (l : Entry) (h : ℕ) → raise (a ++ l ∷ []) h ≡ a ++ entry (l .low) h (l .value) ∷ []
-raise-snoc [] l h = refl
-raise-snoc (e ∷ []) l h = refl
-raise-snoc (e ∷ f ∷ a) l h = ap (λ (t : List Entry). e ∷ t) (raise-snoc (f ∷ a) l h)
+pub raise-snoc : (a : List Entry) (l : Entry) (h : ℕ) (v : Value) → raise (a ++ l ∷ []) h v ≡ a ++ entry (l .low) h v ∷ []
+raise-snoc [] l h v = refl
+raise-snoc (e ∷ []) l h v = refl
+raise-snoc (e ∷ f ∷ a) l h v = ap (λ (t : List Entry). e ∷ t) (raise-snoc (f ∷ a) l h v)
 
-length-raise : (es : List Entry) (h : ℕ) → length (raise es h) ≡ length es
-length-raise [] h = refl
-length-raise (e ∷ []) h = refl
-length-raise (e ∷ f ∷ es) h = ap suc (length-raise (f ∷ es) h)
+length-raise : (es : List Entry) (h : ℕ) (v : Value) → length (raise es h v) ≡ length es
+length-raise [] h v = refl
+length-raise (e ∷ []) h v = refl
+length-raise (e ∷ f ∷ es) h v = ap suc (length-raise (f ∷ es) h v)
 
 pub length-grow : (u j : Bool) (es : List Entry) (x h : ℕ) (v : Value) → length (grow u j es x h v) ≡ length es + begins u j
 length-grow false j es x h v = omega arith
-length-grow true true es x h v = omega (arith, length-raise es h)
+length-grow true true es x h v = omega (arith, length-raise es h v)
 length-grow true false es x h v = length-append es (entry x h v ∷ [])
 
 pub begins-one : (u q : Bool) → begins u q ≤ 1
-begins-one true true = omega arith
-begins-one true false = omega arith
+begins-one true q = omega arith
 begins-one false q = omega arith
+
+-- without a value nothing goes on
+pub grow-and : (u q : Bool) (es : List Entry) (x h : ℕ) (v : Value) → grow u (andb u q) es x h v ≡ grow u q es x h v
+grow-and true q es x h v = refl
+grow-and false q es x h v = refl
 
 module _ (F : ℕ → Option Value) (x : ℕ) where
   -- `push` looks at the last entry; the sweep knows the value right before x
@@ -62,9 +65,9 @@ module _ (F : ℕ → Option Value) (x : ℕ) where
     before-is (suc y) e false q =
         rw (sym (u .below y (omega arith)), value-right a l [] (u .sound) y (omega (arith, ok, under-x)), val-past l [] y (omega (arith, under-x, eqb-false (suc (l .high)) x q)))
 
-    grown : (h : ℕ) (t : Bool) → a ++ last t l x h v ≡ grow true t (a ++ l ∷ []) x h v
-    grown h true = sym (raise-snoc a l h)
-    grown h false = sym (append-assoc a (l ∷ []) (entry x h v ∷ []))
+    grown : (h : ℕ) (t : Bool) → (t ≡ true → l .value ≡ v) → a ++ last t l x h v ≡ grow true t (a ++ l ∷ []) x h v
+    grown h true k = sym (raise-snoc a l h v ∙ ap (λ (u : Value). a ++ entry (l .low) h u ∷ []) (sym (k refl)))
+    grown h false k = sym (append-assoc a (l ∷ []) (entry x h v ∷ []))
 
   none-first : (v : Value) (y : ℕ) → x ≡ y → Upto F x [] → sameAs (prev F y) v ≡ false
   none-first v zero e w = refl
@@ -81,8 +84,9 @@ module _ (F : ℕ → Option Value) (x : ℕ) where
       go : {fs : List Entry} → Ended fs → Upto F x fs → push fs x h v ≡ grow true (sameAs (prev F x) v) fs x h v
       go empty w = rw (none-first v x refl w)
       go (ended a l) w =
-          push-snoc a l x h v ∙ ap (λ (t : Bool). a ++ last t l x h v) (before-is a l v w x refl (eqb (suc (l .high)) x) refl)
-          ∙ grown a l v w h (sameAs (prev F x) v)
+          let b = before-is a l v w x refl (eqb (suc (l .high)) x) refl in
+          push-snoc a l x h v ∙ ap (λ (t : Bool). a ++ last t l x h v) b
+          ∙ grown a l v w h (sameAs (prev F x) v) (λ e. words-true (l .value) v ((and-true (eqb (suc (l .high)) x) (sameWords (l .value) v) (b ∙ e)) .1))
 
   pub grow-step : (es : List Entry) (h : ℕ) (v : Value) (b : Bool) → x ≤ h → Upto F x es → ((y : ℕ) → x ≤ y → y ≤ h → F y ≡ shown b v)
       → Upto F (suc h) (grow b (sameAs (prev F x) v) es x h v)

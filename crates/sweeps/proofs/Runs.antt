@@ -1,10 +1,11 @@
 -- What a cursor reads: the run at x, and where the cursor goes behind it.
 use mathlib.Core.Path.{_≡_, refl, sym, _∙_, ap, ap₂, subst}
-use mathlib.Core.Bool.{Bool, true, false}
-use mathlib.Core.Option.{Option, none, some}
+use mathlib.Core.Bool.{Bool, true, false, not}
+use mathlib.Core.Option.{some}
 use mathlib.Core.List.{List, [], _∷_}
 use Prim.Native.Nat.{ℕ, zero, suc, _+_, _*_, _-_, _≤_, _<_}
 use native.Mathlib.Omega.{arith}
+use native.Mathlib.Decide.{ℕ-discrete}
 use native.Mathlib.Nat.{mul-suc, mul-zero}
 use lib.ListN.{length, getD, take, drop}
 use lib.Seq.{drop-drop}
@@ -16,10 +17,9 @@ use Rattle.entries.proofs.Sides.{val-in, val-past, none-under}
 use Rattle.blocks.specs.Blocks.{itemsOf, entriesOf}
 use Rattle.blocks.specs.Steps.{itemFrom}
 use Rattle.blocks.proofs.Tests.{item-from}
-use Rattle.sweeps.specs.Sweeps.{Input}
-use Rattle.sweeps.specs.Cursors.{items, cursor, turn, valueBehind, Ahead, Cur, bit, Sided, Point, TurnAt}
+use Rattle.sweeps.specs.Sweeps.{bit, Input}
 use Rattle.sweeps.specs.declared.Cursor.{Cursor}
-use Rattle.sweeps.specs.declared.Turn.{Turn}
+use Rattle.sweeps.specs.Cursors.{Turn, items, cursor, turn, Ahead, Cur, Sided, Point, TurnAt}
 
 -- items by place and by what is left of the words
 pub items-are : (s k p : ℕ) (w : List ℕ) → items s k p w ≡ itemsOf s k (drop p w)
@@ -210,6 +210,14 @@ module _ (s : ℕ) (w : List ℕ) (x : ℕ) (g : Input s w) where
         go zero e t = absurd (m (omega (arith, mul-suc s zero, mul-zero s)))
         go (suc k) e t = t .1 .0
 
+    -- and in a set not right behind it
+    later-apart : s ≡ 2 → (b + s ≡ 1 + s * getD w 0 0 → ⊥) → getD w (b + s) 0 ≡ suc (getD w (b + 1) 0) → ⊥
+    later-apart z m d = go (f .more) (f .ends) (f .sound)
+      where
+        go : (k : ℕ) → b + s * suc k ≡ 1 + s * getD w 0 0 → Sound (items s (suc k) b w) → ⊥
+        go zero e t = m (omega (arith, mul-suc s zero, mul-zero s))
+        go (suc k) e t = t .1 .1 d (rw z)
+
     later-here : (b + s ≡ 1 + s * getD w 0 0 → ⊥) → b + s + s ≤ length w
     later-here m = here s w (getD w (b + 1) 0 + 1) (b + s) g (pass s w x b g f (getD w (b + 1) 0) refl) m
 
@@ -241,6 +249,9 @@ module _ (s : ℕ) (w : List ℕ) (x : ℕ) (g : Input s w) where
     -- the item's words
     pub in-here : p + s ≤ 1 + length w
     in-here = omega (arith, o .place, here s w x (o .base) g (o .cur) (o .side .0))
+
+    pub in-not-end : p ≡ end → ⊥
+    in-not-end e = let k = not-end s w g (o .base) (o .cur .left) (o .cur .ends) (o .side .0) in omega (arith, o .place, o .end, g .two)
 
     module _ (h q : ℕ) (eh : h ≡ getD w p 0) (eq : q ≡ p + (s - 1)) where
       high-is : getD w (o .base + 1) 0 ≡ h
@@ -274,3 +285,50 @@ module _ (s : ℕ) (w : List ℕ) (x : ℕ) (g : Input s w) where
 
         pub leave-apart : (l : ℕ) → l ≡ getD w q 0 → (l - h ≡ 1 → ⊥) → TurnAt s w x (cursor p true end) (turn h (cursor q false end))
         leave-apart l el z = turned q false (omega arith) (λ m. omega (arith, next-later))
+
+      -- in a set
+      pub leave-set : s ≡ 2 → TurnAt s w x (cursor p true end) (turn h (cursor q false end))
+      leave-set z = go (ℕ-discrete q end)
+        where
+          go : Dec (q ≡ end) → TurnAt s w x (cursor p true end) (turn h (cursor q false end))
+          go (yes e) = leave-last e
+          go (no n) =
+              leave-apart n (getD w q 0) refl
+              (λ e. later-apart (o .base) end (o .cur) (o .side .0) (o .side .1) (o .end) z (not-last n)
+              (ap (λ (i : ℕ). getD w i 0) next-is ∙ omega (arith, next-later n) ∙ ap suc (sym high-is)))
+
+  -- at the end, whatever the cursor says of itself
+  pub turn-end : {c : Cursor} → Point s w x c → c .place ≡ c .end → x < 18446744073709551616 → TurnAt s w x c (turn 18446744073709551615 c)
+  turn-end {c} o e f = go (c .inside) refl
+    where
+      go : (t : Bool) → c .inside ≡ t → TurnAt s w x c (turn 18446744073709551615 c)
+      go true z = absurd (in-not-end (point-as true z o) e)
+      go false z = subst (λ (d : Cursor). TurnAt s w x d (turn 18446744073709551615 d)) (cursor-is c false z) (turn-none (point-as false z o) e f)
+
+  -- before the end a word stands at the cursor
+  pub word-here : {c : Cursor} → Point s w x c → (c .place ≡ c .end → ⊥) → c .place < length w
+  word-here {c} o n = go (c .inside) refl
+    where
+      go : (t : Bool) → c .inside ≡ t → c .place < length w
+      go true z = omega (arith, in-here (point-as true z o), g .two)
+      go false z = omega (arith, out-here (point-as false z o) n, g .two)
+
+  -- in a set, before the end: the word found is the run's last number, or the first behind it
+  module _ {p end : ℕ} {inside : Bool} (o : Point s w x (cursor p inside end)) (z : s ≡ 2) (n : p ≡ end → ⊥) (h : ℕ) (eh : h ≡ getD w p 0) where
+    pub set-found : 1 ≤ h + bit inside
+    set-found = go inside refl
+      where
+        go : (t : Bool) → inside ≡ t → 1 ≤ h + bit t
+        go true e = omega arith
+        go false e = omega (arith, out-side (point-as false e o) n)
+
+    pub turn-set : TurnAt s w x (cursor p inside end) (turn (h + bit inside - 1) (cursor (p + 1) (not inside) end))
+    turn-set = go inside refl
+      where
+        go : (t : Bool) → inside ≡ t → TurnAt s w x (cursor p inside end) (turn (h + bit t - 1) (cursor (p + 1) (not t) end))
+        go true e =
+            let k : h + 1 - 1 ≡ h = omega arith in
+            turn-as true e (rw k (leave-set (point-as true e o) h (p + 1) eh (omega arith) z))
+        go false e =
+            let k : h + 0 - 1 ≡ h - 1 = omega arith in
+            turn-as false e (rw k (turn-out (point-as false e o) n h eh))

@@ -1,25 +1,25 @@
 -- Three runs make a segment, and its value.
-use mathlib.Core.Path.{_≡_, refl, sym, _∙_, ap, subst}
+use mathlib.Core.Path.{_≡_, refl, sym, _∙_, ap}
 use mathlib.Core.Bool.{Bool, true, false}
-use mathlib.Core.Option.{Option, none, some}
-use mathlib.Core.List.{List, [], _∷_}
+use mathlib.Core.Option.{none, some}
+use mathlib.Core.List.{List, _∷_}
 use Prim.Native.Nat.{ℕ, suc, _+_, _-_, _≤_, _<_, min}
 use native.Mathlib.Omega.{arith}
-use native.Mathlib.Numerals.{add-one}
 use lib.ListN.{length, getD, take, drop}
 use lib.Seq.{drop-cons, take-take}
-use lib.Dec.{ltb, eqb}
+use lib.Dec.{eqb}
 use borrow.Author.Tests.{lt-ltb, eq-eqb, ne-eqb}
 use Rattle.entries.specs.Entries.{Value}
 use Rattle.entries.specs.Build.{pick, andb, sameWords}
 use Rattle.entries.specs.Sets.{has}
-use Rattle.entries.proofs.Values.{true≢false}
-use Rattle.sweeps.specs.Sweeps.{accepts, firstOf, mixed, swept, Input, Inputs, widthOf, Fit}
-use Rattle.sweeps.specs.Cursors.{cursor, shown, valueOf, valueBehind, firstBehind, Point, TurnAt, Points, SegmentAt}
+use Rattle.sweeps.specs.Sweeps.{accepts, mixed, swept, Input, Inputs, widthOf, Fit}
+use Rattle.sweeps.specs.declared.Cursor.{Cursor}
+use Rattle.sweeps.specs.Cursors.{cursor, turn, shown, valueOf, valueBehind, firstBehind, Point, TurnAt, PointsAt, SegmentAt}
 use Rattle.sweeps.specs.declared.Plan.{Plan}
 use Rattle.sweeps.specs.declared.Words.{Words}
-use Rattle.sweeps.specs.declared.Cursor.{Cursor}
-use Rattle.sweeps.specs.declared.Turn.{Turn}
+use Rattle.sweeps.specs.declared.Places.{Places}
+use Rattle.sweeps.specs.declared.Sides.{Sides}
+use Rattle.sweeps.specs.declared.Run.{Run}
 use Rattle.sweeps.specs.declared.Segment.{Segment}
 use Rattle.sweeps.proofs.Runs.{point-as, in-here}
 
@@ -57,17 +57,20 @@ module _ (s : ℕ) (u v : Words) where
   same-differ h f = let k : s - 2 ≡ suc (s - 3) = omega arith in rw (k, ne-eqb (u .first) (v .first) f)
 
 -- the value that is carried where the table accepts
-module _ {plan : Plan} {a b c : List ℕ} {x : ℕ} {i j k : Cursor} {kept : Bool} (g : Inputs (plan .a) (plan .b) (plan .c) a b c) (f : Fit (plan .table) (plan .out) (plan .a) (plan .b) (plan .c))
-    (o : Points plan a b c x i j k) (e : kept ≡ accepts (plan .table) (i .inside) (j .inside) (k .inside)) where
-  pub carried-set : (r : Words) → plan .out ≡ 2 → shown kept (take (plan .out - 2) (firstBehind plan a b c i j k)) ≡ shown kept (valueOf (plan .out) r)
+module _ {plan : Plan} {a b c : List ℕ} {x : ℕ} {kept : Bool} (at : Places) (sides : Sides) (ends : Places) (g : Inputs (plan .a) (plan .b) (plan .c) a b c) (f : Fit (plan .table) (plan .out) (plan .a) (plan .b) (plan .c))
+    (o : PointsAt plan a b c x at sides ends) (e : kept ≡ accepts (plan .table) (sides .a) (sides .b) (sides .c)) where
+  abbrev Carries : Words → Type 0
+  Carries r = shown kept (take (plan .out - 2) (firstBehind plan a b c at sides)) ≡ shown kept (valueOf (plan .out) r)
+
+  pub carried-set : (r : Words) → plan .out ≡ 2 → Carries r
   carried-set r z = rw z
 
-  pub carried-none : (r : Words) → kept ≡ false → shown kept (take (plan .out - 2) (firstBehind plan a b c i j k)) ≡ shown kept (valueOf (plan .out) r)
+  pub carried-none : (r : Words) → kept ≡ false → Carries r
   carried-none r z = rw z
 
   module _ (y : kept ≡ true) where
-    wide : plan .out ≤ widthOf (plan .a) (plan .b) (plan .c) (i .inside) (j .inside) (k .inside)
-    wide = f .wide (i .inside) (j .inside) (k .inside) (sym e ∙ y)
+    wide : plan .out ≤ widthOf (plan .a) (plan .b) (plan .c) (sides .a) (sides .b) (sides .c)
+    wide = f .wide (sides .a) (sides .b) (sides .c) (sym e ∙ y)
 
     reach : (s : ℕ) (w : List ℕ) (m : Cursor) → Input s w → Point s w x m → m .inside ≡ true → plan .out ≤ s → m .place + plan .out ≤ 1 + length w
     reach s w m h p z l = omega (arith, in-here s w x h (point-as true z p))
@@ -75,43 +78,43 @@ module _ {plan : Plan} {a b c : List ℕ} {x : ℕ} {i j k : Cursor} {kept : Boo
     cut : (s : ℕ) (w : List ℕ) (p : ℕ) (r : Words) → plan .out ≤ s → valueOf (plan .out) r ≡ valueBehind (plan .out) w p → take (plan .out - 2) (valueBehind s w p) ≡ valueOf (plan .out) r
     cut s w p r l q = take-take (plan .out - 2) (s - 2) (drop (p + 1) w) (omega arith) ∙ sym q
 
-    module _ (ia : i .inside ≡ true) where
+    module _ (ia : sides .a ≡ true) where
       wide-a : plan .out ≤ plan .a
       wide-a = rw ia at wide
 
-      pub reach-a : i .place + plan .out ≤ 1 + length a
-      reach-a = reach (plan .a) a i (g .first) (o .at-a) ia wide-a
+      pub reach-a : at .a + plan .out ≤ 1 + length a
+      reach-a = reach (plan .a) a _ (g .first) (o .at-a) ia wide-a
 
-      pub carried-a : (r : Words) → valueOf (plan .out) r ≡ valueBehind (plan .out) a (i .place) → shown kept (take (plan .out - 2) (firstBehind plan a b c i j k)) ≡ shown kept (valueOf (plan .out) r)
-      carried-a r q = rw ia (ap (shown kept) (cut (plan .a) a (i .place) r wide-a q))
+      pub carried-a : (r : Words) → valueOf (plan .out) r ≡ valueBehind (plan .out) a (at .a) → Carries r
+      carried-a r q = rw ia (ap (shown kept) (cut (plan .a) a (at .a) r wide-a q))
 
-    module _ (ia : i .inside ≡ false) (ib : j .inside ≡ true) where
+    module _ (ia : sides .a ≡ false) (ib : sides .b ≡ true) where
       wide-b : plan .out ≤ plan .b
       wide-b = rw (ia, ib) at wide
 
-      pub reach-b : j .place + plan .out ≤ 1 + length b
-      reach-b = reach (plan .b) b j (g .second) (o .at-b) ib wide-b
+      pub reach-b : at .b + plan .out ≤ 1 + length b
+      reach-b = reach (plan .b) b _ (g .second) (o .at-b) ib wide-b
 
-      pub carried-b : (r : Words) → valueOf (plan .out) r ≡ valueBehind (plan .out) b (j .place) → shown kept (take (plan .out - 2) (firstBehind plan a b c i j k)) ≡ shown kept (valueOf (plan .out) r)
-      carried-b r q = rw (ia, ib) (ap (shown kept) (cut (plan .b) b (j .place) r wide-b q))
+      pub carried-b : (r : Words) → valueOf (plan .out) r ≡ valueBehind (plan .out) b (at .b) → Carries r
+      carried-b r q = rw (ia, ib) (ap (shown kept) (cut (plan .b) b (at .b) r wide-b q))
 
-    module _ (ia : i .inside ≡ false) (ib : j .inside ≡ false) (ne : plan .out ≡ 2 → ⊥) where
+    module _ (ia : sides .a ≡ false) (ib : sides .b ≡ false) (ne : plan .out ≡ 2 → ⊥) where
       -- the third is inside, as a table that accepts outside all makes a set
-      inner : k .inside ≡ true
-      inner = go (k .inside) refl
+      inner : sides .c ≡ true
+      inner = go (sides .c) refl
         where
-          go : (t : Bool) → k .inside ≡ t → t ≡ true
+          go : (t : Bool) → sides .c ≡ t → t ≡ true
           go true z = refl
           go false z = absurd (ne (let l = rw (ia, ib, z) at wide in omega (arith, f .two)))
 
       wide-c : plan .out ≤ plan .c
       wide-c = rw (ia, ib, inner) at wide
 
-      pub reach-c : k .place + plan .out ≤ 1 + length c
-      reach-c = reach (plan .c) c k (g .third) (o .at-c) inner wide-c
+      pub reach-c : at .c + plan .out ≤ 1 + length c
+      reach-c = reach (plan .c) c _ (g .third) (o .at-c) inner wide-c
 
-      pub carried-c : (r : Words) → valueOf (plan .out) r ≡ valueBehind (plan .out) c (k .place) → shown kept (take (plan .out - 2) (firstBehind plan a b c i j k)) ≡ shown kept (valueOf (plan .out) r)
-      carried-c r q = rw (ia, ib, inner) (ap (shown kept) (cut (plan .c) c (k .place) r wide-c q))
+      pub carried-c : (r : Words) → valueOf (plan .out) r ≡ valueBehind (plan .out) c (at .c) → Carries r
+      carried-c r q = rw (ia, ib, inner) (ap (shown kept) (cut (plan .c) c (at .c) r wide-c q))
 
 has-shown : (b : Bool) (v : Value) → has (shown b v) ≡ b
 has-shown true v = refl
@@ -121,34 +124,47 @@ shown-pick : (b : Bool) (v : Value) → pick b (some v) none ≡ shown b v
 shown-pick true v = refl
 shown-pick false v = refl
 
-pub segment-made : {plan : Plan} {a b c : List ℕ} {x m e : ℕ} {i j k i′ j′ k′ : Cursor} {ra rb rc : Turn} {u : Bool} {v : Words} →
-    TurnAt (plan .a) a x i ra → TurnAt (plan .b) b x j rb → TurnAt (plan .c) c x k rc →
-    m ≡ min (ra .last) (rb .last) → e ≡ min m (rc .last) → u ≡ accepts (plan .table) (i .inside) (j .inside) (k .inside) →
-    shown u (take (plan .out - 2) (firstBehind plan a b c i j k)) ≡ shown u (valueOf (plan .out) v) →
-    i′ ≡ pick (eqb (ra .last) e) (ra .then) i → j′ ≡ pick (eqb (rb .last) e) (rb .then) j → k′ ≡ pick (eqb (rc .last) e) (rc .then) k →
-    SegmentAt plan a b c x (record { last = e; inside = u; value = v; a = i′; b = j′; c = k′ })
-unfolding swept mixed
-segment-made {plan} {a} {b} {c} {x} {m} {e} {i} {j} {k} {i′} {j′} {k′} {ra} {rb} {rc} {u} {v} ta tb tc em ee eu ev ei ej ek =
-    let h : x ≤ e = omega (arith, ta .from-x, tb .from-x, tc .from-x) in
-    let f : e < 18446744073709551616 = omega (arith, ta .fits) in
-    record {
-      from-x = h;
-      fits = f;
-      same = λ y p q.
-          rw (
-            lt-ltb y 18446744073709551616 (omega arith),
-            ta .same y p (omega arith),
-            tb .same y p (omega arith),
-            tc .same y p (omega arith),
-            has-shown (i .inside) (valueBehind (plan .a) a (i .place)),
-            has-shown (j .inside) (valueBehind (plan .b) b (j .place)),
-            has-shown (k .inside) (valueBehind (plan .c) c (k .place)),
-            ← eu,
-          )
-          (shown-pick u (take (plan .out - 2) (firstBehind plan a b c i j k)) ∙ ev);
-      points = record {
-        at-a = rw ei (ta .next e h (omega arith));
-        at-b = rw ej (tb .next e h (omega arith));
-        at-c = rw ek (tc .next e h (omega arith));
-      };
-    }
+cursor-pick : (t b d : Bool) (p q e : ℕ) → pick t (cursor q d e) (cursor p b e) ≡ cursor (pick t q p) (pick t d b) e
+cursor-pick true b d p q e = refl
+cursor-pick false b d p q e = refl
+
+-- a cursor behind the segment
+next-point : (s : ℕ) (w : List ℕ) (x p q e last p′ : ℕ) (b d b′ : Bool) → TurnAt s w x (cursor p b e) (turn last (cursor q d e)) → (h : ℕ) → x ≤ h → h ≤ last
+    → p′ ≡ pick (eqb last h) q p → b′ ≡ pick (eqb last h) d b → Point s w (h + 1) (cursor p′ b′ e)
+next-point s w x p q e last p′ b d b′ t h l m ep eb = rw (ep, eb, ← cursor-pick (eqb last h) b d p q e) (t .next h l m)
+
+module _ (plan : Plan) (a b c : List ℕ) (x : ℕ) (at : Places) (sides : Sides) (ends : Places) (i j k : Run) where
+  abbrev turns : Type 0
+  turns = TurnAt (plan .a) a x (cursor (at .a) (sides .a) (ends .a)) (turn (i .last) (cursor (i .next) (i .then) (ends .a)))
+      × TurnAt (plan .b) b x (cursor (at .b) (sides .b) (ends .b)) (turn (j .last) (cursor (j .next) (j .then) (ends .b)))
+      × TurnAt (plan .c) c x (cursor (at .c) (sides .c) (ends .c)) (turn (k .last) (cursor (k .next) (k .then) (ends .c)))
+
+  pub segment-made : (r : Segment) (m : ℕ) → turns → m ≡ min (i .last) (j .last) → r .last ≡ min m (k .last) → r .inside ≡ accepts (plan .table) (sides .a) (sides .b) (sides .c)
+      → shown (r .inside) (take (plan .out - 2) (firstBehind plan a b c at sides)) ≡ shown (r .inside) (valueOf (plan .out) (r .value))
+      → (r .at .a ≡ pick (eqb (i .last) (r .last)) (i .next) (at .a)) × (r .at .b ≡ pick (eqb (j .last) (r .last)) (j .next) (at .b)) × (r .at .c ≡ pick (eqb (k .last) (r .last)) (k .next) (at .c))
+      → (r .sides .a ≡ pick (eqb (i .last) (r .last)) (i .then) (sides .a)) × (r .sides .b ≡ pick (eqb (j .last) (r .last)) (j .then) (sides .b)) × (r .sides .c ≡ pick (eqb (k .last) (r .last)) (k .then) (sides .c))
+      → SegmentAt plan a b c x ends r
+  unfolding swept mixed
+  segment-made r m t em ee eu ev ep es =
+      let h : x ≤ r .last = omega (arith, t .0 .from-x, t .1 .from-x, t .2 .from-x) in
+      record {
+        from-x = h;
+        fits = omega (arith, t .0 .fits);
+        same = λ y p q.
+            rw (
+              lt-ltb y 18446744073709551616 (omega (arith, t .0 .fits)),
+              t .0 .same y p (omega arith),
+              t .1 .same y p (omega arith),
+              t .2 .same y p (omega arith),
+              has-shown (sides .a) (valueBehind (plan .a) a (at .a)),
+              has-shown (sides .b) (valueBehind (plan .b) b (at .b)),
+              has-shown (sides .c) (valueBehind (plan .c) c (at .c)),
+              ← eu,
+            )
+            (shown-pick (r .inside) (take (plan .out - 2) (firstBehind plan a b c at sides)) ∙ ev);
+        points = record {
+          at-a = next-point (plan .a) a x (at .a) (i .next) (ends .a) (i .last) (r .at .a) (sides .a) (i .then) (r .sides .a) (t .0) (r .last) h (omega arith) (ep .0) (es .0);
+          at-b = next-point (plan .b) b x (at .b) (j .next) (ends .b) (j .last) (r .at .b) (sides .b) (j .then) (r .sides .b) (t .1) (r .last) h (omega arith) (ep .1) (es .1);
+          at-c = next-point (plan .c) c x (at .c) (k .next) (ends .c) (k .last) (r .at .c) (sides .c) (k .then) (r .sides .c) (t .2) (r .last) h (omega arith) (ep .2) (es .2);
+        };
+      }

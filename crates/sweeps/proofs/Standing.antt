@@ -1,48 +1,75 @@
 -- What holds at the head of the sweep's loop: at the start, from one segment to the next, and at the end.
 use mathlib.Core.Path.{_≡_, refl, sym, _∙_, ap, subst}
 use mathlib.Core.Bool.{Bool, true, false}
-use mathlib.Core.Option.{Option, none, some}
+use mathlib.Core.Option.{Option, none}
 use mathlib.Core.List.{List, []}
 use Prim.Native.Nat.{ℕ, suc, _+_, _*_, _≤_, _<_}
 use native.Mathlib.Omega.{arith}
 use native.Mathlib.Nat.{mul-le-mul-left}
 use native.Mathlib.Numerals.{add-one}
+use lib.Dec.{eqb}
+use borrow.Author.Tests.{eqb-true}
 use lib.ListN.{length}
-use Rattle.entries.specs.Entries.{Value, Entry}
-use Rattle.entries.specs.Build.{pick}
+use Rattle.entries.specs.Entries.{Value, Entry, ListOf}
+use Rattle.entries.specs.Build.{pick, andb}
+use Rattle.entries.proofs.Values.{and-true}
 use Rattle.entries.proofs.Canon.{unique}
 use Rattle.entries.proofs.Step.{Upto, upto-start, upto-end}
 use Rattle.entries.proofs.Bounds.{prev}
-use Rattle.sweeps.specs.Cursors.{items, shown, valueOf, sweptOf, resultOf, Points, SegmentAt, sameAs, begins, grow, Room, Holds, Stopped}
+use Rattle.sweeps.specs.Sweeps.{resultOf, bit}
+use Rattle.sweeps.specs.Cursors.{setPlan, onlySets, items, shown, valueOf, sweptOf, PointsAt, SegmentAt, sameAs, begins, grow, Addable, Holds, Stopped}
 use Rattle.sweeps.specs.declared.Plan.{Plan}
 use Rattle.sweeps.specs.declared.Words.{Words}
-use Rattle.sweeps.specs.declared.Cursor.{Cursor}
+use Rattle.sweeps.specs.declared.Places.{Places}
+use Rattle.sweeps.specs.declared.Sides.{Sides}
 use Rattle.sweeps.specs.declared.Segment.{Segment}
 use Rattle.sweeps.proofs.Tables.{swept-above, result-is}
-use Rattle.sweeps.proofs.Growing.{grow-step, joins-some, length-grow, begins-one, no-longer}
+use Rattle.sweeps.proofs.Growing.{grow-and, grow-step, joins-some, length-grow, begins-one, no-longer}
 
-pub result-lists : (plan : Plan) (a b c : List ℕ) → Rattle.entries.specs.Entries.ListOf (sweptOf plan a b c) (resultOf plan a b c)
+pub result-lists : (plan : Plan) (a b c : List ℕ) → ListOf (sweptOf plan a b c) (resultOf plan a b c)
 result-lists plan a b c = result-is (plan .table) (plan .out) _ _ _
 
--- room for what a segment adds
-room-made : (keep : Bool) (s n l m : ℕ) (u q : Bool) → 1 + s * pick keep l 0 ≤ m → n + begins u q ≤ l → (q ≡ true → 0 < n) → n < 18446744073709551615 → Room keep s n u q m
-room-made false s n l m u q h k z w = w
-room-made true s n l m false q h k z w = omega (arith, mul-le-mul-left {m = n} {n = l} s (omega arith))
-room-made true s n l m true true h k z w = (z refl, omega (arith, mul-le-mul-left {m = n} {n = l} s (omega arith)))
-room-made true s n l m true false h k z w = omega (arith, mul-le-mul-left {m = suc n} {n = l} s (omega arith))
+-- a plan of sets only
+pub sets-only : (plan : Plan) (t : Bool) → t ≡ onlySets plan → t ≡ true → plan ≡ setPlan (plan .table)
+sets-only plan t e f =
+    let p = and-true (eqb (plan .a) 2) _ (sym e ∙ f) in
+    let q = and-true (eqb (plan .b) 2) _ (p .1) in
+    let r = and-true (eqb (plan .c) 2) _ (q .1) in
+    λ i. record {
+      table = plan .table;
+      a = eqb-true (plan .a) 2 (p .0) i;
+      b = eqb-true (plan .b) 2 (q .0) i;
+      c = eqb-true (plan .c) 2 (r .0) i;
+      out = eqb-true (plan .out) 2 (r .1) i;
+    }
+
+-- a value that goes on is there
+less-and : (u q : Bool) → bit (andb u q) ≤ bit u
+less-and true true = omega arith
+less-and true false = omega arith
+less-and false q = omega arith
+
+bit-and : (u q : Bool) (n : ℕ) → (q ≡ true → 0 < n) → bit (andb u q) ≤ n
+bit-and true true n h = h refl
+bit-and true false n h = omega arith
+bit-and false q n h = omega arith
+
+room-made : (keep : Bool) (s n l m : ℕ) → 1 + s * pick keep l 0 ≤ m → n ≤ l → 1 + s * pick keep n 0 ≤ m
+room-made true s n l m h k = omega (arith, mul-le-mul-left {m = n} {n = l} s k)
+room-made false s n l m h k = h
 
 -- the sweep stands at x: the cursors, the value right before x, the list made so far, and that it is stored
-pub record Standing (plan : Plan) (a b c : List ℕ) (keep : Bool) (x : ℕ) (i j k : Cursor) (was : Bool) (v : Words) (n : ℕ) (o : List ℕ) : Type 0 where
+pub record Standing (plan : Plan) (a b c : List ℕ) (keep : Bool) (x : ℕ) (at : Places) (sides : Sides) (ends : Places) (was : Bool) (v : Words) (n : ℕ) (o : List ℕ) : Type 0 where
   pub fits : x < 18446744073709551616
-  pub points : Points plan a b c x i j k
+  pub points : PointsAt plan a b c x at sides ends
   pub before : shown was (valueOf (plan .out) v) ≡ prev (sweptOf plan a b c) x
   pub list : List Entry
   pub upto : Upto (sweptOf plan a b c) x list
   pub size : n ≡ length list
   pub holds : Holds keep (plan .out) n o list
 
-pub standing-zero : (plan : Plan) (a b c : List ℕ) (keep : Bool) (i j k : Cursor) (v : Words) (o : List ℕ) → Points plan a b c 0 i j k → Standing plan a b c keep 0 i j k false v 0 o
-standing-zero plan a b c keep i j k v o h = record {
+pub standing-zero : (plan : Plan) (a b c : List ℕ) (keep : Bool) (at : Places) (sides : Sides) (ends : Places) (v : Words) (o : List ℕ) → PointsAt plan a b c 0 at sides ends → Standing plan a b c keep 0 at sides ends false v 0 o
+standing-zero plan a b c keep at sides ends v o h = record {
   fits = omega arith;
   points = h;
   before = refl;
@@ -56,7 +83,7 @@ standing-zero plan a b c keep i j k v o h = record {
     none true = refl
     none false = tt
 
-module _ {plan : Plan} {a b c : List ℕ} {keep : Bool} {x : ℕ} {i j k : Cursor} {was : Bool} {v : Words} {n : ℕ} {o : List ℕ} (h : Standing plan a b c keep x i j k was v n o) where
+module _ {plan : Plan} {a b c : List ℕ} {keep : Bool} {x : ℕ} {at : Places} {sides : Sides} {ends : Places} {was : Bool} {v : Words} {n : ℕ} {o : List ℕ} (h : Standing plan a b c keep x at sides ends was v n o) where
   most : n ≤ length (resultOf plan a b c)
   most = omega (arith, h .size, no-longer (sweptOf plan a b c) x (h .list) (resultOf plan a b c) (h .upto) (result-lists plan a b c))
 
@@ -64,22 +91,27 @@ module _ {plan : Plan} {a b c : List ℕ} {keep : Bool} {x : ℕ} {i j k : Curso
   pub stopped-early : (stop : ℕ) → n ≤ stop → stop ≤ n → Stopped keep (plan .out) stop (resultOf plan a b c) n o
   stopped-early stop l m = record { size = omega (arith, most); holds = λ z. absurd (omega (arith, most)) }
 
-  module _ {r : Segment} (g : SegmentAt plan a b c x r) {q : Bool} (e : q ≡ sameAs (shown was (valueOf (plan .out) v)) (valueOf (plan .out) (r .value))) where
+  module _ {r : Segment} (g : SegmentAt plan a b c x ends r) {q : Bool} (e : q ≡ andb (r .inside) (sameAs (shown was (valueOf (plan .out) v)) (valueOf (plan .out) (r .value)))) where
     abbrev next : List Entry → List Entry
     next es = grow (r .inside) q es x (r .last) (valueOf (plan .out) (r .value))
 
     next-upto : Upto (sweptOf plan a b c) (suc (r .last)) (next (h .list))
-    next-upto = rw (e, h .before) (grow-step (sweptOf plan a b c) x (h .list) (r .last) (valueOf (plan .out) (r .value)) (r .inside) (g .from-x) (h .upto) (g .same))
+    next-upto = rw (e, grow-and (r .inside) (sameAs (shown was (valueOf (plan .out) v)) (valueOf (plan .out) (r .value))) (h .list) x (r .last) (valueOf (plan .out) (r .value)), h .before) (grow-step (sweptOf plan a b c) x (h .list) (r .last) (valueOf (plan .out) (r .value)) (r .inside) (g .from-x) (h .upto) (g .same))
 
     next-size : length (next (h .list)) ≡ n + begins (r .inside) q
     next-size = omega (arith, h .size, length-grow (r .inside) q (h .list) x (r .last) (valueOf (plan .out) (r .value)))
 
-    pub standing-room : (len : ℕ) → 1 + plan .out * pick keep (length (resultOf plan a b c)) 0 ≤ len → n < 18446744073709551615 → Room keep (plan .out) n (r .inside) q len
-    standing-room len f w =
-        room-made keep (plan .out) n (length (resultOf plan a b c)) len (r .inside) q f
-        (omega (arith, next-size, no-longer (sweptOf plan a b c) (suc (r .last)) (next (h .list)) (resultOf plan a b c) next-upto (result-lists plan a b c)))
-        (λ z. omega (arith, h .size, joins-some (sweptOf plan a b c) x (h .list) (valueOf (plan .out) (r .value)) (h .upto) (ap (λ (p : Option Value). sameAs p (valueOf (plan .out) (r .value))) (sym (h .before)) ∙ sym e ∙ z)))
-        w
+    pub standing-room : (len : ℕ) → 2 ≤ plan .out → plan .out ≤ 4 → 1 + plan .out * pick keep (length (resultOf plan a b c)) 0 ≤ len → n < 18446744073709551615 → Addable keep (plan .out) n (r .inside) q len
+    standing-room len two four f w = record {
+      two = two;
+      four = four;
+      few = w;
+      from-one = rw e (bit-and (r .inside) _ n
+          (λ z. omega (arith, h .size, joins-some (sweptOf plan a b c) x (h .list) (valueOf (plan .out) (r .value)) (h .upto) (ap (λ (p : Option Value). sameAs p (valueOf (plan .out) (r .value))) (sym (h .before)) ∙ z))));
+      goes-on = rw e (less-and (r .inside) _);
+      room = room-made keep (plan .out) (n + begins (r .inside) q) (length (resultOf plan a b c)) len f
+          (omega (arith, next-size, no-longer (sweptOf plan a b c) (suc (r .last)) (next (h .list)) (resultOf plan a b c) next-upto (result-lists plan a b c)));
+    }
 
     module _ {n′ : ℕ} (o′ : List ℕ) (m : (n′ ≡ n + begins (r .inside) q) × Holds keep (plan .out) n′ o′ (next (items (plan .out) n 1 o))) where
       next-holds : Holds keep (plan .out) n′ o′ (next (h .list))
@@ -89,7 +121,7 @@ module _ {plan : Plan} {a b c : List ℕ} {keep : Bool} {x : ℕ} {i j k : Curso
           go true y z = y ∙ ap next z
           go false y z = tt
 
-      pub standing-next : (r .last ≡ 18446744073709551615 → ⊥) → Standing plan a b c keep (r .last + 1) (r .a) (r .b) (r .c) (r .inside) (r .value) n′ o′
+      pub standing-next : (r .last ≡ 18446744073709551615 → ⊥) → Standing plan a b c keep (r .last + 1) (r .at) (r .sides) ends (r .inside) (r .value) n′ o′
       standing-next ne = record {
         fits = omega (arith, g .fits);
         points = g .points;

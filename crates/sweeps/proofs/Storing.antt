@@ -7,16 +7,17 @@ use native.Mathlib.Omega.{arith}
 use native.Mathlib.Decide.{decLe}
 use lib.Dec.{leb, ltb}
 use borrow.Author.Tests.{le-leb, lt-leb, le-ltb, lt-ltb}
-use native.Mathlib.Nat.{mul-suc, mul-zero}
-use lib.ListN.{length, getD, set, take, drop, length-set, take-append-drop}
-use lib.Seq.{getD-set-same, getD-set-other, drop-set-lt}
+use native.Mathlib.Nat.{mul-suc, mul-zero, mul-le-mul-left}
+use lib.ListN.{length, getD, set, drop, length-set, take-append-drop}
+use lib.Seq.{getD-set-same, getD-set-other}
 use Rattle.entries.specs.Entries.{Value, Entry, entry}
+use Rattle.entries.specs.Build.{pick}
 use Rattle.blocks.specs.Blocks.{itemsOf, blockOf}
 use Rattle.blocks.specs.Steps.{itemFrom, Cleared}
-use Rattle.blocks.proofs.Words.{items-length}
 use Rattle.blocks.proofs.Moves.{part-eq, splice-entries}
 use Rattle.blocks.proofs.Tests.{le-mul}
-use Rattle.sweeps.specs.Cursors.{items, valueOf, begins, raise, grow, Room, Holds, Laid}
+use Rattle.sweeps.specs.Sweeps.{bit}
+use Rattle.sweeps.specs.Cursors.{items, valueOf, begins, raise, grow, Addable, Holds, Laid, Stored}
 use Rattle.sweeps.specs.declared.Words.{Words}
 use Rattle.sweeps.proofs.Runs.{items-are}
 use Rattle.sweeps.proofs.Segments.{words-two, words-three, words-four}
@@ -38,123 +39,123 @@ module _ (s : ℕ) (two : 2 ≤ s) where
   items-snoc w zero p q e = let k : p ≡ q = omega (arith, mul-zero s) in ap (λ (r : ℕ). itemFrom s w r ∷ []) k
   items-snoc w (suc n) p q e = ap (λ (l : List Entry). itemFrom s w p ∷ l) (items-snoc w n (p + s) q (omega (arith, mul-suc s n)))
 
-  -- the last high raised
-  pub raised : (w : List ℕ) (n h : ℕ) → 0 < n → 1 + s * n ≤ length w → items s n 1 (set w (2 + s * (n - 1)) h) ≡ raise (items s n 1 w) h
-  raised w zero h p r = absurd (omega arith)
-  raised w (suc m) h p r =
-      let at : 2 + s * (suc m - 1) ≡ 2 + s * m = ap (λ (k : ℕ). 2 + s * k) (omega arith) in
-      rw at (items-snoc o m 1 (1 + s * m) refl
-      ∙ ap₂ (λ (l : List Entry) (e : Entry). l ++ e ∷ [])
-      (items-agree o w m 1 (1 + s * m) refl (omega (arith, length-set w (2 + s * m) h, mul-suc s m)) (omega (arith, mul-suc s m)) (λ j a b. getD-set-other w (2 + s * m) j h 0 (omega arith)))
-      (entry-path _ _ (getD-set-other w (2 + s * m) (1 + s * m) h 0 (omega arith))
-      (ap (λ (k : ℕ). getD o k 0) (omega arith) ∙ getD-set-same w (2 + s * m) h 0 (omega (arith, mul-suc s m)))
-      (ap (take (s - 2)) (drop-set-lt (1 + s * m + 2) w (2 + s * m) h (omega arith))))
-      ∙ sym (ap (λ (l : List Entry). raise l h) (items-snoc w m 1 (1 + s * m) refl) ∙ raise-snoc (items s m 1 w) (itemFrom s w (1 + s * m)) h))
-    where
-      o : List ℕ
-      o = set w (2 + s * m) h
+  -- the items before
+  laid-none : {w o : List ℕ} {x h : ℕ} {v : Value} (n : ℕ) → 1 + s * n ≤ length w → Laid s w (1 + s * n) x h v o → items s n 1 o ≡ items s n 1 w
+  laid-none {w} {o} n r l = items-agree o w n 1 (1 + s * n) refl (omega (arith, l .long)) r (λ j a b. l .kept j b)
 
   -- an item laid behind
-  pub laid : {w o : List ℕ} {x h : ℕ} {v : Value} (n : ℕ) → 1 + s * n ≤ length w → Laid s w (1 + s * n) x h v o → items s (suc n) 1 o ≡ items s n 1 w ++ entry x h v ∷ []
-  laid {w} {o} {x} {h} {v} n r l =
+  laid-new : {w o : List ℕ} {x h : ℕ} {v : Value} (n : ℕ) → 1 + s * suc n ≤ length w → Laid s w (1 + s * n) x h v o → items s (suc n) 1 o ≡ items s n 1 w ++ entry x h v ∷ []
+  laid-new {w} {o} {x} {h} {v} n r l =
       items-snoc o n 1 (1 + s * n) refl
-      ∙ ap₂ (λ (a : List Entry) (e : Entry). a ++ e ∷ [])
-      (items-agree o w n 1 (1 + s * n) refl (omega (arith, l .long)) r (λ j a b. l .kept j b))
-      (l .item)
+      ∙ ap₂ (λ (a : List Entry) (e : Entry). a ++ e ∷ []) (laid-none n (omega (arith, mul-suc s n)) l) (l .item (omega (arith, mul-suc s n)))
+
+  -- the last item laid again, with its own low end
+  laid-over : {w o : List ℕ} {h : ℕ} {v : Value} (n : ℕ) → 1 + s * suc n ≤ length w → Laid s w (1 + s * n) (getD w (1 + s * n) 0) h v o → items s (suc n) 1 o ≡ raise (items s (suc n) 1 w) h v
+  laid-over {w} {o} {h} {v} n r l =
+      laid-new n r l ∙ sym (ap (λ (es : List Entry). raise es h v) (items-snoc w n 1 (1 + s * n) refl) ∙ raise-snoc (items s n 1 w) (itemFrom s w (1 + s * n)) h v)
 
 -- an item's words stored, by how many there are
-module _ (s : ℕ) (d : List ℕ) (q x h : ℕ) (v : Words) (room : q + s ≤ length d) where
-  abbrev pub ends : List ℕ
-  ends = set (set d q x) (q + 1) h
+pub bit-one : (b : Bool) → bit b ≤ 1
+bit-one true = omega arith
+bit-one false = omega arith
 
-  pub lay-two : s ≡ 2 → Laid s d q x h (valueOf s v) ends
+-- x as the low end, or in the high end's place, and h as the high end
+module _ (d : List ℕ) (q x h : ℕ) (join : Bool) (low : ℕ) (el : low ≡ q + bit join) (room : q + 2 ≤ length d) where
+  abbrev ends : List ℕ
+  ends = set (set d low x) (q + 1) h
+
+  ends-kept : (j : ℕ) → j < q → getD ends j 0 ≡ getD d j 0
+  ends-kept j l = getD-set-other (set d low x) (q + 1) j h 0 (omega arith) ∙ getD-set-other d low j x 0 (omega arith)
+
+  ends-low : getD ends q 0 ≡ pick join (getD d q 0) x
+  ends-low = getD-set-other (set d low x) (q + 1) q h 0 (omega arith) ∙ ap (λ (i : ℕ). getD (set d i x) q 0) el ∙ go join
+    where
+      go : (t : Bool) → getD (set d (q + bit t) x) q 0 ≡ pick t (getD d q 0) x
+      go true = getD-set-other d (q + 1) q x 0 (omega arith)
+      go false = let k : q + 0 ≡ q = omega arith in rw k (getD-set-same d q x 0 (omega arith))
+
+  ends-high : getD ends (q + 1) 0 ≡ h
+  ends-high = getD-set-same (set d low x) (q + 1) h 0 (simp length-set (omega arith))
+
+module _ (s : ℕ) (d : List ℕ) (q x h : ℕ) (join : Bool) (low : ℕ) (el : low ≡ q + bit join) (v : Words) (two : 2 ≤ s) (room : q + s ≤ length d) where
+  has-two : q + 2 ≤ length d
+  has-two = omega arith
+
+  abbrev both : List ℕ
+  both = set (set d low x) (q + 1) h
+
+  pub lay-two : s ≡ 2 → Laid s d q (pick join (getD d q 0) x) h (valueOf s v) both
   lay-two e = record {
     long = simp length-set;
-    kept = λ j l. getD-set-other (set d q x) (q + 1) j h 0 (omega arith) ∙ getD-set-other d q j x 0 (omega arith);
-    item = entry-path (itemFrom s ends q) (entry x h (valueOf s v)) (getD-set-other (set d q x) (q + 1) q h 0 (omega arith) ∙ getD-set-same d q x 0 (omega arith))
-        (getD-set-same (set d q x) (q + 1) h 0 (simp length-set (omega arith)))
-        (sym (words-two s v ends (q + 2) e));
+    kept = ends-kept d q x h join low el has-two;
+    item = λ fits. entry-path (itemFrom s both q) (entry (pick join (getD d q 0) x) h (valueOf s v)) (ends-low d q x h join low el has-two) (ends-high d q x h join low el has-two)
+        (sym (words-two s v both (q + 2) e));
   }
 
-  abbrev pub ends-first : List ℕ
-  ends-first = set ends (q + 2) (v .first)
+  abbrev third : List ℕ
+  third = set both (q + 2) (v .first)
 
-  pub lay-three : s ≡ 3 → Laid s d q x h (valueOf s v) ends-first
+  pub lay-three : s ≡ 3 → Laid s d q (pick join (getD d q 0) x) h (valueOf s v) third
   lay-three e = record {
     long = simp length-set;
-    kept = λ j l. getD-set-other ends (q + 2) j (v .first) 0 (omega arith) ∙ getD-set-other (set d q x) (q + 1) j h 0 (omega arith) ∙ getD-set-other d q j x 0 (omega arith);
-    item = entry-path (itemFrom s ends-first q) (entry x h (valueOf s v))
-        (getD-set-other ends (q + 2) q (v .first) 0 (omega arith) ∙ getD-set-other (set d q x) (q + 1) q h 0 (omega arith) ∙ getD-set-same d q x 0 (omega arith))
-        (getD-set-other ends (q + 2) (q + 1) (v .first) 0 (omega arith) ∙ getD-set-same (set d q x) (q + 1) h 0 (simp length-set (omega arith)))
-        (sym (words-three s v ends-first (q + 2) e (simp length-set (omega arith)) (sym (getD-set-same ends (q + 2) (v .first) 0 (simp length-set (omega arith))))));
+    kept = λ j l. getD-set-other both (q + 2) j (v .first) 0 (omega arith) ∙ ends-kept d q x h join low el has-two j l;
+    item = λ fits. entry-path (itemFrom s third q) (entry (pick join (getD d q 0) x) h (valueOf s v))
+        (getD-set-other both (q + 2) q (v .first) 0 (omega arith) ∙ ends-low d q x h join low el has-two)
+        (getD-set-other both (q + 2) (q + 1) (v .first) 0 (omega arith) ∙ ends-high d q x h join low el has-two)
+        (sym (words-three s v third (q + 2) e (simp length-set (omega arith)) (sym (getD-set-same both (q + 2) (v .first) 0 (simp length-set (omega arith))))));
   }
 
-  abbrev pub ends-both : List ℕ
-  ends-both = set ends-first (q + 3) (v .second)
+  abbrev fourth : List ℕ
+  fourth = set third (q + 3) (v .second)
 
-  pub lay-four : s ≡ 4 → Laid s d q x h (valueOf s v) ends-both
+  pub lay-four : s ≡ 4 → Laid s d q (pick join (getD d q 0) x) h (valueOf s v) fourth
   lay-four e = record {
     long = simp length-set;
-    kept = λ j l. getD-set-other ends-first (q + 3) j (v .second) 0 (omega arith) ∙ getD-set-other ends (q + 2) j (v .first) 0 (omega arith)
-        ∙ getD-set-other (set d q x) (q + 1) j h 0 (omega arith) ∙ getD-set-other d q j x 0 (omega arith);
-    item = entry-path (itemFrom s ends-both q) (entry x h (valueOf s v))
-        (getD-set-other ends-first (q + 3) q (v .second) 0 (omega arith) ∙ getD-set-other ends (q + 2) q (v .first) 0 (omega arith)
-        ∙ getD-set-other (set d q x) (q + 1) q h 0 (omega arith) ∙ getD-set-same d q x 0 (omega arith))
-        (getD-set-other ends-first (q + 3) (q + 1) (v .second) 0 (omega arith) ∙ getD-set-other ends (q + 2) (q + 1) (v .first) 0 (omega arith)
-        ∙ getD-set-same (set d q x) (q + 1) h 0 (simp length-set (omega arith)))
-        (sym (words-four s v ends-both (q + 2) e (simp length-set (omega arith))
-        (sym (getD-set-other ends-first (q + 3) (q + 2) (v .second) 0 (omega arith) ∙ getD-set-same ends (q + 2) (v .first) 0 (simp length-set (omega arith))))
-        (sym (let k : q + 2 + 1 ≡ q + 3 = omega arith in ap (λ (i : ℕ). getD ends-both i 0) k ∙ getD-set-same ends-first (q + 3) (v .second) 0 (simp length-set (omega arith))))));
+    kept = λ j l. getD-set-other third (q + 3) j (v .second) 0 (omega arith) ∙ getD-set-other both (q + 2) j (v .first) 0 (omega arith) ∙ ends-kept d q x h join low el has-two j l;
+    item = λ fits. entry-path (itemFrom s fourth q) (entry (pick join (getD d q 0) x) h (valueOf s v))
+        (getD-set-other third (q + 3) q (v .second) 0 (omega arith) ∙ getD-set-other both (q + 2) q (v .first) 0 (omega arith) ∙ ends-low d q x h join low el has-two)
+        (getD-set-other third (q + 3) (q + 1) (v .second) 0 (omega arith) ∙ getD-set-other both (q + 2) (q + 1) (v .first) 0 (omega arith) ∙ ends-high d q x h join low el has-two)
+        (sym (words-four s v fourth (q + 2) e (simp length-set (omega arith))
+        (sym (getD-set-other third (q + 3) (q + 2) (v .second) 0 (omega arith) ∙ getD-set-same both (q + 2) (v .first) 0 (simp length-set (omega arith))))
+        (sym (let k : q + 2 + 1 ≡ q + 3 = omega arith in ap (λ (i : ℕ). getD fourth i 0) k ∙ getD-set-same third (q + 3) (v .second) 0 (simp length-set (omega arith))))));
   }
 
-pub mul-pred : (s n : ℕ) → 0 < n → s * n ≡ s * (n - 1) + s
-mul-pred s zero h = absurd (omega arith)
-mul-pred s (suc m) h = mul-suc s m ∙ ap (λ (k : ℕ). s * k + s) (omega arith)
-
--- a segment put behind the items
-module _ (s n l : ℕ) (join : Bool) where
-  pub room-joined : join ≡ true → Room true s n true join l → (0 < n) × (1 + s * n ≤ l)
-  room-joined e r = rw e at r
-
-  pub room-new : join ≡ false → Room true s n true join l → 1 + s * suc n ≤ l
-  room-new e r = rw e at r
-
-  pub room-few : 2 ≤ s → Room true s n true join l → 2 * n < l
-  room-few two r = go join r
+-- a segment added to the items
+module _ {keep inside join : Bool} {s n l : ℕ} (g : Addable keep s n inside join l) where
+  -- the place of the item that is laid
+  pub add-room : (k : ℕ) → k ≡ n - bit join → 1 + s * pick keep k 0 ≤ l
+  add-room k e = go keep (g .room)
     where
-      go : (t : Bool) → Room true s n true t l → 2 * n < l
-      go true m = omega (arith, le-mul s n two)
-      go false m = omega (arith, le-mul s n two, mul-suc s n)
+      go : (t : Bool) → 1 + s * pick t (n + begins inside join) 0 ≤ l → 1 + s * pick t k 0 ≤ l
+      go true h = omega (arith, mul-le-mul-left {m = k} {n = n + begins inside join} s (omega arith))
+      go false h = h
 
-module _ (s : ℕ) (two : 2 ≤ s) (n x h : ℕ) (v : Value) (join : Bool) (w : List ℕ) (r : Room true s n true join (length w)) where
-  pub put-joined : join ≡ true → items s (n + begins true join) 1 (set w (2 + s * (n - 1)) h) ≡ grow true join (items s n 1 w) x h v
-  put-joined e =
-      let k : n + 0 ≡ n = omega arith in
-      let m = room-joined s n (length w) join e r in
-      rw (e, k) (raised s two w n h (m .0) (m .1))
+  pub add-count : (k r : ℕ) → k ≡ n - bit join → r ≡ k + bit inside → r ≡ n + begins inside join
+  add-count k r ek er = omega (arith, g .from-one, g .goes-on)
 
-  pub put-new : (o : List ℕ) → join ≡ false → Laid s w (1 + s * n) x h v o → items s (n + begins true join) 1 o ≡ grow true join (items s n 1 w) x h v
-  put-new o e l =
-      let k : n + 1 ≡ suc n = omega arith in
-      rw (e, k) (laid s two n (omega (arith, room-new s n (length w) join e r, mul-suc s n)) l)
+pub added : (keep inside join : Bool) (s n x h : ℕ) (v : Value) (d o : List ℕ) (k r : ℕ) → Addable keep s n inside join (length d) → k ≡ n - bit join → r ≡ k + bit inside
+    → Stored keep s d k join x h v o → Holds keep s r o (grow inside join (items s n 1 d) x h v)
+added false inside join s n x h v d o k r g ek er st = tt
+added true false true s n x h v d o k r g ek er st = absurd (omega (arith, g .goes-on))
+added true false false s n x h v d o k r g ek er st =
+    let a : k ≡ n = omega arith in
+    let b : r ≡ n = omega arith in
+    let c : n + 0 ≡ n = omega arith in
+    rw b (laid-none s (g .two) n (rw c at (g .room)) (rw a at st))
+added true true false s n x h v d o k r g ek er st =
+    let a : k ≡ n = omega arith in
+    let b : r ≡ suc n = omega arith in
+    let c : n + 1 ≡ suc n = omega arith in
+    rw b (laid-new s (g .two) n (rw c at (g .room)) (rw a at st))
+added true true true s n x h v d o k r g ek er st =
+    let a : n ≡ suc k = omega (arith, g .from-one) in
+    let b : r ≡ suc k = omega arith in
+    let c : n + 0 ≡ suc k = omega arith in
+    rw (b, a) (laid-over s (g .two) k (rw c at (g .room)) st)
 
--- whether it is stored, and whether there is a value
-module _ (keep inside join : Bool) (s n x h : ℕ) (v : Value) (o : List ℕ) where
-  abbrev Added : ℕ → List ℕ → Type 0
-  Added r o′ = (r ≡ n + begins inside join) × Holds keep s r o′ (grow inside join (items s n 1 o) x h v)
-
-  pub added-stored : (r : ℕ) (o′ : List ℕ) → inside ≡ true → keep ≡ true → r ≡ n + begins true join → items s (n + begins true join) 1 o′ ≡ grow true join (items s n 1 o) x h v → Added r o′
-  added-stored r o′ ei ek er eo = rw (ei, ek, er) (refl, eo)
-
-  pub added-counted : (r : ℕ) (o′ : List ℕ) → inside ≡ true → keep ≡ false → r ≡ n + begins true join → Added r o′
-  added-counted r o′ ei ek er = rw (ei, ek) (er, tt)
-
-  pub added-none : inside ≡ false → Added n o
-  added-none ei = rw ei (omega arith, same keep)
-    where
-      same : (t : Bool) → Holds t s n o (items s n 1 o)
-      same true = refl
-      same false = tt
+-- no room: nothing is laid
+pub laid-not : (s : ℕ) (d : List ℕ) (q x h : ℕ) (v : Value) → length d < q + s → Laid s d q x h v d
+laid-not s d q x h v f = record { long = refl; kept = λ j l. refl; item = λ r. absurd (omega arith) }
 
 -- room for all that is listed: the count stops at none
 pub all-met : (s l r len : ℕ) → 2 ≤ s → 1 + s * l ≤ len → r ≡ min l len → (l < len) × (1 + s * r ≤ len)

@@ -7,14 +7,15 @@ use Prim.Native.Nat.{ℕ, zero, suc, _+_, _*_, _-_, _≤_, _<_, min}
 use lib.Dec.{eqb}
 use lib.ListN.{length, getD, take, drop}
 use Rattle.entries.specs.Entries.{Value, Entry, entry, valueAt, Sound}
-use Rattle.entries.specs.Build.{pick, sameWords}
-use Rattle.blocks.specs.Blocks.{itemsOf, entriesOf}
+use Rattle.entries.specs.Build.{pick, andb, sameWords}
+use Rattle.blocks.specs.Blocks.{entriesOf}
 use Rattle.blocks.specs.Steps.{itemFrom}
-use Rattle.sweeps.specs.Sweeps.{firstOf, swept, result}
+use Rattle.sweeps.specs.Sweeps.{bit, firstOf, swept}
 use Rattle.sweeps.specs.declared.Plan.{Plan}
 use Rattle.sweeps.specs.declared.Words.{Words}
 use Rattle.sweeps.specs.declared.Cursor.{Cursor}
-use Rattle.sweeps.specs.declared.Turn.{Turn}
+use Rattle.sweeps.specs.declared.Places.{Places}
+use Rattle.sweeps.specs.declared.Sides.{Sides}
 use Rattle.sweeps.specs.declared.Segment.{Segment}
 
 -- k items of s words from place p on
@@ -34,11 +35,20 @@ valueOf s v = take (s - 2) (v .first ∷ v .second ∷ [])
 abbrev pub valueBehind : ℕ → List ℕ → ℕ → Value
 valueBehind s w p = take (s - 2) (drop (p + 1) w)
 
+-- sets from sets
+abbrev pub setPlan : ℕ → Plan
+setPlan t = record { table = t; a = 2; b = 2; c = 2; out = 2 }
+
+abbrev pub onlySets : Plan → Bool
+onlySets plan = andb (eqb (plan .a) 2) (andb (eqb (plan .b) 2) (andb (eqb (plan .c) 2) (eqb (plan .out) 2)))
+
 abbrev pub sweptOf : Plan → List ℕ → List ℕ → List ℕ → ℕ → Option Value
 sweptOf plan a b c = swept (plan .table) (plan .out) (entriesOf (plan .a) a) (entriesOf (plan .b) b) (entriesOf (plan .c) c)
 
-abbrev pub resultOf : Plan → List ℕ → List ℕ → List ℕ → List Entry
-resultOf plan a b c = result (plan .table) (plan .out) (entriesOf (plan .a) a) (entriesOf (plan .b) b) (entriesOf (plan .c) c)
+-- the last number of a run, and the cursor behind it
+pub record Turn : Type 0 where
+  pub last : ℕ
+  pub then : Cursor
 
 abbrev pub cursor : ℕ → Bool → ℕ → Cursor
 cursor p b e = record { place = p; inside = b; end = e }
@@ -58,16 +68,12 @@ pub record Cur (s : ℕ) (w : List ℕ) (x p : ℕ) : Type 0 where
   pub rest : (y : ℕ) → x ≤ y → valueAt (entriesOf s w) y ≡ valueAt (items s left p w) y
   pub ahead : Ahead x (items s left p w)
 
-abbrev pub bit : Bool → ℕ
-bit true = 1
-bit false = 0
-
 -- inside: x is in the item at p; outside: it is below that item, if there is one
 abbrev pub Sided : Bool → ℕ → List ℕ → ℕ → ℕ → Type 0
 Sided true s w x p = (p ≡ 1 + s * getD w 0 0 → ⊥) × (getD w p 0 ≤ x)
 Sided false s w x p = (p ≡ 1 + s * getD w 0 0 → ⊥) → x < getD w p 0
 
--- The cursor stands at x: outside at the low word of the next item or at the end, inside at its high word.
+-- The cursor stands at x: outside at the low word of the next item or at the end of the items, inside at the item's high word.
 pub record Point (s : ℕ) (w : List ℕ) (x : ℕ) (c : Cursor) : Type 0 where
   pub base : ℕ
   pub place : c .place ≡ base + bit (c .inside)
@@ -88,17 +94,20 @@ pub record Points (plan : Plan) (a b c : List ℕ) (x : ℕ) (i j k : Cursor) : 
   pub at-b : Point (plan .b) b x j
   pub at-c : Point (plan .c) c x k
 
+abbrev pub PointsAt : Plan → List ℕ → List ℕ → List ℕ → ℕ → Places → Sides → Places → Type 0
+PointsAt plan a b c x at sides ends = Points plan a b c x (cursor (at .a) (sides .a) (ends .a)) (cursor (at .b) (sides .b) (ends .b)) (cursor (at .c) (sides .c) (ends .c))
+
 -- the value of the first input that is inside
-abbrev pub firstBehind : Plan → List ℕ → List ℕ → List ℕ → Cursor → Cursor → Cursor → Value
-firstBehind plan a b c i j k = firstOf (shown (i .inside) (valueBehind (plan .a) a (i .place)))
-    (shown (j .inside) (valueBehind (plan .b) b (j .place))) (shown (k .inside) (valueBehind (plan .c) c (k .place)))
+abbrev pub firstBehind : Plan → List ℕ → List ℕ → List ℕ → Places → Sides → Value
+firstBehind plan a b c at sides = firstOf (shown (sides .a) (valueBehind (plan .a) a (at .a)))
+    (shown (sides .b) (valueBehind (plan .b) b (at .b))) (shown (sides .c) (valueBehind (plan .c) c (at .c)))
 
 -- from x to the last number of the segment the sweep gives one value, or none; the cursors behind it
-pub record SegmentAt (plan : Plan) (a b c : List ℕ) (x : ℕ) (s : Segment) : Type 0 where
+pub record SegmentAt (plan : Plan) (a b c : List ℕ) (x : ℕ) (ends : Places) (s : Segment) : Type 0 where
   pub from-x : x ≤ s .last
   pub fits : s .last < 18446744073709551616
   pub same : (y : ℕ) → x ≤ y → y ≤ s .last → sweptOf plan a b c y ≡ shown (s .inside) (valueOf (plan .out) (s .value))
-  pub points : Points plan a b c (s .last + 1) (s .a) (s .b) (s .c)
+  pub points : PointsAt plan a b c (s .last + 1) (s .at) (s .sides) ends
 
 -- whether a value goes on
 abbrev pub sameAs : Option Value → Value → Bool
@@ -107,39 +116,44 @@ sameAs (some u) v = sameWords u v
 
 -- a segment with a value that does not go on begins an entry
 abbrev pub begins : Bool → Bool → ℕ
-begins true true = 0
-begins true false = 1
-begins false j = 0
+begins inside join = bit inside - bit join
 
--- the last entry made to end at h
-abbrev pub raise : List Entry → ℕ → List Entry
-raise [] h = []
-raise (l ∷ []) h = entry (l .low) h (l .value) ∷ []
-raise (e ∷ f ∷ es) h = e ∷ raise (f ∷ es) h
+-- the last entry made to end at h; its value is v already
+abbrev pub raise : List Entry → ℕ → Value → List Entry
+raise [] h v = []
+raise (l ∷ []) h v = entry (l .low) h v ∷ []
+raise (e ∷ f ∷ es) h v = e ∷ raise (f ∷ es) h v
 
 -- the segment x..h put behind a list
 abbrev pub grow : Bool → Bool → List Entry → ℕ → ℕ → Value → List Entry
 grow false j es x h v = es
-grow true true es x h v = raise es h
+grow true true es x h v = raise es h v
 grow true false es x h v = es ++ entry x h v ∷ []
 
--- room in l words for n items and the segment, where items are stored
-abbrev pub Room : Bool → ℕ → ℕ → Bool → Bool → ℕ → Type 0
-Room false s n inside join l = n < 18446744073709551615
-Room true s n false join l = 1 + s * n ≤ l
-Room true s n true true l = (0 < n) × (1 + s * n ≤ l)
-Room true s n true false l = 1 + s * suc n ≤ l
+-- a segment can be added to n items in l words: it goes on only with a value and from an item, and where items are stored there is room
+pub record Addable (keep : Bool) (s n : ℕ) (inside join : Bool) (l : ℕ) : Type 0 where
+  pub two : 2 ≤ s
+  pub four : s ≤ 4
+  pub few : n < 18446744073709551615
+  pub from-one : bit join ≤ n
+  pub goes-on : bit join ≤ bit inside
+  pub room : 1 + s * pick keep (n + begins inside join) 0 ≤ l
 
 -- the n items behind word 0 are es, where items are stored
 abbrev pub Holds : Bool → ℕ → ℕ → List ℕ → List Entry → Type 0
 Holds true s n o es = items s n 1 o ≡ es
 Holds false s n o es = Unit {0}
 
--- the words below q kept, and an item laid at q
+-- the words below q kept, and an item laid at q, if it has room
 pub record Laid (s : ℕ) (d : List ℕ) (q x h : ℕ) (v : Value) (o : List ℕ) : Type 0 where
   pub long : length o ≡ length d
   pub kept : (j : ℕ) → j < q → getD o j 0 ≡ getD d j 0
-  pub item : itemFrom s o q ≡ entry x h v
+  pub item : q + s ≤ length d → itemFrom s o q ≡ entry x h v
+
+-- item k laid with its own low end, where it goes on, or with x, where items are stored
+abbrev pub Stored : Bool → ℕ → List ℕ → ℕ → Bool → ℕ → ℕ → Value → List ℕ → Type 0
+Stored true s d k join x h v o = Laid s d (1 + s * k) (pick join (getD d (1 + s * k) 0) x) h v o
+Stored false s d k join x h v o = Unit {0}
 
 -- what a sweep that stops at `stop` items answers and stores
 pub record Stopped (keep : Bool) (s stop : ℕ) (es : List Entry) (r : ℕ) (o : List ℕ) : Type 0 where

@@ -5,20 +5,22 @@ use mathlib.Core.Path.{_≡_}
 use mathlib.Core.Bool.{Bool, true, false}
 use mathlib.Core.Option.{Option, none, some}
 use mathlib.Core.List.{List, [], _∷_, _++_}
-use Prim.Native.Nat.{ℕ, _+_, _*_, _-_, _/_, _%_, _≤_, _<_}
+use Prim.Native.Nat.{ℕ, _+_, _*_, _-_, _/_, _%_, _^_, _≤_, _<_}
 use lib.Dec.{ltb, eqb}
 use lib.ListN.{length, getD, take}
 use Rattle.entries.specs.Entries.{Value, Entry, valueAt, Sound}
 use Rattle.entries.specs.Build.{pick, build, cutsOf}
 use Rattle.entries.specs.Sets.{has}
 use Rattle.blocks.specs.Blocks.{entriesOf}
+use Rattle.sweeps.specs.declared.Plan.{Plan}
 
-abbrev pub halved : ℕ → Bool → ℕ → ℕ
-halved v b m = pick b (v / m) (v % m)
+abbrev pub bit : Bool → ℕ
+bit true = 1
+bit false = 0
 
 -- bit a + 2b + 4c of the table
 unfoldable pub accepts : ℕ → Bool → Bool → Bool → Bool
-accepts t a b c = eqb (halved (halved (halved t c 16) b 4) a 2) 1
+accepts t a b c = eqb (t / 2 ^ (bit a + 2 * bit b + 4 * bit c) % 2) 1
 
 -- the value of the first list that has one
 abbrev pub firstOf : Option Value → Option Value → Option Value → Value
@@ -38,6 +40,10 @@ swept t s es fs gs x = pick (ltb x 18446744073709551616) (mixed t s (valueAt es 
 -- the one sound list of that function
 unfoldable pub result : ℕ → ℕ → List Entry → List Entry → List Entry → List Entry
 result t s es fs gs = build (swept t s es fs gs) (18446744073709551616 ∷ cutsOf es ++ (cutsOf fs ++ cutsOf gs))
+
+-- the same of the entries that three blocks say
+abbrev pub resultOf : Plan → List ℕ → List ℕ → List ℕ → List Entry
+resultOf plan a b c = result (plan .table) (plan .out) (entriesOf (plan .a) a) (entriesOf (plan .b) b) (entriesOf (plan .c) c)
 
 -- a judged block of s words an item, at most two of them its value
 pub record Input (s : ℕ) (w : List ℕ) : Type 0 where

@@ -1,15 +1,14 @@
 // One linear sweep over three sound blocks, for any table of their memberships. Every operation on sets, maps and bulletins that
 // makes a list from lists is a table of it.
 ghost use mathlib.Core.Path.{_≡_};
-ghost use mathlib.Core.Bool.{Bool, true, false};
-ghost use mathlib.Core.List.{[], _∷_};
+ghost use mathlib.Core.Bool.{true, false};
 ghost use Prim.Native.Nat.{_+_, _*_, _-_, _≤_, _<_, min};
-ghost use lib.Dec.{leb, ltb, eqb};
-ghost use lib.ListN.{length, getD, take, drop};
-ghost use Rattle.entries.specs.Build.{pick, sameWords};
+ghost use lib.Dec.{leb, ltb};
+ghost use lib.ListN.{length, getD, take};
+ghost use Rattle.entries.specs.Build.{pick, andb, sameWords};
 ghost use Rattle.blocks.specs.Blocks.{blockOf};
-ghost use Rattle.sweeps.specs.Sweeps.{Inputs, Input, Fit, halved, accepts};
-ghost use Rattle.sweeps.specs.Cursors.{cursor, items, shown, valueOf, valueBehind, resultOf, Point, TurnAt, Points, firstBehind, SegmentAt, sameAs, begins, grow, Room, Holds, Laid, Stopped};
+ghost use Rattle.sweeps.specs.Sweeps.{bit, accepts, resultOf, Input, Inputs, Fit};
+ghost use Rattle.sweeps.specs.Cursors.{setPlan, onlySets, cursor, turn, items, shown, valueOf, valueBehind, Point, TurnAt, PointsAt, firstBehind, SegmentAt, sameAs, begins, grow, Addable, Holds, Laid, Stored, Stopped};
 
 const M: u64 = 18446744073709551615;
 
@@ -28,6 +27,20 @@ pub struct Words {
     pub second: u64,
 }
 
+// A place in each input.
+pub struct Places {
+    pub a: usize,
+    pub b: usize,
+    pub c: usize,
+}
+
+// For each input, whether the sweep stands inside an item of it.
+pub struct Sides {
+    pub a: bool,
+    pub b: bool,
+    pub c: bool,
+}
+
 // Where a sweep stands in an input: outside at the low word of the next item or at the end of the items, inside at the item's high word.
 pub struct Cursor {
     pub place: usize,
@@ -35,10 +48,18 @@ pub struct Cursor {
     pub end: usize,
 }
 
-// The last number of a run, and the cursor behind it.
-pub struct Turn {
+// The three cursors.
+pub struct Starts {
+    pub at: Places,
+    pub sides: Sides,
+    pub ends: Places,
+}
+
+// The last number of a run, and the place and the side of the cursor behind it.
+pub struct Run {
     pub last: u64,
-    pub then: Cursor,
+    pub next: usize,
+    pub then: bool,
 }
 
 // The last number of a segment, whether it has a value, the value, and the cursors behind it.
@@ -46,12 +67,11 @@ pub struct Segment {
     pub last: u64,
     pub inside: bool,
     pub value: Words,
-    pub a: Cursor,
-    pub b: Cursor,
-    pub c: Cursor,
+    pub at: Places,
+    pub sides: Sides,
 }
 
-// The cursor at 0.
+// The cursor at 0: outside at the first low word, or inside the first item where that begins at 0.
 fn start(w: &[u64], s: usize) -> Cursor
     requires { ⌜ Input s (now w) ⌝ }
     ensures { λ r. ⌜ Point s (now (w .entry)) 0 r ⌝ }
@@ -79,102 +99,151 @@ fn start(w: &[u64], s: usize) -> Cursor
     }
 }
 
+// The three cursors at 0.
+fn begin(a: &[u64], b: &[u64], c: &[u64], plan: Plan) -> Starts
+    requires { ⌜ Inputs (plan .a) (plan .b) (plan .c) (now a) (now b) (now c) ⌝ }
+    ensures { λ r. ⌜ PointsAt plan (now (a .entry)) (now (b .entry)) (now (c .entry)) 0 (r .at) (r .sides) (r .ends) ⌝ }
+{
+    let i = start(a, plan.a);
+    let j = start(b, plan.b);
+    let k = start(c, plan.c);
+    Starts {
+        at: Places {
+            a: i.place,
+            b: j.place,
+            c: k.place,
+        },
+        sides: Sides {
+            a: i.inside,
+            b: j.inside,
+            c: k.inside,
+        },
+        ends: Places {
+            a: i.end,
+            b: j.end,
+            c: k.end,
+        },
+    }
+}
+
 // The run at x from inside an item whose high word stands at p: to its high end, and then into the next item where that touches it.
-fn leave(w: &[u64], s: usize, p: usize, end: usize, x: u64) -> Turn
+fn leave(w: &[u64], s: usize, p: usize, end: usize, x: u64) -> Run
     requires { ⌜ Input s (now w) ⌝ }
     requires { ⌜ Point s (now w) x (cursor p true end) ⌝ }
-    ensures { λ r. ⌜ TurnAt s (now (w .entry)) x (cursor p true end) r ⌝ }
+    ensures { λ r. ⌜ TurnAt s (now (w .entry)) x (cursor p true end) (turn (r .last) (cursor (r .next) (r .then) end)) ⌝ }
 {
     let high = blocks::word(w, p);
     let q = p + (s - 1);
     if q == end {
-        return Turn {
+        return Run {
             last: high,
-            then: Cursor {
-                place: q,
-                inside: false,
-                end: end,
-            },
+            next: q,
+            then: false,
         };
     }
     let low = blocks::word(w, q);
     if low - high == 1 {
-        return Turn {
+        return Run {
             last: high,
-            then: Cursor {
-                place: q + 1,
-                inside: true,
-                end: end,
-            },
+            next: q + 1,
+            then: true,
         };
     }
-    Turn {
+    Run {
         last: high,
-        then: Cursor {
-            place: q,
-            inside: false,
-            end: end,
-        },
+        next: q,
+        then: false,
+    }
+}
+
+// The last number of a run, by the word found behind it or at its end.
+fn last_of(found: u64, inside: bool) -> u64
+    requires { ⌜ 1 ≤ found + bit inside ⌝ }
+    ensures { λ r. ⌜ r ≡ found + bit inside - 1 ⌝ }
+{
+    if inside { found } else { found - 1 }
+}
+
+// The run at x in a set, whose words are low and high ends in turn, and no item touches the next.
+fn flip(w: &[u64], s: usize, p: usize, inside: bool, end: usize, x: u64) -> Run
+    requires { ⌜ Input s (now w) ⌝ }
+    requires { ⌜ Point s (now w) x (cursor p inside end) ⌝ }
+    requires { ⌜ s ≡ 2 ⌝ }
+    ensures { λ r. ⌜ TurnAt s (now (w .entry)) x (cursor p inside end) (turn (r .last) (cursor (r .next) (r .then) end)) ⌝ }
+{
+    if p == end {
+        return Run {
+            last: M,
+            next: p,
+            then: inside,
+        };
+    }
+    let found = blocks::word(w, p);
+    Run {
+        last: last_of(found, inside),
+        next: p + 1,
+        then: !inside,
     }
 }
 
 // The run at x. Only the contract names x.
-fn run_at(w: &[u64], s: usize, c: Cursor, x: u64) -> Turn
+fn run_at(w: &[u64], s: usize, p: usize, inside: bool, end: usize, x: u64) -> Run
     requires { ⌜ Input s (now w) ⌝ }
-    requires { ⌜ Point s (now w) x c ⌝ }
-    ensures { λ r. ⌜ TurnAt s (now (w .entry)) x c r ⌝ }
+    requires { ⌜ Point s (now w) x (cursor p inside end) ⌝ }
+    ensures { λ r. ⌜ TurnAt s (now (w .entry)) x (cursor p inside end) (turn (r .last) (cursor (r .next) (r .then) end)) ⌝ }
 {
-    let p = c.place;
-    let end = c.end;
-    if c.inside {
+    if inside {
         return leave(w, s, p, end, x);
     }
     if p == end {
-        return Turn {
+        return Run {
             last: M,
-            then: Cursor {
-                place: p,
-                inside: false,
-                end: end,
-            },
+            next: p,
+            then: false,
         };
     }
     let low = blocks::word(w, p);
-    Turn {
+    Run {
         last: low - 1,
-        then: Cursor {
-            place: p + 1,
-            inside: true,
-            end: end,
-        },
+        next: p + 1,
+        then: true,
     }
 }
 
-fn halve(v: u8, b: bool, m: u8) -> u8
-    requires { ⌜ 0 < m ⌝ }
-    ensures { λ r. ⌜ r ≡ halved v b m ⌝ }
+// 1 for true.
+fn bit_of(b: bool) -> u8
+    ensures { λ r. ⌜ (r ≡ bit b) × (r ≤ 1) ⌝ }
 {
-    if b { v / m } else { v % m }
+    if b { 1 } else { 0 }
 }
 
 // Bit a + 2b + 4c of the table t.
 fn accepted(t: u8, a: bool, b: bool, c: bool) -> bool
     ensures { λ r. ⌜ r ≡ accepts t a b c ⌝ }
 {
-    halve(halve(halve(t, c, 16), b, 4), a, 2) == 1
+    let k = bit_of(a) + 2 * bit_of(b) + 4 * bit_of(c);
+    (t >> k) % 2 == 1
 }
 
+// The lesser of two.
 fn least(a: u64, b: u64) -> u64
     ensures { λ r. ⌜ r ≡ min a b ⌝ }
 {
     if a < b { a } else { b }
 }
 
-// The cursor behind a segment that ends at e: it turns where its run ends there.
-fn moved(c: Cursor, t: Turn, e: u64) -> Cursor
-    ensures { λ r. ⌜ r ≡ pick (eqb (t .last) e) (t .then) c ⌝ }
+// The place of a cursor behind a segment: that behind its run, where the run ends there too.
+fn moved(ends: bool, next: usize, p: usize) -> usize
+    ensures { λ r. ⌜ r ≡ pick ends next p ⌝ }
 {
-    if t.last == e { t.then } else { c }
+    if ends { next } else { p }
+}
+
+// And its side.
+fn turned(ends: bool, then: bool, inside: bool) -> bool
+    ensures { λ r. ⌜ r ≡ pick ends then inside ⌝ }
+{
+    if ends { then } else { inside }
 }
 
 // The words of a value behind place p, as many as an output of s words an item takes.
@@ -201,43 +270,45 @@ fn words_behind(w: &[u64], s: usize, p: usize) -> Words
     }
 }
 
+// The words of no value.
+fn nothing() -> Words {
+    Words {
+        first: 0,
+        second: 0,
+    }
+}
+
 // The value of the first input that is inside, where the table accepts. A set has none to read.
 fn carried(
     a: &[u64],
     b: &[u64],
     c: &[u64],
     plan: Plan,
-    i: Cursor,
-    j: Cursor,
-    k: Cursor,
+    at: Places,
+    sides: Sides,
+    ends: Places,
     x: u64,
     kept: bool,
 ) -> Words
     requires { ⌜ Inputs (plan .a) (plan .b) (plan .c) (now a) (now b) (now c) ⌝ }
     requires { ⌜ Fit (plan .table) (plan .out) (plan .a) (plan .b) (plan .c) ⌝ }
-    requires { ⌜ Points plan (now a) (now b) (now c) x i j k ⌝ }
-    requires { ⌜ kept ≡ accepts (plan .table) (i .inside) (j .inside) (k .inside) ⌝ }
-    ensures { λ r. ⌜ shown kept (take (plan .out - 2) (firstBehind plan (now (a .entry)) (now (b .entry)) (now (c .entry)) i j k)) ≡ shown kept (valueOf (plan .out) r) ⌝ }
+    requires { ⌜ PointsAt plan (now a) (now b) (now c) x at sides ends ⌝ }
+    requires { ⌜ kept ≡ accepts (plan .table) (sides .a) (sides .b) (sides .c) ⌝ }
+    ensures { λ r. ⌜ shown kept (take (plan .out - 2) (firstBehind plan (now (a .entry)) (now (b .entry)) (now (c .entry)) at sides)) ≡ shown kept (valueOf (plan .out) r) ⌝ }
 {
     if plan.out == 2 {
-        return Words {
-            first: 0,
-            second: 0,
-        };
+        return nothing();
     }
     if kept {
-        if i.inside {
-            return words_behind(a, plan.out, i.place);
+        if sides.a {
+            return words_behind(a, plan.out, at.a);
         }
-        if j.inside {
-            return words_behind(b, plan.out, j.place);
+        if sides.b {
+            return words_behind(b, plan.out, at.b);
         }
-        return words_behind(c, plan.out, k.place);
+        return words_behind(c, plan.out, at.c);
     }
-    Words {
-        first: 0,
-        second: 0,
-    }
+    nothing()
 }
 
 // The segment that starts at x, with the three cursors at x.
@@ -246,28 +317,77 @@ fn segment_at(
     b: &[u64],
     c: &[u64],
     plan: Plan,
-    i: Cursor,
-    j: Cursor,
-    k: Cursor,
+    at: Places,
+    sides: Sides,
+    ends: Places,
     x: u64,
 ) -> Segment
     requires { ⌜ Inputs (plan .a) (plan .b) (plan .c) (now a) (now b) (now c) ⌝ }
     requires { ⌜ Fit (plan .table) (plan .out) (plan .a) (plan .b) (plan .c) ⌝ }
-    requires { ⌜ Points plan (now a) (now b) (now c) x i j k ⌝ }
-    ensures { λ r. ⌜ SegmentAt plan (now (a .entry)) (now (b .entry)) (now (c .entry)) x r ⌝ }
+    requires { ⌜ PointsAt plan (now a) (now b) (now c) x at sides ends ⌝ }
+    ensures { λ r. ⌜ SegmentAt plan (now (a .entry)) (now (b .entry)) (now (c .entry)) x ends r ⌝ }
 {
-    let ra = run_at(a, plan.a, i, x);
-    let rb = run_at(b, plan.b, j, x);
-    let rc = run_at(c, plan.c, k, x);
-    let e = least(least(ra.last, rb.last), rc.last);
-    let kept = accepted(plan.table, i.inside, j.inside, k.inside);
+    let i = run_at(a, plan.a, at.a, sides.a, ends.a, x);
+    let j = run_at(b, plan.b, at.b, sides.b, ends.b, x);
+    let k = run_at(c, plan.c, at.c, sides.c, ends.c, x);
+    let e = least(least(i.last, j.last), k.last);
+    let kept = accepted(plan.table, sides.a, sides.b, sides.c);
+    let value = carried(a, b, c, plan, at, sides, ends, x, kept);
+    let next = Places {
+        a: moved(i.last == e, i.next, at.a),
+        b: moved(j.last == e, j.next, at.b),
+        c: moved(k.last == e, k.next, at.c),
+    };
+    let then = Sides {
+        a: turned(i.last == e, i.then, sides.a),
+        b: turned(j.last == e, j.then, sides.b),
+        c: turned(k.last == e, k.then, sides.c),
+    };
     Segment {
         last: e,
         inside: kept,
-        value: carried(a, b, c, plan, i, j, k, x, kept),
-        a: moved(i, ra, e),
-        b: moved(j, rb, e),
-        c: moved(k, rc, e),
+        value: value,
+        at: next,
+        sides: then,
+    }
+}
+
+// The same for sets only: no widths to look at and no values to read.
+fn set_segment_at(
+    a: &[u64],
+    b: &[u64],
+    c: &[u64],
+    table: u8,
+    at: Places,
+    sides: Sides,
+    ends: Places,
+    x: u64,
+) -> Segment
+    requires { ⌜ Inputs 2 2 2 (now a) (now b) (now c) ⌝ }
+    requires { ⌜ PointsAt (setPlan table) (now a) (now b) (now c) x at sides ends ⌝ }
+    ensures { λ r. ⌜ SegmentAt (setPlan table) (now (a .entry)) (now (b .entry)) (now (c .entry)) x ends r ⌝ }
+{
+    let i = flip(a, 2, at.a, sides.a, ends.a, x);
+    let j = flip(b, 2, at.b, sides.b, ends.b, x);
+    let k = flip(c, 2, at.c, sides.c, ends.c, x);
+    let e = least(least(i.last, j.last), k.last);
+    let kept = accepted(table, sides.a, sides.b, sides.c);
+    let next = Places {
+        a: moved(i.last == e, i.next, at.a),
+        b: moved(j.last == e, j.next, at.b),
+        c: moved(k.last == e, k.next, at.c),
+    };
+    let then = Sides {
+        a: turned(i.last == e, i.then, sides.a),
+        b: turned(j.last == e, j.then, sides.b),
+        c: turned(k.last == e, k.then, sides.c),
+    };
+    Segment {
+        last: e,
+        inside: kept,
+        value: nothing(),
+        at: next,
+        sides: then,
     }
 }
 
@@ -288,20 +408,36 @@ fn same_value(s: usize, u: Words, v: Words) -> bool
     false
 }
 
-// Whether the value v goes on from the number before.
-fn joins(s: usize, was: bool, u: Words, v: Words) -> bool
+// Whether a segment with the value v goes on from the number before.
+fn joins(s: usize, inside: bool, was: bool, u: Words, v: Words) -> bool
     requires { ⌜ (2 ≤ s) × (s ≤ 4) ⌝ }
-    ensures { λ r. ⌜ r ≡ sameAs (shown was (valueOf s u)) (valueOf s v) ⌝ }
+    ensures { λ r. ⌜ r ≡ andb inside (sameAs (shown was (valueOf s u)) (valueOf s v)) ⌝ }
 {
-    if was { same_value(s, u, v) } else { false }
+    if inside {
+        if was {
+            return same_value(s, u, v);
+        }
+        return false;
+    }
+    false
 }
 
-// An item into the s words from q on.
-fn lay(o: &mut [u64], s: usize, q: usize, x: u64, h: u64, v: Words)
-    requires { ⌜ (2 ≤ s) × (s ≤ 4) × (q + s ≤ length (now o)) ⌝ }
-    ensures { λ _. ⌜ Laid s (now (o .entry)) q x h (valueOf s v) (now (o .exit)) ⌝ }
+// One more where inside.
+fn more(k: usize, inside: bool) -> usize
+    requires { ⌜ k < 18446744073709551615 ⌝ }
+    ensures { λ r. ⌜ r ≡ k + bit inside ⌝ }
 {
-    o[q] = x;
+    if inside { k + 1 } else { k }
+}
+
+// An item into the s words from q on. Where it goes on its low end stays: x is written in the place of the high end, and h over it, as a
+// test would cost more.
+fn lay(o: &mut [u64], s: usize, q: usize, join: bool, x: u64, h: u64, v: Words)
+    requires { ⌜ (2 ≤ s) × (s ≤ 4) × (q + s ≤ length (now o)) ⌝ }
+    ensures { λ _. ⌜ Laid s (now (o .entry)) q (pick join (getD (now (o .entry)) q 0) x) h (valueOf s v) (now (o .exit)) ⌝ }
+{
+    let low = more(q, join);
+    o[low] = x;
     o[q + 1] = h;
     if s == 2 {
         return;
@@ -313,27 +449,31 @@ fn lay(o: &mut [u64], s: usize, q: usize, x: u64, h: u64, v: Words)
     o[q + 3] = v.second;
 }
 
-// The segment from x to h stored behind the n items of o: as a new item, or into the last one.
-fn put(o: &mut [u64], s: usize, n: usize, join: bool, x: u64, h: u64, v: Words)
-    requires { ⌜ (2 ≤ s) × (s ≤ 4) × Room true s n true join (length (now o)) ⌝ }
-    ensures { λ _. ⌜ items s (n + begins true join) 1 (now (o .exit)) ≡ grow true join (items s n 1 (now (o .entry))) x h (valueOf s v) ⌝ }
+// The segment from x to h as item k of o, where keep says so: its low end stays where it goes on. Without a value it is stored too, behind
+// the items and as far as o goes, since a test would cost more than the words.
+fn store(o: &mut [u64], s: usize, k: usize, keep: bool, join: bool, x: u64, h: u64, v: Words)
+    requires { ⌜ (2 ≤ s) × (s ≤ 4) × (1 + s * pick keep k 0 ≤ length (now o)) ⌝ }
+    ensures { λ _. ⌜ Stored keep s (now (o .entry)) k join x h (valueOf s v) (now (o .exit)) ⌝ }
 {
-    if join {
-        let at = 2 + s * (n - 1);
-        o[at] = h;
+    if keep {
+        let q = 1 + s * k;
+        if s <= o.len() - q {
+            lay(o, s, q, join, x, h, v);
+            return;
+        }
         return;
     }
-    lay(o, s, 1 + s * n, x, h, v);
 }
 
-fn grown(n: usize, join: bool) -> usize
-    requires { ⌜ n < 18446744073709551615 ⌝ }
-    ensures { λ r. ⌜ r ≡ n + begins true join ⌝ }
+// One less where join.
+fn less(n: usize, join: bool) -> usize
+    requires { ⌜ bit join ≤ n ⌝ }
+    ensures { λ r. ⌜ r ≡ n - bit join ⌝ }
 {
-    if join { n } else { n + 1 }
+    if join { n - 1 } else { n }
 }
 
-// How many items there are with the segment from x to h, which is stored where keep says so.
+// How many items there are with the segment from x to h, which is stored where keep says so: as a new item, or into the last one.
 fn add(
     o: &mut [u64],
     s: usize,
@@ -345,17 +485,120 @@ fn add(
     h: u64,
     v: Words,
 ) -> usize
-    requires { ⌜ (2 ≤ s) × (s ≤ 4) × Room keep s n inside join (length (now o)) ⌝ }
+    requires { ⌜ Addable keep s n inside join (length (now o)) ⌝ }
     ensures { λ r. ⌜ (r ≡ n + begins inside join) × Holds keep s r (now (o .exit)) (grow inside join (items s n 1 (now (o .entry))) x h (valueOf s v)) ⌝ }
 {
-    if inside {
-        if keep {
-            put(o, s, n, join, x, h, v);
-            return grown(n, join);
+    let k = less(n, join);
+    store(o, s, k, keep, join, x, h, v);
+    more(k, inside)
+}
+
+// The sweep for any plan: `sweep` says what it gives.
+fn sweep_any(
+    a: &[u64],
+    b: &[u64],
+    c: &[u64],
+    plan: Plan,
+    stop: usize,
+    keep: bool,
+    o: &mut [u64],
+) -> usize
+    requires { ⌜ Inputs (plan .a) (plan .b) (plan .c) (now a) (now b) (now c) ⌝ }
+    requires { ⌜ Fit (plan .table) (plan .out) (plan .a) (plan .b) (plan .c) ⌝ }
+    requires { ⌜ 1 + plan .out * pick keep (length (resultOf plan (now a) (now b) (now c))) 0 ≤ length (now o) ⌝ }
+    ensures { λ r. ⌜ Stopped keep (plan .out) stop (resultOf plan (now (a .entry)) (now (b .entry)) (now (c .entry))) r (now (o .exit)) ⌝ }
+{
+    let first = begin(a, b, c, plan);
+    let ends = first.ends;
+    let mut at = first.at;
+    let mut sides = first.sides;
+    let mut x: u64 = 0;
+    let mut was = false;
+    let mut before = nothing();
+    let mut n: usize = 0;
+    while n < stop {
+        let s = segment_at(a, b, c, plan, at, sides, ends, x);
+        let v = s.value;
+        let join = joins(plan.out, s.inside, was, before, v);
+        n = add(o, plan.out, n, keep, s.inside, join, x, s.last, v);
+        if s.last == M {
+            return n;
         }
-        return grown(n, join);
+        x = s.last + 1;
+        was = s.inside;
+        before = v;
+        at = s.at;
+        sides = s.sides;
     }
     n
+}
+
+// The sweep for sets: the same loop with nothing left to choose, more than twice as fast.
+fn sweep_sets(
+    a: &[u64],
+    b: &[u64],
+    c: &[u64],
+    table: u8,
+    stop: usize,
+    keep: bool,
+    o: &mut [u64],
+) -> usize
+    requires { ⌜ Inputs 2 2 2 (now a) (now b) (now c) ⌝ }
+    requires { ⌜ 1 + 2 * pick keep (length (resultOf (setPlan table) (now a) (now b) (now c))) 0 ≤ length (now o) ⌝ }
+    ensures { λ r. ⌜ Stopped keep 2 stop (resultOf (setPlan table) (now (a .entry)) (now (b .entry)) (now (c .entry))) r (now (o .exit)) ⌝ }
+{
+    let first = begin(a, b, c, set_plan(table));
+    let ends = first.ends;
+    let mut at = first.at;
+    let mut sides = first.sides;
+    let mut x: u64 = 0;
+    let mut was = false;
+    let mut before = nothing();
+    let mut n: usize = 0;
+    while n < stop {
+        let s = set_segment_at(a, b, c, table, at, sides, ends, x);
+        let v = s.value;
+        let join = joins(2, s.inside, was, before, v);
+        n = add(o, 2, n, keep, s.inside, join, x, s.last, v);
+        if s.last == M {
+            return n;
+        }
+        x = s.last + 1;
+        was = s.inside;
+        before = v;
+        at = s.at;
+        sides = s.sides;
+    }
+    n
+}
+
+// The plan of a table for sets.
+fn set_plan(table: u8) -> Plan
+    ensures { λ r. ⌜ r ≡ setPlan table ⌝ }
+{
+    Plan {
+        table: table,
+        a: 2,
+        b: 2,
+        c: 2,
+        out: 2,
+    }
+}
+
+// Whether a plan is one for sets: then the shorter loop serves.
+fn only_sets(plan: Plan) -> bool
+    ensures { λ r. ⌜ r ≡ onlySets plan ⌝ }
+{
+    if plan.a != 2 {
+        return false;
+    }
+    if plan.b != 2 {
+        return false;
+    }
+    if plan.c != 2 {
+        return false;
+    }
+    plan.out == 2
 }
 
 // How many items the result has, as far as they are fewer than stop. Where keep says so and all were met, they stand in o behind word 0.
@@ -373,32 +616,10 @@ fn sweep(
     requires { ⌜ 1 + plan .out * pick keep (length (resultOf plan (now a) (now b) (now c))) 0 ≤ length (now o) ⌝ }
     ensures { λ r. ⌜ Stopped keep (plan .out) stop (resultOf plan (now (a .entry)) (now (b .entry)) (now (c .entry))) r (now (o .exit)) ⌝ }
 {
-    let mut i = start(a, plan.a);
-    let mut j = start(b, plan.b);
-    let mut k = start(c, plan.c);
-    let mut x: u64 = 0;
-    let mut was = false;
-    let mut before = Words {
-        first: 0,
-        second: 0,
-    };
-    let mut n: usize = 0;
-    while n < stop {
-        let s = segment_at(a, b, c, plan, i, j, k, x);
-        let v = s.value;
-        let join = joins(plan.out, was, before, v);
-        n = add(o, plan.out, n, keep, s.inside, join, x, s.last, v);
-        if s.last == M {
-            return n;
-        }
-        x = s.last + 1;
-        was = s.inside;
-        before = v;
-        i = s.a;
-        j = s.b;
-        k = s.c;
+    if only_sets(plan) {
+        return sweep_sets(a, b, c, plan.table, stop, keep, o);
     }
-    n
+    sweep_any(a, b, c, plan, stop, keep, o)
 }
 
 // Whether the result has at most cap items; bound is any number that it does not exceed, so that where bound fits nothing is counted.

@@ -1,18 +1,22 @@
 use denote.Ref.{now}
 use lib.ListN.{length-set}
-use Rattle.sweeps.proofs.Storing.{lay-two, lay-three, lay-four}
+use Rattle.sweeps.proofs.Storing.{bit-one, lay-two, lay-three, lay-four}
 use native.Mathlib.Omega.{arith}
 use borrow.Author.Needs.{needs}
 use Rattle.sweeps.proofs.lay.Statement.{statement}
 use Rattle.sweeps.proofs.lay.Tie as tie
 use Rattle.sweeps.proofs.lay.Reads as reads
 use Rattle.sweeps.proofs.lay.Lts as lts
+use Rattle.sweeps.proofs.more.Reads as more-reads
+
+more-requires : tie.Need-more-requires
+more-requires c κs = search needs
 
 mul-o : tie.Need-mul-o
-mul-o c = search needs
+mul-o c = let a = c .before .before in record { fits = omega (arith, c .more .ensures, bit-one (a .args .join)) }
 
 slice-write-o : tie.Need-slice-write-o
-slice-write-o c = search needs
+slice-write-o c = let a = c .before .before in omega (arith, c .more .ensures, bit-one (a .args .join))
 
 add-o : tie.Need-add-o
 add-o c = search needs
@@ -27,7 +31,7 @@ same-length : tie.Need-same-length
 same-length c = search needs
 
 returns : tie.Need-returns
-returns c = let a = c .before in lay-two (a .args .s) (now (a .args .o)) (a .args .q) (a .args .x) (a .args .h) (a .args .v) (a .pre .2) (c .if1 .taken)
+returns c = let a = c .before .before .before in lay-two (a .args .s) (now (a .args .o)) (a .args .q) (a .args .x) (a .args .h) (a .args .join) (c .before .more .result) (c .before .more .ensures) (a .args .v) (a .pre .0) (a .pre .2) (c .if1 .taken)
 
 add-o-2 : tie.Need-add-o-2
 add-o-2 c = search needs
@@ -42,7 +46,7 @@ same-length-2 : tie.Need-same-length-2
 same-length-2 c = search needs
 
 returns-2 : tie.Need-returns-2
-returns-2 c = let a = c .before .before in lay-three (a .args .s) (now (a .args .o)) (a .args .q) (a .args .x) (a .args .h) (a .args .v) (a .pre .2) (c .if2 .taken)
+returns-2 c = let a = c .before .before .before .before in lay-three (a .args .s) (now (a .args .o)) (a .args .q) (a .args .x) (a .args .h) (a .args .join) (c .before .before .more .result) (c .before .before .more .ensures) (a .args .v) (a .pre .0) (a .pre .2) (c .if2 .taken)
 
 add-o-3 : tie.Need-add-o-3
 add-o-3 c = search needs
@@ -57,12 +61,13 @@ same-length-3 : tie.Need-same-length-3
 same-length-3 c = search needs
 
 returns-3 : tie.Need-returns-3
-returns-3 c = let a = c .before .before in lay-four (a .args .s) (now (a .args .o)) (a .args .q) (a .args .x) (a .args .h) (a .args .v) (a .pre .2) (omega arith)
+returns-3 c = let a = c .before .before .before .before in lay-four (a .args .s) (now (a .args .o)) (a .args .q) (a .args .x) (a .args .h) (a .args .join) (c .before .before .more .result) (c .before .before .more .ensures) (a .args .v) (a .pre .0) (a .pre .2) (omega arith)
 
 pub lay-spec : {M : Type 1} → statement M
 lay-spec =
     tie.close
     (tie.spec
+    more-requires
     mul-o
     slice-write-o
     add-o

@@ -35,8 +35,8 @@ sub-if2 c =
     let a = c .before .before .before .before in
     omega (arith, next-later (a .args .s) (now (a .args .w)) (a .args .x) (a .pre .0) (a .pre .1) (c .before .before .word .result) _ (c .before .before .word .ensures) refl (c .before .if1 .left), c .word2 .ensures)
 
-add-t13 : tie.Need-add-t13
-add-t13 c = search needs
+add-t12 : tie.Need-add-t12
+add-t12 c = search needs
 
 returns-2 : tie.Need-returns-2
 returns-2 c =
@@ -58,6 +58,6 @@ leave-spec =
     returns
     word-requires-2
     sub-if2
-    add-t13
+    add-t12
     returns-2
     returns-3)

@@ -1,10 +1,6 @@
 use denote.Ref.{now}
-use mathlib.Core.Path.{sym, subst}
 use mathlib.Core.Bool.{true, false}
-use Rattle.sweeps.specs.Cursors.{Point, TurnAt}
-use Rattle.sweeps.specs.declared.Cursor.{Cursor}
 use Rattle.sweeps.proofs.Runs.{point-as, turn-as, turn-none, out-side, out-here, turn-out}
-use borrow.Author.Needs.{needs}
 use native.Mathlib.Omega.{arith}
 use Rattle.sweeps.proofs.run_at.Statement.{statement}
 use Rattle.sweeps.proofs.run_at.Tie as tie
@@ -31,13 +27,13 @@ word-requires c κs =
     let a = c .before .before .before in
     omega (arith, out-here (a .args .s) (now (a .args .w)) (a .args .x) (a .pre .0) (point-as false (c .before .if1 .left) (a .pre .1)) (c .if2 .left), a .pre .0 .two)
 
-sub-t10 : tie.Need-sub-t10
-sub-t10 c =
+sub-t9 : tie.Need-sub-t9
+sub-t9 c =
     let a = c .before .before .before .before in
     omega (arith, out-side (a .args .s) (now (a .args .w)) (a .args .x) (a .pre .0) (point-as false (c .before .before .if1 .left) (a .pre .1)) (c .before .if2 .left), c .word .ensures)
 
-add-t11 : tie.Need-add-t11
-add-t11 c =
+add-t10 : tie.Need-add-t10
+add-t10 c =
     let a = c .before .before .before .before in
     record { fits = omega (arith, out-here (a .args .s) (now (a .args .w)) (a .args .x) (a .pre .0) (point-as false (c .before .before .if1 .left) (a .pre .1)) (c .before .if2 .left), a .pre .0 .two) }
 
@@ -48,4 +44,4 @@ returns-3 c =
 
 pub run-at-spec : {M : Type 1} → statement M
 run-at-spec =
-    tie.close (tie.spec leave-requires returns returns-2 word-requires sub-t10 add-t11 returns-3)
+    tie.close (tie.spec leave-requires returns returns-2 word-requires sub-t9 add-t10 returns-3)

@@ -1,5 +1,4 @@
 use Rattle.sweeps.proofs.Segments.{same-two, same-three, same-four, same-differ}
-use borrow.Author.Needs.{needs}
 use native.Mathlib.Omega.{arith}
 use Rattle.sweeps.proofs.same_value.Statement.{statement}
 use Rattle.sweeps.proofs.same_value.Tie as tie

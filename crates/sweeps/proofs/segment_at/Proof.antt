@@ -1,5 +1,5 @@
+use denote.Ref.{now}
 use Rattle.sweeps.proofs.Segments.{segment-made}
-use native.Mathlib.Omega.{arith}
 use borrow.Author.Needs.{needs}
 use Rattle.sweeps.proofs.segment_at.Statement.{statement}
 use Rattle.sweeps.proofs.segment_at.Tie as tie
@@ -10,6 +10,7 @@ use Rattle.sweeps.proofs.carried.Reads as carried-reads
 use Rattle.sweeps.proofs.least.Reads as least-reads
 use Rattle.sweeps.proofs.moved.Reads as moved-reads
 use Rattle.sweeps.proofs.run_at.Reads as run-at-reads
+use Rattle.sweeps.proofs.turned.Reads as turned-reads
 
 run-at-requires : tie.Need-run-at-requires
 run-at-requires c κs = search needs
@@ -41,10 +42,21 @@ moved-requires-2 c κs = search needs
 moved-requires-3 : tie.Need-moved-requires-3
 moved-requires-3 c κs = search needs
 
+turned-requires : tie.Need-turned-requires
+turned-requires c κs = search needs
+
+turned-requires-2 : tie.Need-turned-requires-2
+turned-requires-2 c κs = search needs
+
+turned-requires-3 : tie.Need-turned-requires-3
+turned-requires-3 c κs = search needs
+
 returns : tie.Need-returns
 returns c =
-    segment-made (c .before .before .before .before .before .before .before .before .before .run-at .ensures) (c .before .before .before .before .before .before .before .before .run-at2 .ensures) (c .before .before .before .before .before .before .before .run-at3 .ensures) (c .before .before .before .before .before .before .least .ensures) (c .before .before .before .before .before .least2 .ensures)
-    (c .before .before .before .before .accepted .ensures) (c .before .before .before .carried .ensures) (c .before .before .moved .ensures) (c .before .moved2 .ensures) (c .moved3 .ensures)
+    let a = c .before .before .before .before .before .before .before .before .before .before .before .before .before .before .before .before .before .before .before .before .before .before in
+    segment-made (a .args .plan) (now (a .args .a)) (now (a .args .b)) (now (a .args .c)) (a .args .x) (a .args .at) (a .args .sides) (a .args .ends) (c .before .before .before .before .before .before .before .before .before .before .before .before .before .before .before .before .before .before .run-at .result) (c .before .before .before .before .before .before .before .before .before .before .before .before .before .before .before .before .before .run-at2 .result) (c .before .before .before .before .before .before .before .before .before .before .before .before .before .before .before .before .run-at3 .result) _ (c .before .before .before .before .before .before .before .before .before .before .before .before .before .before .before .least .result)
+    (c .before .before .before .before .before .before .before .before .before .before .before .before .before .before .before .before .before .before .run-at .ensures, c .before .before .before .before .before .before .before .before .before .before .before .before .before .before .before .before .before .run-at2 .ensures, c .before .before .before .before .before .before .before .before .before .before .before .before .before .before .before .before .run-at3 .ensures) (c .before .before .before .before .before .before .before .before .before .before .before .before .before .before .before .least .ensures) (c .before .before .before .before .before .before .before .before .before .before .before .before .before .before .least2 .ensures) (c .before .before .before .before .before .before .before .before .before .before .before .before .before .accepted .ensures) (c .before .before .before .before .before .before .before .before .before .before .before .before .carried .ensures)
+    (c .before .before .before .before .before .before .before .before .before .before .moved .ensures, c .before .before .before .before .before .before .before .before .moved2 .ensures, c .before .before .before .before .before .before .moved3 .ensures) (c .before .before .before .before .turned .ensures, c .before .before .turned2 .ensures, c .turned3 .ensures)
 
 pub segment-at-spec : {M : Type 1} → statement M
 segment-at-spec =
@@ -60,4 +72,7 @@ segment-at-spec =
     moved-requires
     moved-requires-2
     moved-requires-3
+    turned-requires
+    turned-requires-2
+    turned-requires-3
     returns)

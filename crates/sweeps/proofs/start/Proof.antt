@@ -1,3 +1,4 @@
+use Rattle.blocks.proofs.Tests.{le-mul}
 use denote.Ref.{now}
 use mathlib.Core.Path.{refl, sym, _∙_}
 use Rattle.sweeps.proofs.Runs.{held-by, start-none, start-in, start-out}
@@ -34,7 +35,7 @@ returns c =
 word-requires-2 : tie.Need-word-requires-2
 word-requires-2 c κs =
     let a = c .before .before .before .before in
-    omega (arith, held-by (a .args .s) (now (a .args .w)) (a .pre) (c .before .wide .result) (c .before .wide .ensures ∙ c .before .before .word .ensures), Rattle.blocks.proofs.Tests.le-mul (a .args .s) (c .before .wide .result) (a .pre .two), c .if1 .left)
+    omega (arith, held-by (a .args .s) (now (a .args .w)) (a .pre) (c .before .wide .result) (c .before .wide .ensures ∙ c .before .before .word .ensures), le-mul (a .args .s) (c .before .wide .result) (a .pre .two), c .if1 .left)
 
 returns-2 : tie.Need-returns-2
 returns-2 c =

@@ -1,103 +1,58 @@
 use denote.Ref.{now}
-use mathlib.Core.Path.{_≡_, refl, _∙_}
-use Prim.Native.Nat.{_≤_, _-_}
+use Prim.Native.Nat.{_+_, _*_, _≤_}
+use mathlib.Core.Path.{sym, subst}
 use lib.ListN.{length}
-use Rattle.sweeps.proofs.Growing.{begins-one}
-use Rattle.sweeps.proofs.Standing.{Standing, standing-zero, stopped-early, standing-room, standing-next, stopped-end}
+use Rattle.entries.specs.Build.{pick}
+use Rattle.sweeps.specs.Sweeps.{resultOf, Inputs}
+use Rattle.sweeps.specs.Cursors.{Stopped}
+use Rattle.sweeps.specs.declared.Plan.{Plan}
+use Rattle.sweeps.proofs.Standing.{sets-only}
 use borrow.Author.Needs.{needs}
-use native.Mathlib.Omega.{arith}
 use Rattle.sweeps.proofs.sweep.Statement.{statement}
 use Rattle.sweeps.proofs.sweep.Tie as tie
 use Rattle.sweeps.proofs.sweep.Reads as reads
 use Rattle.sweeps.proofs.sweep.Lts as lts
-use Rattle.sweeps.proofs.add.Reads as add-reads
-use Rattle.sweeps.proofs.joins.Reads as joins-reads
-use Rattle.sweeps.proofs.segment_at.Reads as segment-at-reads
-use Rattle.sweeps.proofs.start.Reads as start-reads
+use Rattle.sweeps.proofs.only_sets.Reads as only-sets-reads
+use Rattle.sweeps.proofs.sweep_any.Reads as sweep-any-reads
+use Rattle.sweeps.proofs.sweep_sets.Reads as sweep-sets-reads
 
-abbrev Inv-loop : tie.InvT-loop
-Inv-loop a b c plan stop keep o₀ i₀ j₀ k₀ x₀ was₀ before₀ n₀ o i j k x was before n =
-    Standing plan a b c keep x i j k was before n o × (n ≤ stop) × (length o ≡ length o₀)
+only-sets-requires : tie.Need-only-sets-requires
+only-sets-requires c κs = search needs
 
-abbrev μ-loop : tie.MeasureT-loop
-μ-loop a b c plan stop keep o₀ i₀ j₀ k₀ x₀ was₀ before₀ n₀ o i j k x was before n = 18446744073709551616 - x
-
-start-requires : tie.Need-start-requires Inv-loop μ-loop
-start-requires c κs = search needs
-
-start-requires-2 : tie.Need-start-requires-2 Inv-loop μ-loop
-start-requires-2 c κs = search needs
-
-start-requires-3 : tie.Need-start-requires-3 Inv-loop μ-loop
-start-requires-3 c κs = search needs
-
-loop-holds : tie.Need-loop-holds Inv-loop μ-loop
-loop-holds c =
+sweep-sets-requires : tie.Need-sweep-sets-requires
+sweep-sets-requires c κs =
     let a = c .before .before .before .before .before .before .before in
-    (standing-zero (a .args .plan) (now (a .args .a)) (now (a .args .b)) (now (a .args .c)) (a .args .keep) _ _ _ _ _ (record { at-a = c .before .before .start .ensures; at-b = c .before .start2 .ensures; at-c = c .start3 .ensures }), omega arith, refl)
-
-segment-at-requires : tie.Need-segment-at-requires Inv-loop μ-loop
-segment-at-requires c κs = search needs
-
-joins-requires : tie.Need-joins-requires Inv-loop μ-loop
-joins-requires c κs = let a = c .before .before .before .before .before .before .before .before .before .before .before in (a .pre .1 .0 .two, a .pre .1 .0 .four)
-
-add-requires : tie.Need-add-requires Inv-loop μ-loop
-add-requires c κs =
-    let a = c .before .before .before .before .before .before .before .before .before .before .before .before .before in
-    let l = c .before .before .before .before .before .loop in
-    (a .pre .1 .0 .two, a .pre .1 .0 .four, standing-room (l .inv .0) (c .before .before .before .segment-at .ensures) (c .before .joins .ensures) (length (l .o)) (omega (arith, a .pre .1 .1, l .inv .2)) (omega (arith, c .before .before .before .before .loop-test .taken)))
-
-same-length : tie.Need-same-length Inv-loop μ-loop
-same-length c = search needs
-
-returns : tie.Need-returns Inv-loop μ-loop
-returns c =
-    let a = c .before .before .before .before .before .before .before .before .before .before .before .before .before .before .before .before .before .before in
-    let l = c .before .before .before .before .before .before .before .before .before .before .loop in
-    stopped-end (l .inv .0) (c .before .before .before .before .before .before .before .before .segment-at .ensures) (c .before .before .before .before .before .before .joins .ensures) (c .before .before .before .before .add .last .0) (c .before .before .before .before .add .ensures) (a .args .stop) (c .before .before .before .before .before .before .before .before .before .loop-test .taken) (c .if1 .taken)
-
-add-x : tie.Need-add-x Inv-loop μ-loop
-add-x c = search needs
-
-loop-less : tie.Need-loop-less Inv-loop μ-loop
-loop-less c = search needs
-
-loop-again : tie.Need-loop-again Inv-loop μ-loop
-loop-again c =
-    let a = c .before .before .before .before .before .before .before .before .before .before .before .before .before .before .before .before .before .before .before .before .before .before in
-    let l = c .before .before .before .before .before .before .before .before .before .before .before .before .before .before .loop in (
-      standing-next (l .inv .0) (c .before .before .before .before .before .before .before .before .before .before .before .before .segment-at .ensures) (c .before .before .before .before .before .before .before .before .before .before .joins .ensures) (c .before .before .before .before .before .before .before .before .add .last .0) (c .before .before .before .before .before .before .before .before .add .ensures) (c .before .before .before .before .if1 .left),
-      omega (arith, c .before .before .before .before .before .before .before .before .before .before .before .before .before .loop-test .taken, c .before .before .before .before .before .before .before .before .add .ensures .0, begins-one (c .before .before .before .before .before .before .before .before .before .before .before .before .segment-at .result .inside) (c .before .before .before .before .before .before .before .before .before .before .joins .result)),
-      c .before .before .before .before .before .before .before .before .add .kept .0 ∙ l .inv .2,
+    let e = sets-only (a .args .plan) (c .before .before .only-sets .result) (c .before .before .only-sets .ensures) (c .before .if1 .taken) in (
+      subst (λ (p : Plan). Inputs (p .a) (p .b) (p .c) (now (a .args .a)) (now (a .args .b)) (now (a .args .c))) e (a .pre .0),
+      subst (λ (p : Plan). 1 + p .out * pick (a .args .keep) (length (resultOf p (now (a .args .a)) (now (a .args .b)) (now (a .args .c)))) 0 ≤ length (now (a .args .o))) e (a .pre .1 .1),
     )
 
-same-length-2 : tie.Need-same-length-2 Inv-loop μ-loop
+same-length : tie.Need-same-length
+same-length c = search needs
+
+returns : tie.Need-returns
+returns c =
+    let a = c .before .before .before .before .before .before .before .before .before .before in
+    let e = sets-only (a .args .plan) (c .before .before .before .before .before .only-sets .result) (c .before .before .before .before .before .only-sets .ensures) (c .before .before .before .before .if1 .taken) in
+    subst (λ (p : Plan). Stopped (a .args .keep) (p .out) (a .args .stop) (resultOf p (now (a .args .a)) (now (a .args .b)) (now (a .args .c))) (c .before .before .sweep-sets .result) (c .before .before .sweep-sets .last .1 .1 .1 .1 .1 .1 .0)) (sym e) (c .before .before .sweep-sets .ensures)
+
+sweep-any-requires : tie.Need-sweep-any-requires
+sweep-any-requires c κs = search needs
+
+same-length-2 : tie.Need-same-length-2
 same-length-2 c = search needs
 
-returns-2 : tie.Need-returns-2 Inv-loop μ-loop
-returns-2 c =
-    let a = c .before .before .before .before .before .before .before .before .before in
-    let l = c .before .loop in
-    stopped-early (l .inv .0) (a .args .stop) (l .inv .1) (c .loop-test .left)
+returns-2 : tie.Need-returns-2
+returns-2 c = search needs
 
 pub sweep-spec : {M : Type 1} → statement M
 sweep-spec =
     tie.close
     (tie.spec
-    Inv-loop
-    μ-loop
-    start-requires
-    start-requires-2
-    start-requires-3
-    loop-holds
-    segment-at-requires
-    joins-requires
-    add-requires
+    only-sets-requires
+    sweep-sets-requires
     same-length
     returns
-    add-x
-    loop-less
-    loop-again
+    sweep-any-requires
     same-length-2
     returns-2)

@@ -1,0 +1,42 @@
+use denote.Ref.{now}
+use Prim.Native.Nat.{_+_, _*_}
+use Rattle.sweeps.specs.Cursors.{valueOf}
+use Rattle.sweeps.proofs.Storing.{laid-not}
+use native.Mathlib.Omega.{arith}
+use borrow.Author.Needs.{needs}
+use Rattle.sweeps.proofs.store.Statement.{statement}
+use Rattle.sweeps.proofs.store.Tie as tie
+use Rattle.sweeps.proofs.store.Reads as reads
+use Rattle.sweeps.proofs.store.Lts as lts
+use Rattle.sweeps.proofs.lay.Reads as lay-reads
+
+mul-q : tie.Need-mul-q
+mul-q c = let a = c .before .before in let h = rw (c .if1 .taken) at (a .pre .2) in record { fits = omega arith }
+
+add-q : tie.Need-add-q
+add-q c = let a = c .before .before in let h = rw (c .if1 .taken) at (a .pre .2) in record { fits = omega arith }
+
+sub-if2 : tie.Need-sub-if2
+sub-if2 c = let a = c .before .before in let h = rw (c .if1 .taken) at (a .pre .2) in omega arith
+
+lay-requires : tie.Need-lay-requires
+lay-requires c κs = search needs
+
+same-length : tie.Need-same-length
+same-length c = search needs
+
+returns : tie.Need-returns
+returns c = rw (c .before .before .before .before .before .if1 .taken) (c .before .before .lay .ensures)
+
+returns-2 : tie.Need-returns-2
+returns-2 c =
+    let a = c .before .before .before in
+    let h = rw (c .before .if1 .taken) at (a .pre .2) in
+    rw (c .before .if1 .taken) (laid-not (a .args .s) (now (a .args .o)) (1 + a .args .s * a .args .k) _ (a .args .h) (valueOf (a .args .s) (a .args .v)) (omega arith))
+
+returns-3 : tie.Need-returns-3
+returns-3 c = rw (c .if1 .left) tt
+
+pub store-spec : {M : Type 1} → statement M
+store-spec =
+    tie.close (tie.spec mul-q add-q sub-if2 lay-requires same-length returns returns-2 returns-3)
