@@ -1,0 +1,220 @@
+-- What the code's tests make of the calls' definitions, and how a reservation follows from the question.
+use mathlib.Core.Path.{_≡_, refl, sym, _∙_, ap}
+use mathlib.Core.Bool.{Bool, true, false}
+use mathlib.Core.Option.{Option, none, some}
+use mathlib.Core.List.{List, [], _∷_}
+use Prim.Native.Nat.{ℕ, zero, suc, _+_, _-_, _≤_, _<_}
+use native.Mathlib.Omega.{arith}
+use lib.Dec.{ltb, eqb}
+use borrow.Author.Tests.{leb-true, ltb-false, eqb-true, eqb-false, eq-eqb, ne-eqb, le-ltb}
+use Rattle.entries.specs.Entries.{Entry, entry, Sound}
+use Rattle.entries.specs.Build.{pick, put}
+use Rattle.entries.specs.Sets.{M}
+use Rattle.entries.specs.Questions.{filter}
+use Rattle.answers.specs.declared.Refusal.{Refusal}
+use Rattle.answers.specs.Answers.{Answer, given, refused, Outcome, outcome, refuse, judged}
+use Rattle.answers.specs.declared.Placed.{Placed}
+use Rattle.answers.specs.declared.Placed.the-variants as placed
+use Rattle.answers.specs.Says.{numberOf, refusalSays, placedSays, refusalOf}
+use Rattle.answers.proofs.Numbers.{refused-as, given-as, refusal-says}
+use Rattle.blocks.specs.Blocks.{setLimit, entriesOf, verdict, SoundBlock}
+use Rattle.blocks.specs.Calls.{stored}
+use Rattle.blocks.proofs.Judging.{sound-verdict}
+use Rattle.searches.specs.Calls.{windowVerdict}
+use Rattle.searches.proofs.Windows.{judged-window, window-most}
+use Rattle.edits.specs.Calls.{editCall}
+use Rattle.edits.specs.Steps.{roomSays}
+use Rattle.fits.specs.declared.Gap.{Gap}
+use Rattle.fits.specs.Fits.{gaps, fits, anywhere, firstGap, shortestGap, startIn, placeIn}
+use Rattle.fits.specs.Calls.{atPlace, asked, fitCall, answering, reserveCall}
+use Rattle.fits.specs.Steps.{chooser, fitter, gapOf, Asked, Placing, askVerdict}
+use Rattle.fits.proofs.Choosing.{All, OptAll, filter-all, filter-keeps, shortest-all}
+use Rattle.fits.proofs.Gaps.{gaps-below}
+
+-- THE REFUSALS before a place is sought
+module _ (w : List ℕ) (a b k v : ℕ) (e : v ≡ windowVerdict 2 setLimit w a b) where
+  pub ask-window : (v ≡ 0 → ⊥) → v ≡ askVerdict w a b k
+  unfolding askVerdict
+  ask-window n = rw (ne-eqb (windowVerdict 2 setLimit w a b) 0 (λ q. n (e ∙ q))) e
+
+  module _ (z : v ≡ 0) where
+    pub ask-zero : k ≡ 0 → 6 ≡ askVerdict w a b k
+    unfolding askVerdict
+    ask-zero h = rw (eq-eqb (windowVerdict 2 setLimit w a b) 0 (sym e ∙ z), eq-eqb k 0 h)
+
+    pub ask-right : (k ≡ 0 → ⊥) → 0 ≡ askVerdict w a b k
+    unfolding askVerdict
+    ask-right n = rw (eq-eqb (windowVerdict 2 setLimit w a b) 0 (sym e ∙ z), ne-eqb k 0 n)
+
+pub asked-right : (w : List ℕ) (a b k : ℕ) → askVerdict w a b k ≡ 0 → Asked w a b k
+unfolding askVerdict
+asked-right w a b k v = go (eqb (windowVerdict 2 setLimit w a b) 0) refl (eqb k 0) refl v
+  where
+    go : (s : Bool) → eqb (windowVerdict 2 setLimit w a b) 0 ≡ s → (t : Bool) → eqb k 0 ≡ t
+        → pick s (pick t 6 0) (windowVerdict 2 setLimit w a b) ≡ 0 → Asked w a b k
+    go true p true q h = absurd (omega arith)
+    go true p false q h =
+        let j = judged-window 2 setLimit w a b (omega arith) (eqb-true (windowVerdict 2 setLimit w a b) 0 p) in
+        let n : k ≡ 0 → ⊥ = eqb-false k 0 q in
+        record { block = j .block; order = j .order; run = omega arith }
+    go false p t q h = absurd (eqb-false (windowVerdict 2 setLimit w a b) 0 p h)
+
+ask-most : (w : List ℕ) (a b k : ℕ) → askVerdict w a b k ≤ 15
+unfolding askVerdict
+ask-most w a b k = go (eqb (windowVerdict 2 setLimit w a b) 0) (eqb k 0)
+  where
+    go : (s t : Bool) → pick s (pick t 6 0) (windowVerdict 2 setLimit w a b) ≤ 15
+    go true true = omega arith
+    go true false = omega arith
+    go false t = window-most 2 setLimit w a b
+
+-- the calls' definition goes by that verdict
+module _ (fit : ℕ → ℕ → ℕ → List Entry → Option ℕ) (w : List ℕ) (a b k : ℕ) where
+  asked-by : (lent : List (List ℕ)) (next : ℕ → Outcome)
+      → asked fit w a b k lent next ≡ judged (askVerdict w a b k) 0 lent (atPlace (fit a b k (entriesOf 2 w)) lent next)
+  unfolding askVerdict windowVerdict
+  asked-by lent next = go (verdict 2 setLimit w) (ltb b a) (eqb k 0)
+    where
+      x : Outcome
+      x = atPlace (fit a b k (entriesOf 2 w)) lent next
+
+      go : (v : ℕ) (s t : Bool) → judged v 0 lent (pick s (refuse 4 0 lent) (pick t (refuse 6 0 lent) x))
+          ≡ judged (pick (eqb (pick (eqb v 0) (pick s 4 0) v) 0) (pick t 6 0) (pick (eqb v 0) (pick s 4 0) v)) 0 lent x
+      go zero true t = refl
+      go zero false true = refl
+      go zero false false = refl
+      go (suc v) s t = rw (ne-eqb (suc v) 0 (λ q. omega arith), ne-eqb (suc v) 0 (λ q. omega arith))
+
+  -- the question refused, given, or with no gap
+  module _ (v : ℕ) (e : v ≡ askVerdict w a b k) where
+    pub fit-refused : (f : Refusal) → (v ≡ 0 → ⊥) → f ≡ refusalOf v 0 → outcome (refusalSays f) [] ≡ fitCall fit w a b k
+    unfolding fitCall
+    fit-refused f n r =
+        refused-as [] 0 (atPlace (fit a b k (entriesOf 2 w)) [] (λ s. outcome (given (s ∷ [])) [])) v (askVerdict w a b k) f e (ask-most w a b k) n r
+        ∙ sym (asked-by [] (λ s. outcome (given (s ∷ [])) []))
+
+    pub fit-answers : (o : Option ℕ) (y : Outcome) → v ≡ 0 → fit a b k (entriesOf 2 w) ≡ o → y ≡ atPlace o [] (λ s. outcome (given (s ∷ [])) []) → y ≡ fitCall fit w a b k
+    unfolding fitCall
+    fit-answers o y z p q =
+        given-as [] 0 (atPlace (fit a b k (entriesOf 2 w)) [] (λ s. outcome (given (s ∷ [])) [])) y v (askVerdict w a b k) e z
+        (q ∙ ap (λ (x : Option ℕ). atPlace x [] (λ s. outcome (given (s ∷ [])) [])) (sym p))
+        ∙ sym (asked-by [] (λ s. outcome (given (s ∷ [])) []))
+
+  -- what an answer of the question tells
+  pub record Chosen (s : ℕ) : Type 0 where
+    pub right : askVerdict w a b k ≡ 0
+    pub place : fit a b k (entriesOf 2 w) ≡ some s
+
+  pub fit-chosen : (s : ℕ) → outcome (given (s ∷ [])) [] ≡ fitCall fit w a b k → Chosen s
+  unfolding fitCall
+  fit-chosen s e = go (askVerdict w a b k) refl (fit a b k (entriesOf 2 w)) refl (e ∙ asked-by [] (λ s. outcome (given (s ∷ [])) []))
+    where
+      go : (v : ℕ) → askVerdict w a b k ≡ v → (o : Option ℕ) → fit a b k (entriesOf 2 w) ≡ o
+          → outcome (given (s ∷ [])) [] ≡ judged v 0 [] (atPlace o [] (λ s. outcome (given (s ∷ [])) [])) → Chosen s
+      go zero p none q h = let z : _≡_ {A = ℕ} 0 1 = cc in absurd (omega arith)
+      go zero p (some t) q h = let i : t ≡ s = cc in record { right = p; place = q ∙ ap some i }
+      go (suc v) p o q h = let z : _≡_ {A = ℕ} 0 1 = cc in absurd (omega arith)
+
+  -- A RESERVATION IS THE QUESTION FOLLOWED BY THE INSERTION. Where the question answers s it inserts s to s+k-1, with that call's block
+  -- and refusal, and answers s; else it refuses as the question does, and changes nothing.
+  pub reserve-inserts : (s : ℕ) → fitCall fit w a b k ≡ outcome (given (s ∷ [])) []
+      → reserveCall fit w a b k ≡ answering s (editCall 2 setLimit w s (s + k - 1) (some []))
+  unfolding reserveCall
+  reserve-inserts s e =
+      let c = fit-chosen s (sym e) in
+      asked-by (w ∷ []) next ∙ ap (λ (v : ℕ). judged v 0 (w ∷ []) (atPlace (fit a b k (entriesOf 2 w)) (w ∷ []) next)) (c .right)
+      ∙ ap (λ (o : Option ℕ). atPlace o (w ∷ []) next) (c .place)
+    where
+      next : ℕ → Outcome
+      next s = answering s (editCall 2 setLimit w s (s + k - 1) (some []))
+
+  pub reserve-refuses : (n p : ℕ) → fitCall fit w a b k ≡ outcome (refused n p) [] → reserveCall fit w a b k ≡ outcome (refused n p) (w ∷ [])
+  unfolding fitCall reserveCall
+  reserve-refuses n p e = asked-by (w ∷ []) next ∙ go (askVerdict w a b k) (fit a b k (entriesOf 2 w)) (sym (asked-by [] (λ s. outcome (given (s ∷ [])) [])) ∙ e)
+    where
+      next : ℕ → Outcome
+      next s = answering s (editCall 2 setLimit w s (s + k - 1) (some []))
+
+      go : (v : ℕ) (o : Option ℕ) → judged v 0 [] (atPlace o [] (λ s. outcome (given (s ∷ [])) [])) ≡ outcome (refused n p) []
+          → judged v 0 (w ∷ []) (atPlace o (w ∷ []) next) ≡ outcome (refused n p) (w ∷ [])
+      go zero none h = let a : refused 7 0 ≡ refused n p = cc in ap (λ (x : Answer). outcome x (w ∷ [])) a
+      go zero (some s) h = let z : _≡_ {A = ℕ} 0 1 = cc in absurd (omega arith)
+      go (suc v) o h = let a : refused (suc v) 0 ≡ refused n p = cc in ap (λ (x : Answer). outcome x (w ∷ [])) a
+
+-- the gap that was found, as a place
+module _ (shortest : Bool) (a b k : ℕ) (es : List Entry) (g : Gap)
+    (e : gapOf g ≡ chooser shortest (filter (fits anywhere k) (gaps a b es))) where
+  pub place-found : g .found ≡ true → fitter shortest a b k es ≡ some (g .low)
+  unfolding placeIn
+  place-found f = ap (startIn anywhere) (sym e ∙ ap (λ (t : Bool). pick t (some (entry (g .low) (g .high) [])) none) f)
+
+  pub place-none : g .found ≡ false → fitter shortest a b k es ≡ none
+  unfolding placeIn
+  place-none f = ap (startIn anywhere) (sym e ∙ ap (λ (t : Bool). pick t (some (entry (g .low) (g .high) [])) none) f)
+
+pub fit-none : (f : Refusal) → f ≡ refusalOf 7 0 → outcome (refusalSays f) [] ≡ refuse 7 0 []
+fit-none f e = ap (λ (g : Refusal). outcome (refusalSays g) []) e ∙ ap (λ (x : Answer). outcome x []) (refusal-says 7 0 (omega arith) (omega arith))
+
+-- a run of k from the place on ends in the window
+pub place-fits : (shortest : Bool) (a b k s : ℕ) (es : List Entry) → Sound es → fitter shortest a b k es ≡ some s → s + k ≤ suc b
+unfolding placeIn
+place-fits shortest a b k s es sound e = go (chooser shortest list) (chosen shortest) e
+  where
+    list : List Entry
+    list = filter (fits anywhere k) (gaps a b es)
+
+    P : Entry → Type 0
+    P g = g .low + k ≤ suc b
+
+    each : (gs : List Entry) → All (λ g. g .high < suc b) gs → All (λ g. g .low + k ≤ suc (g .high)) gs → All P gs
+    each [] h m = tt
+    each (g ∷ gs) h m = (omega (arith, h .0, m .0), each gs (h .1) (m .1))
+
+    all : All P list
+    all = each list (filter-all (λ g. g .high < suc b) (fits anywhere k) (gaps a b es) (gaps-below a b es sound))
+        (filter-keeps (λ g. g .low + k ≤ suc (g .high)) (fits anywhere k) (λ g q. leb-true (g .low + k) (suc (g .high)) q) (gaps a b es))
+
+    first : (gs : List Entry) → All P gs → OptAll P (firstGap gs)
+    first [] h = tt
+    first (g ∷ gs) h = h .0
+
+    chosen : (t : Bool) → OptAll P (chooser t list)
+    chosen true = shortest-all P list all
+    chosen false = first list all
+
+    go : (o : Option Entry) → OptAll P o → startIn anywhere o ≡ some s → s + k ≤ suc b
+    go none h q = let z : _≡_ {A = ℕ} 0 1 = cc in absurd (omega arith)
+    go (some g) h q = let i : g .low ≡ s = cc in omega arith
+
+-- what follows the question's answer in a reservation
+module _ (shortest : Bool) (w : List ℕ) (a b k : ℕ) (r : Placed) (e : outcome (placedSays r) [] ≡ fitCall (fitter shortest) w a b k) where
+  pub placing : (s : ℕ) → r ≡ placed.At s → b ≤ M → Placing w s k
+  placing s q m =
+      let c = fit-chosen (fitter shortest) w a b k s (ap (λ (x : Placed). outcome (placedSays x) []) (sym q) ∙ e) in
+      let j = asked-right w a b k (c .right) in
+      record { block = j .block; run = j .run; fits = omega (arith, place-fits shortest a b k s (entriesOf 2 w) (j .block .sound) (c .place)) }
+
+  pub reserve-at : (s : ℕ) → r ≡ placed.At s → (x : Outcome) → x ≡ answering s (editCall 2 setLimit w s (s + k - 1) (some [])) → x ≡ reserveCall (fitter shortest) w a b k
+  reserve-at s q x d = d ∙ sym (reserve-inserts (fitter shortest) w a b k s (sym e ∙ ap (λ (y : Placed). outcome (placedSays y) []) q))
+
+  pub reserve-not : (f : Refusal) → r ≡ placed.Refused f → outcome (refusalSays f) (w ∷ []) ≡ reserveCall (fitter shortest) w a b k
+  reserve-not f q =
+      sym (reserve-refuses (fitter shortest) w a b k (numberOf (f .reason)) (f .place) (sym e ∙ ap (λ (y : Placed). outcome (placedSays y) []) q))
+
+-- THE INSERTION at the place
+module _ (w : List ℕ) (s k : ℕ) (g : Placing w s k) (x : ℕ) (i : x ≡ s + (k - 1)) (t : Bool) (w' : List ℕ)
+    (e : outcome (roomSays t) (w' ∷ []) ≡ stored 0 2 setLimit w (put (entriesOf 2 w) s x (some []))) where
+  edit-is : outcome (roomSays t) (w' ∷ []) ≡ editCall 2 setLimit w s (s + k - 1) (some [])
+  unfolding editCall
+  edit-is =
+      let j : x ≡ s + k - 1 = omega (arith, g .run) in
+      let m : s ≤ s + k - 1 = omega (arith, g .run) in
+      rw (sound-verdict 2 setLimit w (g .block), le-ltb (s + k - 1) s m) (e ∙ ap (λ (y : ℕ). stored 0 2 setLimit w (put (entriesOf 2 w) s y (some []))) j)
+
+  pub reserved : t ≡ true → outcome (given (s ∷ [])) (w' ∷ []) ≡ answering s (editCall 2 setLimit w s (s + k - 1) (some []))
+  reserved f = ap (λ (u : Bool). answering s (outcome (roomSays u) (w' ∷ []))) (sym f) ∙ ap (answering s) edit-is
+
+  pub no-room : (f : Refusal) → t ≡ false → f ≡ refusalOf 5 0 → outcome (refusalSays f) (w' ∷ []) ≡ answering s (editCall 2 setLimit w s (s + k - 1) (some []))
+  no-room f h r =
+      ap (λ (y : Refusal). outcome (refusalSays y) (w' ∷ [])) r ∙ ap (λ (y : Answer). outcome y (w' ∷ [])) (refusal-says 5 0 (omega arith) (omega arith))
+      ∙ ap (λ (u : Bool). answering s (outcome (roomSays u) (w' ∷ []))) (sym h) ∙ ap (answering s) edit-is

@@ -1,0 +1,46 @@
+-- Case F of the worked numbers: {0..3, 8..9, 12..M}, window 0..M.
+use mathlib.Core.Path.{_≡_, refl}
+use mathlib.Core.List.{List, [], _∷_}
+use Prim.Native.Nat.{ℕ}
+use Rattle.entries.specs.Sets.{M, difference}
+use Rattle.entries.specs.Build.{put}
+use Rattle.answers.specs.Answers.{Outcome, outcome, given, refused}
+use Rattle.blocks.specs.Blocks.{verdict, blockOf}
+use Rattle.edits.specs.Calls.{editCall}
+use Rattle.fits.specs.Fits.{gaps, placeIn}
+use Rattle.fits.specs.Calls.{fitCall, reserveCall, firstFitCall, bestFitCall, reserveFirstCall, reserveBestCall}
+
+abbrev wordsF : List ℕ
+wordsF = 3 ∷ 0 ∷ 3 ∷ 8 ∷ 9 ∷ 12 ∷ M ∷ []
+
+abbrev at : ℕ → Outcome
+at s = outcome (given (s ∷ [])) []
+
+first-2 : firstFitCall wordsF 0 M 2 ≡ at 4
+unfolding fitCall verdict placeIn gaps difference
+first-2 = refl
+
+best-2 : bestFitCall wordsF 0 M 2 ≡ at 10
+unfolding fitCall verdict placeIn gaps difference
+best-2 = refl
+
+first-3 : firstFitCall wordsF 0 M 3 ≡ at 4
+unfolding fitCall verdict placeIn gaps difference
+first-3 = refl
+
+best-3 : bestFitCall wordsF 0 M 3 ≡ at 4
+unfolding fitCall verdict placeIn gaps difference
+best-3 = refl
+
+first-5 : firstFitCall wordsF 0 M 5 ≡ outcome (refused 7 0) []
+unfolding fitCall verdict placeIn gaps difference
+first-5 = refl
+
+best-5 : bestFitCall wordsF 0 M 5 ≡ outcome (refused 7 0) []
+unfolding fitCall verdict placeIn gaps difference
+best-5 = refl
+
+-- the reservation of the best fit of 2 fills the gap 10..11
+reserve-2 : reserveBestCall wordsF 0 M 2 ≡ outcome (given (10 ∷ [])) ((2 ∷ 0 ∷ 3 ∷ 8 ∷ M ∷ 0 ∷ 0 ∷ []) ∷ [])
+unfolding reserveCall verdict placeIn gaps difference editCall put blockOf
+reserve-2 = refl

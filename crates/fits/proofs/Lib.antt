@@ -1,0 +1,5 @@
+pub mod Choosing
+pub mod Gaps
+pub mod Walking
+pub mod Asking
+pub mod Cases
