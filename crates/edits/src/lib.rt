@@ -23,7 +23,7 @@ fn below(high: u64, lo: u64) -> u64
     if lo == 0 { 0 } else { lo - 1 }
 }
 
-// The least number at or above low that is past hi, where hi is no last number.
+// The least number at or above low that is past hi, for an hi below high.
 pub fn above(low: u64, hi: u64, high: u64) -> u64
     requires { ⌜ hi < high ⌝ }
     ensures { λ r. ⌜ r ≡ max low (suc hi) ⌝ }

@@ -6,7 +6,7 @@ use mathlib.Core.List.{List, [], _∷_}
 use Prim.Native.Nat.{ℕ, zero, suc, _+_, _-_, _≤_, _<_}
 use native.Mathlib.Omega.{arith}
 use lib.Dec.{ltb, eqb}
-use borrow.Author.Tests.{leb-true, ltb-false, eqb-true, eqb-false, eq-eqb, ne-eqb, le-ltb}
+use borrow.Author.Tests.{leb-true, eqb-true, eqb-false, eq-eqb, ne-eqb, le-ltb}
 use Rattle.entries.specs.Entries.{Entry, entry, Sound}
 use Rattle.entries.specs.Build.{pick, put}
 use Rattle.entries.specs.Sets.{M}
@@ -17,7 +17,7 @@ use Rattle.answers.specs.declared.Placed.{Placed}
 use Rattle.answers.specs.declared.Placed.the-variants as placed
 use Rattle.answers.specs.Says.{numberOf, refusalSays, placedSays, refusalOf}
 use Rattle.answers.proofs.Numbers.{refused-as, given-as, refusal-says}
-use Rattle.blocks.specs.Blocks.{setLimit, entriesOf, verdict, SoundBlock}
+use Rattle.blocks.specs.Blocks.{setLimit, entriesOf, verdict}
 use Rattle.blocks.specs.Calls.{stored}
 use Rattle.blocks.proofs.Judging.{sound-verdict}
 use Rattle.searches.specs.Calls.{windowVerdict}
@@ -25,7 +25,7 @@ use Rattle.searches.proofs.Windows.{judged-window, window-most}
 use Rattle.edits.specs.Calls.{editCall}
 use Rattle.edits.specs.Steps.{roomSays}
 use Rattle.fits.specs.declared.Gap.{Gap}
-use Rattle.fits.specs.Fits.{gaps, fits, anywhere, firstGap, shortestGap, startIn, placeIn}
+use Rattle.fits.specs.Fits.{gaps, fits, anywhere, firstGap, startIn, placeIn}
 use Rattle.fits.specs.Calls.{atPlace, asked, fitCall, answering, reserveCall}
 use Rattle.fits.specs.Steps.{chooser, fitter, gapOf, Asked, Placing, askVerdict}
 use Rattle.fits.proofs.Choosing.{All, OptAll, filter-all, filter-keeps, shortest-all}

@@ -8,7 +8,7 @@ use Rattle.answers.specs.Answers.{Outcome, outcome, given, refused}
 use Rattle.blocks.specs.Blocks.{verdict, blockOf}
 use Rattle.edits.specs.Calls.{editCall}
 use Rattle.fits.specs.Fits.{gaps, placeIn}
-use Rattle.fits.specs.Calls.{fitCall, reserveCall, firstFitCall, bestFitCall, reserveFirstCall, reserveBestCall}
+use Rattle.fits.specs.Calls.{fitCall, reserveCall, firstFitCall, bestFitCall, reserveBestCall}
 
 abbrev wordsF : List ℕ
 wordsF = 3 ∷ 0 ∷ 3 ∷ 8 ∷ 9 ∷ 12 ∷ M ∷ []

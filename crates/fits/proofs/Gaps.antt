@@ -1,6 +1,6 @@
 -- The gaps of a window, one after another as a walk over the ranges meets them.
 use mathlib.Core.Path.{_≡_, refl, sym, _∙_, ap, ap₂}
-use mathlib.Core.Bool.{Bool, true, false, not}
+use mathlib.Core.Bool.{Bool, true, false}
 use mathlib.Core.Option.{Option, none, some}
 use mathlib.Core.List.{List, [], _∷_, _++_}
 use Prim.Native.Nat.{ℕ, suc, _+_, _-_, _≤_, _<_, min, max}
@@ -14,7 +14,7 @@ use Rattle.entries.specs.Sets.{Plain, has, member, orb, lessb, difference}
 use Rattle.entries.proofs.Append.{value-append}
 use Rattle.entries.proofs.Building.{Begins, begins-le}
 use Rattle.entries.proofs.Sides.{Side, under, inside, past, side, val-under, val-in, val-past, none-under}
-use Rattle.entries.proofs.Sets.{SetOf, set-unique, difference-is}
+use Rattle.entries.proofs.Sets.{set-unique, difference-is}
 use Rattle.fits.specs.Fits.{gaps}
 use Rattle.fits.specs.Steps.{piece}
 use Rattle.fits.proofs.Choosing.{All}

@@ -6,7 +6,7 @@ use mathlib.Core.List.{List, [], _∷_, _++_}
 use Prim.Native.Nat.{ℕ, zero, suc, _+_, _*_, _-_, _≤_, _<_, min, max}
 use native.Mathlib.Omega.{arith}
 use native.Mathlib.Decide.{decLe}
-use lib.Dec.{leb, ltb}
+use lib.Dec.{leb}
 use lib.ListN.{length, getD, drop}
 use lib.Seq.{drop-drop, getD-drop}
 use borrow.Author.Tests.{le-leb, lt-leb, lt-ltb, le-ltb, leb-true}
@@ -15,10 +15,10 @@ use Rattle.entries.specs.Build.{pick, andb}
 use Rattle.entries.specs.Sets.{M}
 use Rattle.entries.specs.Questions.{filter}
 use Rattle.entries.proofs.Values.{true≢false}
-use Rattle.blocks.specs.Blocks.{setLimit, itemOf, itemsOf, entriesOf}
+use Rattle.blocks.specs.Blocks.{setLimit, itemsOf, entriesOf}
 use Rattle.blocks.proofs.Judging.{room}
 use Rattle.fits.specs.declared.Gap.{Gap}
-use Rattle.fits.specs.Fits.{gaps, numbers, fits, anywhere, shorter}
+use Rattle.fits.specs.Fits.{gaps, numbers, fits, anywhere}
 use Rattle.fits.specs.Steps.{chooser, gapOf, heldIn, piece, better, taken, Took, Trying, Asked}
 use Rattle.fits.proofs.Choosing.{search, All, filter-all, filter-keeps, search-first, search-shortest, AtMostOne, stops, hold-piece}
 use Rattle.fits.proofs.Gaps.{gapsFrom, from-none, from-is, gaps-below}

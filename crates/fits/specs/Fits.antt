@@ -1,6 +1,6 @@
 -- Fitting: the gaps of a window, and the place that first fit and best fit choose for a run of k numbers.
 -- Which starts are allowed is a parameter: `up s` is the least allowed start at or above s.
-use mathlib.Core.Bool.{Bool, true, false}
+use mathlib.Core.Bool.{Bool}
 use mathlib.Core.Option.{Option, none, some}
 use mathlib.Core.List.{List, [], _∷_}
 use Prim.Native.Nat.{ℕ, suc, _+_, _-_}

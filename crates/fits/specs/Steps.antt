@@ -2,16 +2,16 @@
 use mathlib.Core.Path.{_≡_}
 use mathlib.Core.Bool.{Bool, true, false}
 use mathlib.Core.Option.{Option, none, some}
-use mathlib.Core.List.{List, [], _∷_, _++_}
-use Prim.Native.Nat.{ℕ, suc, _+_, _-_, _≤_, _<_, min, max}
-use lib.Dec.{leb, ltb, eqb}
+use mathlib.Core.List.{List, [], _∷_}
+use Prim.Native.Nat.{ℕ, suc, _+_, _-_, _≤_, _<_}
+use lib.Dec.{ltb, eqb}
 use Rattle.entries.specs.Entries.{Entry, entry}
 use Rattle.entries.specs.Build.{pick}
 use Rattle.entries.specs.Sets.{M}
 use Rattle.blocks.specs.Blocks.{SoundBlock, setLimit}
 use Rattle.searches.specs.Calls.{windowVerdict}
 use Rattle.fits.specs.declared.Gap.{Gap}
-use Rattle.fits.specs.Fits.{anywhere, fits, shorter, numbers, firstGap, shortestGap, placeIn}
+use Rattle.fits.specs.Fits.{anywhere, fits, shorter, firstGap, shortestGap, placeIn}
 
 -- first fit, or best fit where the shortest gap is wanted
 abbrev pub chooser : Bool → List Entry → Option Entry
