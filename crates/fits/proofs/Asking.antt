@@ -1,33 +1,27 @@
--- What the code's tests make of the calls' definitions, and how a reservation follows from the question.
+-- What the code's tests make of the questions' definition.
 use mathlib.Core.Path.{_≡_, refl, sym, _∙_, ap}
 use mathlib.Core.Bool.{Bool, true, false}
 use mathlib.Core.Option.{Option, none, some}
 use mathlib.Core.List.{List, [], _∷_}
-use Prim.Native.Nat.{ℕ, zero, suc, _+_, _-_, _≤_, _<_}
+use Prim.Native.Nat.{ℕ, zero, suc, _+_, _≤_, _<_}
 use native.Mathlib.Omega.{arith}
 use lib.Dec.{ltb, eqb}
 use borrow.Author.Tests.{leb-true, eqb-true, eqb-false, eq-eqb, ne-eqb, le-ltb}
 use Rattle.entries.specs.Entries.{Entry, entry, Sound}
-use Rattle.entries.specs.Build.{pick, put}
-use Rattle.entries.specs.Sets.{M}
+use Rattle.entries.specs.Build.{pick}
 use Rattle.entries.specs.Questions.{filter}
 use Rattle.answers.specs.declared.Refusal.{Refusal}
 use Rattle.answers.specs.Answers.{Answer, given, refused, Outcome, outcome, refuse, judged}
-use Rattle.answers.specs.declared.Placed.{Placed}
-use Rattle.answers.specs.declared.Placed.the-variants as placed
-use Rattle.answers.specs.Says.{numberOf, refusalSays, placedSays, refusalOf}
+use Rattle.answers.specs.Says.{refusalSays, refusalOf}
 use Rattle.answers.proofs.Numbers.{refused-as, given-as, refusal-says}
-use Rattle.blocks.specs.Blocks.{setLimit, entriesOf, verdict}
-use Rattle.blocks.specs.Calls.{stored}
+use Rattle.blocks.specs.Blocks.{setLimit, entriesOf, verdict, SoundBlock}
 use Rattle.blocks.proofs.Judging.{sound-verdict}
 use Rattle.searches.specs.Calls.{windowVerdict}
 use Rattle.searches.proofs.Windows.{judged-window, window-most}
-use Rattle.edits.specs.Calls.{editCall}
-use Rattle.edits.specs.Steps.{roomSays}
 use Rattle.fits.specs.declared.Gap.{Gap}
 use Rattle.fits.specs.Fits.{gaps, fits, anywhere, firstGap, startIn, placeIn}
-use Rattle.fits.specs.Calls.{atPlace, asked, fitCall, answering, reserveCall}
-use Rattle.fits.specs.Steps.{chooser, fitter, gapOf, Asked, Placing, askVerdict}
+use Rattle.fits.specs.Calls.{atPlace, asked, fitCall}
+use Rattle.fits.specs.Steps.{chooser, fitter, gapOf, Asked, askVerdict}
 use Rattle.fits.proofs.Choosing.{All, OptAll, filter-all, filter-keeps, shortest-all}
 use Rattle.fits.proofs.Gaps.{gaps-below}
 
@@ -70,7 +64,7 @@ ask-most w a b k = go (eqb (windowVerdict 2 setLimit w a b) 0) (eqb k 0)
 
 -- the calls' definition goes by that verdict
 module _ (fit : ℕ → ℕ → ℕ → List Entry → Option ℕ) (w : List ℕ) (a b k : ℕ) where
-  asked-by : (lent : List (List ℕ)) (next : ℕ → Outcome)
+  pub asked-by : (lent : List (List ℕ)) (next : ℕ → Outcome)
       → asked fit w a b k lent next ≡ judged (askVerdict w a b k) 0 lent (atPlace (fit a b k (entriesOf 2 w)) lent next)
   unfolding askVerdict windowVerdict
   asked-by lent next = go (verdict 2 setLimit w) (ltb b a) (eqb k 0)
@@ -100,46 +94,10 @@ module _ (fit : ℕ → ℕ → ℕ → List Entry → Option ℕ) (w : List ℕ
         (q ∙ ap (λ (x : Option ℕ). atPlace x [] (λ s. outcome (given (s ∷ [])) [])) (sym p))
         ∙ sym (asked-by [] (λ s. outcome (given (s ∷ [])) []))
 
-  -- what an answer of the question tells
-  pub record Chosen (s : ℕ) : Type 0 where
-    pub right : askVerdict w a b k ≡ 0
-    pub place : fit a b k (entriesOf 2 w) ≡ some s
-
-  pub fit-chosen : (s : ℕ) → outcome (given (s ∷ [])) [] ≡ fitCall fit w a b k → Chosen s
+  -- Where nothing is refused before, the question answers what `fit` names: its place, or 7 where it names none.
+  pub fit-asked : SoundBlock 2 setLimit w → a ≤ b → 1 ≤ k → fitCall fit w a b k ≡ atPlace (fit a b k (entriesOf 2 w)) [] (λ s. outcome (given (s ∷ [])) [])
   unfolding fitCall
-  fit-chosen s e = go (askVerdict w a b k) refl (fit a b k (entriesOf 2 w)) refl (e ∙ asked-by [] (λ s. outcome (given (s ∷ [])) []))
-    where
-      go : (v : ℕ) → askVerdict w a b k ≡ v → (o : Option ℕ) → fit a b k (entriesOf 2 w) ≡ o
-          → outcome (given (s ∷ [])) [] ≡ judged v 0 [] (atPlace o [] (λ s. outcome (given (s ∷ [])) [])) → Chosen s
-      go zero p none q h = let z : _≡_ {A = ℕ} 0 1 = cc in absurd (omega arith)
-      go zero p (some t) q h = let i : t ≡ s = cc in record { right = p; place = q ∙ ap some i }
-      go (suc v) p o q h = let z : _≡_ {A = ℕ} 0 1 = cc in absurd (omega arith)
-
-  -- A RESERVATION IS THE QUESTION FOLLOWED BY THE INSERTION. Where the question answers s it inserts s to s+k-1, with that call's block
-  -- and refusal, and answers s; else it refuses as the question does, and changes nothing.
-  pub reserve-inserts : (s : ℕ) → fitCall fit w a b k ≡ outcome (given (s ∷ [])) []
-      → reserveCall fit w a b k ≡ answering s (editCall 2 setLimit w s (s + k - 1) (some []))
-  unfolding reserveCall
-  reserve-inserts s e =
-      let c = fit-chosen s (sym e) in
-      asked-by (w ∷ []) next ∙ ap (λ (v : ℕ). judged v 0 (w ∷ []) (atPlace (fit a b k (entriesOf 2 w)) (w ∷ []) next)) (c .right)
-      ∙ ap (λ (o : Option ℕ). atPlace o (w ∷ []) next) (c .place)
-    where
-      next : ℕ → Outcome
-      next s = answering s (editCall 2 setLimit w s (s + k - 1) (some []))
-
-  pub reserve-refuses : (n p : ℕ) → fitCall fit w a b k ≡ outcome (refused n p) [] → reserveCall fit w a b k ≡ outcome (refused n p) (w ∷ [])
-  unfolding fitCall reserveCall
-  reserve-refuses n p e = asked-by (w ∷ []) next ∙ go (askVerdict w a b k) (fit a b k (entriesOf 2 w)) (sym (asked-by [] (λ s. outcome (given (s ∷ [])) [])) ∙ e)
-    where
-      next : ℕ → Outcome
-      next s = answering s (editCall 2 setLimit w s (s + k - 1) (some []))
-
-      go : (v : ℕ) (o : Option ℕ) → judged v 0 [] (atPlace o [] (λ s. outcome (given (s ∷ [])) [])) ≡ outcome (refused n p) []
-          → judged v 0 (w ∷ []) (atPlace o (w ∷ []) next) ≡ outcome (refused n p) (w ∷ [])
-      go zero none h = let a : refused 7 0 ≡ refused n p = cc in ap (λ (x : Answer). outcome x (w ∷ [])) a
-      go zero (some s) h = let z : _≡_ {A = ℕ} 0 1 = cc in absurd (omega arith)
-      go (suc v) o h = let a : refused (suc v) 0 ≡ refused n p = cc in ap (λ (x : Answer). outcome x (w ∷ [])) a
+  fit-asked s h n = rw (sound-verdict 2 setLimit w s, le-ltb b a h, ne-eqb k 0 (λ z. omega arith))
 
 -- the gap that was found, as a place
 module _ (shortest : Bool) (a b k : ℕ) (es : List Entry) (g : Gap)
@@ -185,36 +143,3 @@ place-fits shortest a b k s es sound e = go (chooser shortest list) (chosen shor
     go : (o : Option Entry) → OptAll P o → startIn anywhere o ≡ some s → s + k ≤ suc b
     go none h q = let z : _≡_ {A = ℕ} 0 1 = cc in absurd (omega arith)
     go (some g) h q = let i : g .low ≡ s = cc in omega arith
-
--- what follows the question's answer in a reservation
-module _ (shortest : Bool) (w : List ℕ) (a b k : ℕ) (r : Placed) (e : outcome (placedSays r) [] ≡ fitCall (fitter shortest) w a b k) where
-  pub placing : (s : ℕ) → r ≡ placed.At s → b ≤ M → Placing w s k
-  placing s q m =
-      let c = fit-chosen (fitter shortest) w a b k s (ap (λ (x : Placed). outcome (placedSays x) []) (sym q) ∙ e) in
-      let j = asked-right w a b k (c .right) in
-      record { block = j .block; run = j .run; fits = omega (arith, place-fits shortest a b k s (entriesOf 2 w) (j .block .sound) (c .place)) }
-
-  pub reserve-at : (s : ℕ) → r ≡ placed.At s → (x : Outcome) → x ≡ answering s (editCall 2 setLimit w s (s + k - 1) (some [])) → x ≡ reserveCall (fitter shortest) w a b k
-  reserve-at s q x d = d ∙ sym (reserve-inserts (fitter shortest) w a b k s (sym e ∙ ap (λ (y : Placed). outcome (placedSays y) []) q))
-
-  pub reserve-not : (f : Refusal) → r ≡ placed.Refused f → outcome (refusalSays f) (w ∷ []) ≡ reserveCall (fitter shortest) w a b k
-  reserve-not f q =
-      sym (reserve-refuses (fitter shortest) w a b k (numberOf (f .reason)) (f .place) (sym e ∙ ap (λ (y : Placed). outcome (placedSays y) []) q))
-
--- THE INSERTION at the place
-module _ (w : List ℕ) (s k : ℕ) (g : Placing w s k) (x : ℕ) (i : x ≡ s + (k - 1)) (t : Bool) (w' : List ℕ)
-    (e : outcome (roomSays t) (w' ∷ []) ≡ stored 0 2 setLimit w (put (entriesOf 2 w) s x (some []))) where
-  edit-is : outcome (roomSays t) (w' ∷ []) ≡ editCall 2 setLimit w s (s + k - 1) (some [])
-  unfolding editCall
-  edit-is =
-      let j : x ≡ s + k - 1 = omega (arith, g .run) in
-      let m : s ≤ s + k - 1 = omega (arith, g .run) in
-      rw (sound-verdict 2 setLimit w (g .block), le-ltb (s + k - 1) s m) (e ∙ ap (λ (y : ℕ). stored 0 2 setLimit w (put (entriesOf 2 w) s y (some []))) j)
-
-  pub reserved : t ≡ true → outcome (given (s ∷ [])) (w' ∷ []) ≡ answering s (editCall 2 setLimit w s (s + k - 1) (some []))
-  reserved f = ap (λ (u : Bool). answering s (outcome (roomSays u) (w' ∷ []))) (sym f) ∙ ap (answering s) edit-is
-
-  pub no-room : (f : Refusal) → t ≡ false → f ≡ refusalOf 5 0 → outcome (refusalSays f) (w' ∷ []) ≡ answering s (editCall 2 setLimit w s (s + k - 1) (some []))
-  no-room f h r =
-      ap (λ (y : Refusal). outcome (refusalSays y) (w' ∷ [])) r ∙ ap (λ (y : Answer). outcome y (w' ∷ [])) (refusal-says 5 0 (omega arith) (omega arith))
-      ∙ ap (λ (u : Bool). answering s (outcome (roomSays u) (w' ∷ []))) (sym h) ∙ ap (answering s) edit-is

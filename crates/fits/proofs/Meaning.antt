@@ -1,114 +1,27 @@
--- What gaps, first fit and best fit mean, in the words of 01.
+-- The definitions of specs/Fits mean what specs/Meaning says.
 use mathlib.Core.Path.{_≡_, refl, sym, _∙_, ap, subst}
-use mathlib.Core.Bool.{Bool, true, false}
 use mathlib.Core.Option.{Option, none, some}
 use mathlib.Core.List.{List, [], _∷_}
-use Prim.Native.Nat.{ℕ, suc, _+_, _-_, _≤_, _<_}
+use Prim.Native.Nat.{ℕ, suc, _+_, _-_, _≤_}
 use native.Mathlib.Omega.{arith}
-use native.Mathlib.Decide.{decLt}
-use Rattle.entries.specs.Entries.{Entry, entry}
-use Rattle.entries.specs.Sets.{has, member, lessb}
+use Rattle.entries.specs.Entries.{Entry}
 use Rattle.entries.specs.Questions.{filter}
-use Rattle.entries.proofs.Values.{true≢false}
-use Rattle.entries.proofs.Sides.{Side, under, inside, past, side, val-under, val-in, val-past}
-use Rattle.entries.proofs.Sets.{SetOf, difference-is}
-use Rattle.fits.specs.Fits.{gaps, numbers, fits, firstGap, shortestGap, startIn, placeIn, anywhere, firstFit, bestFit}
-use Rattle.fits.proofs.Listed.{In, in-order, in-member, in-before, in-after, Around, around}
+use Rattle.answers.specs.Answers.{given, outcome, refuse}
+use Rattle.blocks.specs.Blocks.{setLimit, entriesOf, SoundBlock}
+use Rattle.fits.specs.Calls.{atPlace, fitCall, firstFitCall, bestFitCall}
+use Rattle.fits.specs.Fits.{gaps, fits, firstGap, shortestGap, startIn, placeIn, anywhere, firstFit, bestFit}
+use Rattle.fits.specs.Meaning.{FreeRun, IsGap, FirstOf, BestOf, LeastUp, FirstAt, Holds, BestAt}
+use Rattle.fits.proofs.Listed.{In, Around}
+use Rattle.fits.proofs.Runs.{all, run-around, listed-gap, gap-listed}
+use Rattle.fits.proofs.Asking.{fit-asked}
 use Rattle.fits.proofs.Chosen.{Chose, First, Shortest, chose-first, chose-shortest}
 
--- A RUN OF NON-MEMBERS IN THE WINDOW a..b: the numbers l to h
-pub record FreeRun (a b : ℕ) (es : List Entry) (l h : ℕ) : Type 0 where
-  pub some : l ≤ h
-  pub from : a ≤ l
-  pub upto : h ≤ b
-  pub free : (x : ℕ) → l ≤ x → x ≤ h → member es x ≡ false
+-- `gaps` ARE EXACTLY THE GAPS.
+pub gaps-are : (a b : ℕ) (es : List Entry) (l h : ℕ) → (In l h (gaps a b es) → IsGap a b es l h) × (IsGap a b es l h → In l h (gaps a b es))
+gaps-are a b es l h = (listed-gap a b es l h, gap-listed a b es l h)
 
--- «A gap is a run of non-members in the window that can't be made longer there.»
-pub record IsGap (a b : ℕ) (es : List Entry) (l h : ℕ) : Type 0 where
-  pub run : FreeRun a b es l h
-  pub longest : (i j : ℕ) → FreeRun a b es i j → i ≤ l → h ≤ j → (i ≡ l) × (j ≡ h)
-
--- a number of the window that is no member
-record Free (a b : ℕ) (es : List Entry) (x : ℕ) : Type 0 where
-  from : a ≤ x
-  upto : x ≤ b
-  free : member es x ≡ false
-
-module _ (a b : ℕ) (es : List Entry) where
-  all : SetOf (λ x. lessb (member (entry a b [] ∷ []) x) (member es x)) (gaps a b es)
-  unfolding gaps
-  all = difference-is (entry a b [] ∷ []) es
-
-  less : (t u : Bool) → lessb t u ≡ true → (t ≡ true) × (u ≡ false)
-  less true true h = absurd (true≢false (sym h))
-  less true false h = (refl, refl)
-  less false u h = absurd (true≢false (sym h))
-
-  in-free : (x : ℕ) → member (gaps a b es) x ≡ true → Free a b es x
-  in-free x e = let m = less (member (entry a b [] ∷ []) x) (member es x) (sym (all .members x) ∙ e) in go (side (entry a b []) x) (m .0) (m .1)
-    where
-      go : Side (entry a b []) x → member (entry a b [] ∷ []) x ≡ true → member es x ≡ false → Free a b es x
-      go (under h) p q = absurd (true≢false (sym p ∙ ap has (val-under (entry a b []) [] x h)))
-      go (inside h k) p q = record { from = h; upto = k; free = q }
-      go (past h) p q = absurd (true≢false (sym p ∙ ap has (val-past (entry a b []) [] x h)))
-
-  free-in : (x : ℕ) → a ≤ x → x ≤ b → member es x ≡ false → member (gaps a b es) x ≡ true
-  free-in x h k e = all .members x ∙ rw (ap has (val-in (entry a b []) [] x h k), e)
-
-  run-in : (l h : ℕ) → FreeRun a b es l h → (x : ℕ) → l ≤ x → x ≤ h → member (gaps a b es) x ≡ true
-  run-in l h r x p q = free-in x (omega (arith, r .from)) (omega (arith, r .upto)) (r .free x p q)
-
-  -- a run of non-members of the window lies in one of `gaps`
-  pub run-around : (l h : ℕ) → FreeRun a b es l h → Around (gaps a b es) l h
-  run-around l h r = around (gaps a b es) l h (all .sound) (all .plain) (r .some) (run-in l h r)
-
-  listed-gap : (l h : ℕ) → In l h (gaps a b es) → IsGap a b es l h
-  listed-gap l h i = record { run = record { some = order; from = (at l (omega arith) order) .from; upto = (at h order (omega arith)) .upto; free = λ x p q. (at x p q) .free }; longest = longest }
-    where
-      order : l ≤ h
-      order = in-order (gaps a b es) l h (all .sound) i
-
-      at : (x : ℕ) → l ≤ x → x ≤ h → Free a b es x
-      at x p q = in-free x (in-member (gaps a b es) l h x i p q)
-
-      longest : (u v : ℕ) → FreeRun a b es u v → u ≤ l → h ≤ v → (u ≡ l) × (v ≡ h)
-      longest u v r p q = (low (decLt u l), high (decLt h v))
-        where
-          low : Dec (u < l) → u ≡ l
-          low (yes k) = absurd (true≢false (sym (run-in u v r (l - 1) (omega arith) (omega (arith, order))) ∙ in-before (gaps a b es) l h (l - 1) (all .sound) (all .plain) i (omega arith)))
-          low (no k) = omega arith
-
-          high : Dec (h < v) → v ≡ h
-          high (yes k) = absurd (true≢false (sym (run-in u v r (suc h) (omega (arith, order)) (omega arith)) ∙ in-after (gaps a b es) l h (suc h) (all .sound) (all .plain) i refl))
-          high (no k) = omega arith
-
-  gap-listed : (l h : ℕ) → IsGap a b es l h → In l h (gaps a b es)
-  gap-listed l h g =
-      let r = run-around l h (g .run) in
-      let k = g .longest (r .l) (r .h) ((listed-gap (r .l) (r .h) (r .listed)) .run) (r .low) (r .high) in
-      subst (λ (x : ℕ). In x h (gaps a b es)) (k .0) (subst (λ (y : ℕ). In (r .l) y (gaps a b es)) (k .1) (r .listed))
-
-  -- `gaps` ARE EXACTLY THE GAPS
-  pub gaps-are : (l h : ℕ) → (In l h (gaps a b es) → IsGap a b es l h) × (IsGap a b es l h → In l h (gaps a b es))
-  gaps-are l h = (listed-gap l h, gap-listed l h)
-
--- ALLOWED STARTS: up s is the least allowed start at or above s
-pub record Least (up : ℕ → ℕ) (Allowed : ℕ → Type 0) : Type 1 where
-  pub above : (s : ℕ) → s ≤ up s
-  pub allowed : (s : ℕ) → Allowed (up s)
-  pub least : (s t : ℕ) → s ≤ t → Allowed t → up s ≤ t
-
--- FIRST FIT, for any allowed starts: s is the least of them from which k numbers are all free and in the window; or there is none.
-pub record FirstFrom (Allowed : ℕ → Type 0) (a b k : ℕ) (es : List Entry) (s : ℕ) : Type 0 where
-  pub allowed : Allowed s
-  pub run : FreeRun a b es s (s + k - 1)
-  pub least : (t : ℕ) → Allowed t → FreeRun a b es t (t + k - 1) → s ≤ t
-
-abbrev pub FirstAt : (ℕ → Type 0) → ℕ → ℕ → ℕ → List Entry → Option ℕ → Type 0
-FirstAt Allowed a b k es (some s) = FirstFrom Allowed a b k es s
-FirstAt Allowed a b k es none = (t : ℕ) → Allowed t → FreeRun a b es t (t + k - 1) → ⊥
-
-pub first-at : (up : ℕ → ℕ) (Allowed : ℕ → Type 0) → Least up Allowed → (a b k : ℕ) (es : List Entry) → 1 ≤ k → FirstAt Allowed a b k es (placeIn up firstGap a b k es)
+-- FIRST FIT, for any allowed starts
+pub first-at : (up : ℕ → ℕ) (Allowed : ℕ → Type 0) → LeastUp up Allowed → (a b k : ℕ) (es : List Entry) → 1 ≤ k → FirstAt Allowed a b k es (placeIn up firstGap a b k es)
 unfolding placeIn
 first-at up Allowed u a b k es one =
     go (firstGap (filter (fits up k) (gaps a b es))) (chose-first up (u .above) k one (gaps a b es) ((all a b es) .sound))
@@ -136,55 +49,56 @@ first-at up Allowed u a b k es one =
             let r = run-around a b es t (t + k - 1) q in
             omega (arith, c .least (r .l) (r .h) (r .listed) (fitting t ok r), u .least (r .l) t (r .low) ok)
 
--- «First fit: the least s such that s to s+k-1 all lie in the window and are non-members.» None exactly if there is no such s.
-pub record FirstFit (a b k : ℕ) (es : List Entry) (s : ℕ) : Type 0 where
-  pub run : FreeRun a b es s (s + k - 1)
-  pub least : (t : ℕ) → FreeRun a b es t (t + k - 1) → s ≤ t
+-- BEST FIT, for any allowed starts
+pub best-at : (up : ℕ → ℕ) (Allowed : ℕ → Type 0) → LeastUp up Allowed → (a b k : ℕ) (es : List Entry) → 1 ≤ k → BestAt Allowed a b k es (placeIn up shortestGap a b k es)
+unfolding placeIn
+best-at up Allowed u a b k es one =
+    go (shortestGap (filter (fits up k) (gaps a b es))) (chose-shortest up (u .above) k one (gaps a b es) ((all a b es) .sound))
+  where
+    fitting : (l h t : ℕ) → Holds Allowed k l h t → up l + k ≤ suc h
+    fitting l h t q = omega (arith, u .least l t (q .from) (q .allowed), q .upto)
 
-abbrev pub FirstOf : ℕ → ℕ → ℕ → List Entry → Option ℕ → Type 0
-FirstOf a b k es (some s) = FirstFit a b k es s
-FirstOf a b k es none = (t : ℕ) → FreeRun a b es t (t + k - 1) → ⊥
+    go : (o : Option Entry) → Chose up (u .above) k one (Shortest up (u .above) k one) (gaps a b es) o → BestAt Allowed a b k es (startIn up o)
+    go none n = λ l h t g q. n l h (gap-listed a b es l h g) (fitting l h t q)
+    go (some g) c = record {
+      low = g .low;
+      high = g .high;
+      gap = listed-gap a b es (g .low) (g .high) (c .listed);
+      holds = record { allowed = u .allowed (g .low); from = u .above (g .low); upto = c .fits };
+      least = λ t q. u .least (g .low) t (q .from) (q .allowed);
+      shortest = λ l h t i q. c .shortest l h (gap-listed a b es l h i) (fitting l h t q);
+      lowest = λ l h t i q e. c .lowest l h (gap-listed a b es l h i) (fitting l h t q) e;
+    }
+
+-- TODAY every start is allowed.
+any : LeastUp anywhere (λ s. Unit {0})
+any = record { above = λ s. omega arith; allowed = λ s. tt; least = λ s t p q. p }
 
 pub first-fit : (a b k : ℕ) (es : List Entry) → 1 ≤ k → FirstOf a b k es (firstFit a b k es)
 first-fit a b k es one = go (firstFit a b k es) (first-at anywhere (λ s. Unit {0}) any a b k es one)
   where
-    any : Least anywhere (λ s. Unit {0})
-    any = record { above = λ s. omega arith; allowed = λ s. tt; least = λ s t p q. p }
-
     go : (o : Option ℕ) → FirstAt (λ s. Unit {0}) a b k es o → FirstOf a b k es o
     go none n = λ t q. n t tt q
     go (some s) c = record { run = c .run; least = λ t q. c .least t tt q }
 
--- «Best fit: the low end of the shortest gap of at least k numbers, the lowest such gap on a tie.» None exactly if there is no gap of
--- at least k numbers.
-pub record BestFit (a b k : ℕ) (es : List Entry) (s : ℕ) : Type 0 where
-  pub high : ℕ
-  pub gap : IsGap a b es s high
-  pub enough : k ≤ suc high - s
-  pub shortest : (l h : ℕ) → IsGap a b es l h → k ≤ suc h - l → suc high - s ≤ suc h - l
-  pub lowest : (l h : ℕ) → IsGap a b es l h → k ≤ suc h - l → suc h - l ≡ suc high - s → s ≤ l
-
-abbrev pub BestOf : ℕ → ℕ → ℕ → List Entry → Option ℕ → Type 0
-BestOf a b k es (some s) = BestFit a b k es s
-BestOf a b k es none = (l h : ℕ) → IsGap a b es l h → k ≤ suc h - l → ⊥
-
 pub best-fit : (a b k : ℕ) (es : List Entry) → 1 ≤ k → BestOf a b k es (bestFit a b k es)
-unfolding placeIn
-best-fit a b k es one =
-    go (shortestGap (filter (fits anywhere k) (gaps a b es))) (chose-shortest anywhere same k one (gaps a b es) ((all a b es) .sound))
+best-fit a b k es one = go (bestFit a b k es) (best-at anywhere (λ s. Unit {0}) any a b k es one)
   where
-    same : (s : ℕ) → s ≤ anywhere s
-    same s = omega arith
+    -- a gap of at least k numbers holds a run of k from its low end
+    run : (l h : ℕ) → k ≤ suc h - l → Holds (λ s. Unit {0}) k l h l
+    run l h m = record { allowed = tt; from = omega arith; upto = omega arith }
 
-    go : (o : Option Entry) → Chose anywhere same k one (Shortest anywhere same k one) (gaps a b es) o → BestOf a b k es (startIn anywhere o)
-    go none n = λ l h g m. n l h (gap-listed a b es l h g) (omega arith)
-    go (some g) c = record {
-      high = g .high;
-      gap = listed-gap a b es (g .low) (g .high) (c .listed);
-      enough = omega (arith, c .fits);
-      shortest = λ l h i m. c .shortest l h (gap-listed a b es l h i) (omega arith);
-      lowest = λ l h i m e. c .lowest l h (gap-listed a b es l h i) (omega arith) e;
-    }
+    go : (o : Option ℕ) → BestAt (λ s. Unit {0}) a b k es o → BestOf a b k es o
+    go none n = λ l h g m. n l h l g (run l h m)
+    go (some s) c =
+        let e : s ≡ c .low = omega (arith, c .holds .from, c .holds .upto, c .least (c .low) (run (c .low) (c .high) (omega (arith, c .holds .from, c .holds .upto)))) in
+        record {
+          high = c .high;
+          gap = rw e (c .gap);
+          enough = omega (arith, c .holds .upto);
+          shortest = λ l h i m. omega (arith, e, c .shortest l h l i (run l h m));
+          lowest = λ l h i m q. omega (arith, e, c .lowest l h l i (run l h m) (omega (arith, e)));
+        }
 
 -- THE MEANING DETERMINES THE ANSWER: so it is none exactly if there is no such s, and no such gap.
 pub first-only : (a b k : ℕ) (es : List Entry) (o p : Option ℕ) → FirstOf a b k es o → FirstOf a b k es p → o ≡ p
@@ -219,3 +133,31 @@ module _ (up : ℕ → ℕ) (a b k : ℕ) (es : List Entry) where
       go : (gs : List Entry) → startIn up (shortestGap gs) ≡ none → startIn up (firstGap gs) ≡ none
       go [] q = refl
       go (g ∷ gs) q = let z : _≡_ {A = ℕ} 0 1 = cc in absurd (omega arith)
+
+-- «7 NoGap: no free run as asked exists in the window», exactly, of both questions where nothing is refused before.
+module _ (w : List ℕ) (a b k : ℕ) (sound : SoundBlock 2 setLimit w) (order : a ≤ b) (one : 1 ≤ k) where
+  abbrev NoRun : Type 0
+  NoRun = (t : ℕ) → FreeRun a b (entriesOf 2 w) t (t + k - 1) → ⊥
+
+  no-place : (fit : ℕ → ℕ → ℕ → List Entry → Option ℕ) → fitCall fit w a b k ≡ refuse 7 0 [] → fit a b k (entriesOf 2 w) ≡ none
+  no-place fit e = go (fit a b k (entriesOf 2 w)) refl (sym (fit-asked fit w a b k sound order one) ∙ e)
+    where
+      go : (o : Option ℕ) → fit a b k (entriesOf 2 w) ≡ o → atPlace o [] (λ s. outcome (given (s ∷ [])) []) ≡ refuse 7 0 [] → fit a b k (entriesOf 2 w) ≡ none
+      go none q h = q
+      go (some s) q h = let z : _≡_ {A = ℕ} 0 1 = cc in absurd (omega arith)
+
+  place-no : (fit : ℕ → ℕ → ℕ → List Entry → Option ℕ) → fit a b k (entriesOf 2 w) ≡ none → fitCall fit w a b k ≡ refuse 7 0 []
+  place-no fit e = fit-asked fit w a b k sound order one ∙ ap (λ (o : Option ℕ). atPlace o [] (λ s. outcome (given (s ∷ [])) [])) e
+
+  none-run : firstFit a b k (entriesOf 2 w) ≡ none → NoRun
+  none-run e = subst (FirstOf a b k (entriesOf 2 w)) e (first-fit a b k (entriesOf 2 w) one)
+
+  run-none : NoRun → firstFit a b k (entriesOf 2 w) ≡ none
+  run-none n = first-only a b k (entriesOf 2 w) (firstFit a b k (entriesOf 2 w)) none (first-fit a b k (entriesOf 2 w) one) n
+
+  pub first-no-gap : (firstFitCall w a b k ≡ refuse 7 0 [] → NoRun) × (NoRun → firstFitCall w a b k ≡ refuse 7 0 [])
+  first-no-gap = (λ e. none-run (no-place firstFit e), λ n. place-no firstFit (run-none n))
+
+  pub best-no-gap : (bestFitCall w a b k ≡ refuse 7 0 [] → NoRun) × (NoRun → bestFitCall w a b k ≡ refuse 7 0 [])
+  best-no-gap =
+      (λ e. none-run (best-none anywhere a b k (entriesOf 2 w) (no-place bestFit e)), λ n. place-no bestFit (first-none anywhere a b k (entriesOf 2 w) (run-none n)))

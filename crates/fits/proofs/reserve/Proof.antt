@@ -1,4 +1,4 @@
-use Rattle.fits.proofs.Asking.{placing, reserve-at, reserve-not}
+use Rattle.fits.proofs.Reserving.{placing, reserve-at, reserve-not}
 use native.Mathlib.Omega.{arith}
 use borrow.Author.Needs.{needs}
 use Rattle.fits.proofs.reserve.Statement.{statement}

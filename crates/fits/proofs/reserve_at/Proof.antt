@@ -1,6 +1,6 @@
 use denote.Ref.{now}
 use mathlib.Core.Path.{refl}
-use Rattle.fits.proofs.Asking.{reserved, no-room}
+use Rattle.fits.proofs.Reserving.{reserved, no-room}
 use native.Mathlib.Omega.{arith}
 use borrow.Author.Needs.{needs}
 use Rattle.fits.proofs.reserve_at.Statement.{statement}
