@@ -66,7 +66,7 @@ sizedSays sized.Empty = given []
 sizedSays (sized.LessOne n) = given (n ∷ [])
 sizedSays (sized.Refused f) = refusalSays f
 
--- «a reservation, which inserts s to s+k-1 and returns s»
+-- the place s of a fit: «a reservation, which inserts s to s+k-1 and returns s»
 abbrev pub placedSays : Placed → Answer
 placedSays (placed.At s) = given (s ∷ [])
 placedSays (placed.Refused f) = refusalSays f

@@ -2,12 +2,12 @@
 use mathlib.Core.Path.{_≡_, refl, sym, _∙_, ap}
 use mathlib.Core.Bool.{Bool, true, false}
 use mathlib.Core.Option.{Option, none, some}
-use mathlib.Core.List.{List, [], _∷_}
-use Prim.Native.Nat.{ℕ, zero, suc, _+_, _≤_, _<_}
+use mathlib.Core.List.{List, []}
+use Prim.Native.Nat.{ℕ, zero, suc, _≤_}
 use native.Mathlib.Omega.{arith}
 use lib.Dec.{ltb, eqb}
-use borrow.Author.Tests.{leb-true, eqb-true, eqb-false, eq-eqb, ne-eqb, le-ltb}
-use Rattle.entries.specs.Entries.{Entry, entry, Sound}
+use borrow.Author.Tests.{eqb-true, eqb-false, eq-eqb, ne-eqb, le-ltb}
+use Rattle.entries.specs.Entries.{Entry, entry}
 use Rattle.entries.specs.Build.{pick}
 use Rattle.entries.specs.Questions.{filter}
 use Rattle.answers.specs.declared.Refusal.{Refusal}
@@ -19,11 +19,9 @@ use Rattle.blocks.proofs.Judging.{sound-verdict}
 use Rattle.searches.specs.Calls.{windowVerdict}
 use Rattle.searches.proofs.Windows.{judged-window, window-most}
 use Rattle.fits.specs.declared.Gap.{Gap}
-use Rattle.fits.specs.Fits.{gaps, fits, anywhere, firstGap, startIn, placeIn}
-use Rattle.fits.specs.Calls.{atPlace, asked, fitCall}
+use Rattle.fits.specs.Fits.{gaps, fits, anywhere, startIn, placeIn}
+use Rattle.fits.specs.Calls.{atPlace, asked, answered, fitCall}
 use Rattle.fits.specs.Steps.{chooser, fitter, gapOf, Asked, askVerdict}
-use Rattle.fits.proofs.Choosing.{All, OptAll, filter-all, filter-keeps, shortest-all}
-use Rattle.fits.proofs.Gaps.{gaps-below}
 
 -- THE REFUSALS before a place is sought
 module _ (w : List ℕ) (a b k v : ℕ) (e : v ≡ windowVerdict 2 setLimit w a b) where
@@ -84,18 +82,18 @@ module _ (fit : ℕ → ℕ → ℕ → List Entry → Option ℕ) (w : List ℕ
     pub fit-refused : (f : Refusal) → (v ≡ 0 → ⊥) → f ≡ refusalOf v 0 → outcome (refusalSays f) [] ≡ fitCall fit w a b k
     unfolding fitCall
     fit-refused f n r =
-        refused-as [] 0 (atPlace (fit a b k (entriesOf 2 w)) [] (λ s. outcome (given (s ∷ [])) [])) v (askVerdict w a b k) f e (ask-most w a b k) n r
-        ∙ sym (asked-by [] (λ s. outcome (given (s ∷ [])) []))
+        refused-as [] 0 (atPlace (fit a b k (entriesOf 2 w)) [] answered) v (askVerdict w a b k) f e (ask-most w a b k) n r
+        ∙ sym (asked-by [] answered)
 
-    pub fit-answers : (o : Option ℕ) (y : Outcome) → v ≡ 0 → fit a b k (entriesOf 2 w) ≡ o → y ≡ atPlace o [] (λ s. outcome (given (s ∷ [])) []) → y ≡ fitCall fit w a b k
+    pub fit-answers : (o : Option ℕ) (y : Outcome) → v ≡ 0 → fit a b k (entriesOf 2 w) ≡ o → y ≡ atPlace o [] answered → y ≡ fitCall fit w a b k
     unfolding fitCall
     fit-answers o y z p q =
-        given-as [] 0 (atPlace (fit a b k (entriesOf 2 w)) [] (λ s. outcome (given (s ∷ [])) [])) y v (askVerdict w a b k) e z
-        (q ∙ ap (λ (x : Option ℕ). atPlace x [] (λ s. outcome (given (s ∷ [])) [])) (sym p))
-        ∙ sym (asked-by [] (λ s. outcome (given (s ∷ [])) []))
+        given-as [] 0 (atPlace (fit a b k (entriesOf 2 w)) [] answered) y v (askVerdict w a b k) e z
+        (q ∙ ap (λ (x : Option ℕ). atPlace x [] answered) (sym p))
+        ∙ sym (asked-by [] answered)
 
   -- Where nothing is refused before, the question answers what `fit` names: its place, or 7 where it names none.
-  pub fit-asked : SoundBlock 2 setLimit w → a ≤ b → 1 ≤ k → fitCall fit w a b k ≡ atPlace (fit a b k (entriesOf 2 w)) [] (λ s. outcome (given (s ∷ [])) [])
+  pub fit-asked : SoundBlock 2 setLimit w → a ≤ b → 1 ≤ k → fitCall fit w a b k ≡ atPlace (fit a b k (entriesOf 2 w)) [] answered
   unfolding fitCall
   fit-asked s h n = rw (sound-verdict 2 setLimit w s, le-ltb b a h, ne-eqb k 0 (λ z. omega arith))
 
@@ -112,34 +110,3 @@ module _ (shortest : Bool) (a b k : ℕ) (es : List Entry) (g : Gap)
 
 pub fit-none : (f : Refusal) → f ≡ refusalOf 7 0 → outcome (refusalSays f) [] ≡ refuse 7 0 []
 fit-none f e = ap (λ (g : Refusal). outcome (refusalSays g) []) e ∙ ap (λ (x : Answer). outcome x []) (refusal-says 7 0 (omega arith) (omega arith))
-
--- a run of k from the place on ends in the window
-pub place-fits : (shortest : Bool) (a b k s : ℕ) (es : List Entry) → Sound es → fitter shortest a b k es ≡ some s → s + k ≤ suc b
-unfolding placeIn
-place-fits shortest a b k s es sound e = go (chooser shortest list) (chosen shortest) e
-  where
-    list : List Entry
-    list = filter (fits anywhere k) (gaps a b es)
-
-    P : Entry → Type 0
-    P g = g .low + k ≤ suc b
-
-    each : (gs : List Entry) → All (λ g. g .high < suc b) gs → All (λ g. g .low + k ≤ suc (g .high)) gs → All P gs
-    each [] h m = tt
-    each (g ∷ gs) h m = (omega (arith, h .0, m .0), each gs (h .1) (m .1))
-
-    all : All P list
-    all = each list (filter-all (λ g. g .high < suc b) (fits anywhere k) (gaps a b es) (gaps-below a b es sound))
-        (filter-keeps (λ g. g .low + k ≤ suc (g .high)) (fits anywhere k) (λ g q. leb-true (g .low + k) (suc (g .high)) q) (gaps a b es))
-
-    first : (gs : List Entry) → All P gs → OptAll P (firstGap gs)
-    first [] h = tt
-    first (g ∷ gs) h = h .0
-
-    chosen : (t : Bool) → OptAll P (chooser t list)
-    chosen true = shortest-all P list all
-    chosen false = first list all
-
-    go : (o : Option Entry) → OptAll P o → startIn anywhere o ≡ some s → s + k ≤ suc b
-    go none h q = let z : _≡_ {A = ℕ} 0 1 = cc in absurd (omega arith)
-    go (some g) h q = let i : g .low ≡ s = cc in omega arith

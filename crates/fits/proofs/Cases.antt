@@ -4,31 +4,28 @@ use mathlib.Core.List.{List, [], _∷_}
 use Prim.Native.Nat.{ℕ}
 use Rattle.entries.specs.Sets.{M, difference}
 use Rattle.entries.specs.Build.{put}
-use Rattle.answers.specs.Answers.{Outcome, outcome, given, refused}
+use Rattle.answers.specs.Answers.{outcome, given, refused}
 use Rattle.blocks.specs.Blocks.{verdict, blockOf}
 use Rattle.edits.specs.Calls.{editCall}
 use Rattle.fits.specs.Fits.{gaps, placeIn}
-use Rattle.fits.specs.Calls.{fitCall, reserveCall, firstFitCall, bestFitCall, reserveFirstCall, reserveBestCall}
+use Rattle.fits.specs.Calls.{answered, fitCall, reserveCall, firstFitCall, bestFitCall, reserveFirstCall, reserveBestCall}
 
 abbrev wordsF : List ℕ
 wordsF = 3 ∷ 0 ∷ 3 ∷ 8 ∷ 9 ∷ 12 ∷ M ∷ []
 
-abbrev at : ℕ → Outcome
-at s = outcome (given (s ∷ [])) []
-
-first-2 : firstFitCall wordsF 0 M 2 ≡ at 4
+first-2 : firstFitCall wordsF 0 M 2 ≡ answered 4
 unfolding fitCall verdict placeIn gaps difference
 first-2 = refl
 
-best-2 : bestFitCall wordsF 0 M 2 ≡ at 10
+best-2 : bestFitCall wordsF 0 M 2 ≡ answered 10
 unfolding fitCall verdict placeIn gaps difference
 best-2 = refl
 
-first-3 : firstFitCall wordsF 0 M 3 ≡ at 4
+first-3 : firstFitCall wordsF 0 M 3 ≡ answered 4
 unfolding fitCall verdict placeIn gaps difference
 first-3 = refl
 
-best-3 : bestFitCall wordsF 0 M 3 ≡ at 4
+best-3 : bestFitCall wordsF 0 M 3 ≡ answered 4
 unfolding fitCall verdict placeIn gaps difference
 best-3 = refl
 
@@ -55,7 +52,7 @@ unfolding reserveCall verdict placeIn gaps difference editCall put blockOf
 joins = refl
 
 -- the longest run that can be asked for, in a gap of 2^64 numbers
-whole : bestFitCall (0 ∷ []) 0 M M ≡ at 0
+whole : bestFitCall (0 ∷ []) 0 M M ≡ answered 0
 unfolding fitCall verdict placeIn gaps difference
 whole = refl
 

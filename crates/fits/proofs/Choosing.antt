@@ -44,11 +44,11 @@ pub search-first : (t : ℕ) (gs : List Entry) → All (λ g. numbers g ≤ t) g
 search-first t [] h = refl
 search-first t (g ∷ gs) h = rw (le-leb (numbers g) t (h .0))
 
-abbrev pub OptAll : (Entry → Type 0) → Option Entry → Type 0
+abbrev OptAll : (Entry → Type 0) → Option Entry → Type 0
 OptAll P none = Unit {0}
 OptAll P (some g) = P g
 
-pub shortest-all : (P : Entry → Type 0) (gs : List Entry) → All P gs → OptAll P (shortestGap gs)
+shortest-all : (P : Entry → Type 0) (gs : List Entry) → All P gs → OptAll P (shortestGap gs)
 shortest-all P [] h = tt
 shortest-all P (g ∷ gs) h = go (shortestGap gs) (shortest-all P gs (h .1))
   where

@@ -6,9 +6,9 @@ use Prim.Native.Nat.{ℕ, suc, _+_, _-_, _≤_}
 use native.Mathlib.Omega.{arith}
 use Rattle.entries.specs.Entries.{Entry}
 use Rattle.entries.specs.Questions.{filter}
-use Rattle.answers.specs.Answers.{given, outcome, refuse}
+use Rattle.answers.specs.Answers.{refuse}
 use Rattle.blocks.specs.Blocks.{setLimit, entriesOf, SoundBlock}
-use Rattle.fits.specs.Calls.{atPlace, fitCall, firstFitCall, bestFitCall}
+use Rattle.fits.specs.Calls.{atPlace, answered, fitCall, firstFitCall, bestFitCall}
 use Rattle.fits.specs.Fits.{gaps, fits, firstGap, shortestGap, startIn, placeIn, anywhere, firstFit, bestFit}
 use Rattle.fits.specs.Meaning.{FreeRun, IsGap, FirstOf, BestOf, LeastUp, FirstAt, Holds, BestAt}
 use Rattle.fits.proofs.Listed.{In, Around}
@@ -142,12 +142,12 @@ module _ (w : List ℕ) (a b k : ℕ) (sound : SoundBlock 2 setLimit w) (order :
   no-place : (fit : ℕ → ℕ → ℕ → List Entry → Option ℕ) → fitCall fit w a b k ≡ refuse 7 0 [] → fit a b k (entriesOf 2 w) ≡ none
   no-place fit e = go (fit a b k (entriesOf 2 w)) refl (sym (fit-asked fit w a b k sound order one) ∙ e)
     where
-      go : (o : Option ℕ) → fit a b k (entriesOf 2 w) ≡ o → atPlace o [] (λ s. outcome (given (s ∷ [])) []) ≡ refuse 7 0 [] → fit a b k (entriesOf 2 w) ≡ none
+      go : (o : Option ℕ) → fit a b k (entriesOf 2 w) ≡ o → atPlace o [] answered ≡ refuse 7 0 [] → fit a b k (entriesOf 2 w) ≡ none
       go none q h = q
       go (some s) q h = let z : _≡_ {A = ℕ} 0 1 = cc in absurd (omega arith)
 
   place-no : (fit : ℕ → ℕ → ℕ → List Entry → Option ℕ) → fit a b k (entriesOf 2 w) ≡ none → fitCall fit w a b k ≡ refuse 7 0 []
-  place-no fit e = fit-asked fit w a b k sound order one ∙ ap (λ (o : Option ℕ). atPlace o [] (λ s. outcome (given (s ∷ [])) [])) e
+  place-no fit e = fit-asked fit w a b k sound order one ∙ ap (λ (o : Option ℕ). atPlace o [] answered) e
 
   none-run : firstFit a b k (entriesOf 2 w) ≡ none → NoRun
   none-run e = subst (FirstOf a b k (entriesOf 2 w)) e (first-fit a b k (entriesOf 2 w) one)

@@ -1,5 +1,5 @@
 -- A reservation is the question followed by the insertion.
-use mathlib.Core.Path.{_≡_, refl, sym, _∙_, ap}
+use mathlib.Core.Path.{_≡_, refl, sym, _∙_, ap, subst}
 use mathlib.Core.Bool.{Bool, true, false}
 use mathlib.Core.Option.{Option, none, some}
 use mathlib.Core.List.{List, [], _∷_}
@@ -20,9 +20,11 @@ use Rattle.blocks.specs.Calls.{stored}
 use Rattle.blocks.proofs.Judging.{sound-verdict}
 use Rattle.edits.specs.Calls.{editCall}
 use Rattle.edits.specs.Steps.{roomSays}
-use Rattle.fits.specs.Calls.{atPlace, fitCall, answering, reserveCall}
+use Rattle.fits.specs.Calls.{atPlace, answered, fitCall, answering, reserveCall}
+use Rattle.fits.specs.Meaning.{FirstOf, BestOf}
 use Rattle.fits.specs.Steps.{fitter, Placing, askVerdict}
-use Rattle.fits.proofs.Asking.{asked-by, asked-right, place-fits}
+use Rattle.fits.proofs.Asking.{asked-by, asked-right}
+use Rattle.fits.proofs.Meaning.{first-fit, best-fit}
 
 module _ (fit : ℕ → ℕ → ℕ → List Entry → Option ℕ) (w : List ℕ) (a b k : ℕ) where
   -- what an answer of the question tells
@@ -30,19 +32,19 @@ module _ (fit : ℕ → ℕ → ℕ → List Entry → Option ℕ) (w : List ℕ
     pub right : askVerdict w a b k ≡ 0
     pub place : fit a b k (entriesOf 2 w) ≡ some s
 
-  pub fit-chosen : (s : ℕ) → outcome (given (s ∷ [])) [] ≡ fitCall fit w a b k → Chosen s
+  pub fit-chosen : (s : ℕ) → answered s ≡ fitCall fit w a b k → Chosen s
   unfolding fitCall
-  fit-chosen s e = go (askVerdict w a b k) refl (fit a b k (entriesOf 2 w)) refl (e ∙ asked-by fit w a b k [] (λ s. outcome (given (s ∷ [])) []))
+  fit-chosen s e = go (askVerdict w a b k) refl (fit a b k (entriesOf 2 w)) refl (e ∙ asked-by fit w a b k [] answered)
     where
       go : (v : ℕ) → askVerdict w a b k ≡ v → (o : Option ℕ) → fit a b k (entriesOf 2 w) ≡ o
-          → outcome (given (s ∷ [])) [] ≡ judged v 0 [] (atPlace o [] (λ s. outcome (given (s ∷ [])) [])) → Chosen s
+          → answered s ≡ judged v 0 [] (atPlace o [] answered) → Chosen s
       go zero p none q h = let z : _≡_ {A = ℕ} 0 1 = cc in absurd (omega arith)
       go zero p (some t) q h = let i : t ≡ s = cc in record { right = p; place = q ∙ ap some i }
       go (suc v) p o q h = let z : _≡_ {A = ℕ} 0 1 = cc in absurd (omega arith)
 
   -- A RESERVATION IS THE QUESTION FOLLOWED BY THE INSERTION. Where the question answers s it inserts s to s+k-1, with that call's block
   -- and refusal, and answers s; else it refuses as the question does, and changes nothing.
-  pub reserve-inserts : (s : ℕ) → fitCall fit w a b k ≡ outcome (given (s ∷ [])) []
+  pub reserve-inserts : (s : ℕ) → fitCall fit w a b k ≡ answered s
       → reserveCall fit w a b k ≡ answering s (editCall 2 setLimit w s (s + k - 1) (some []))
   unfolding reserveCall
   reserve-inserts s e =
@@ -55,16 +57,21 @@ module _ (fit : ℕ → ℕ → ℕ → List Entry → Option ℕ) (w : List ℕ
 
   pub reserve-refuses : (n p : ℕ) → fitCall fit w a b k ≡ outcome (refused n p) [] → reserveCall fit w a b k ≡ outcome (refused n p) (w ∷ [])
   unfolding fitCall reserveCall
-  reserve-refuses n p e = asked-by fit w a b k (w ∷ []) next ∙ go (askVerdict w a b k) (fit a b k (entriesOf 2 w)) (sym (asked-by fit w a b k [] (λ s. outcome (given (s ∷ [])) [])) ∙ e)
+  reserve-refuses n p e = asked-by fit w a b k (w ∷ []) next ∙ go (askVerdict w a b k) (fit a b k (entriesOf 2 w)) (sym (asked-by fit w a b k [] answered) ∙ e)
     where
       next : ℕ → Outcome
       next s = answering s (editCall 2 setLimit w s (s + k - 1) (some []))
 
-      go : (v : ℕ) (o : Option ℕ) → judged v 0 [] (atPlace o [] (λ s. outcome (given (s ∷ [])) [])) ≡ outcome (refused n p) []
+      go : (v : ℕ) (o : Option ℕ) → judged v 0 [] (atPlace o [] answered) ≡ outcome (refused n p) []
           → judged v 0 (w ∷ []) (atPlace o (w ∷ []) next) ≡ outcome (refused n p) (w ∷ [])
       go zero none h = let a : refused 7 0 ≡ refused n p = cc in ap (λ (x : Answer). outcome x (w ∷ [])) a
       go zero (some s) h = let z : _≡_ {A = ℕ} 0 1 = cc in absurd (omega arith)
       go (suc v) o h = let a : refused (suc v) 0 ≡ refused n p = cc in ap (λ (x : Answer). outcome x (w ∷ [])) a
+
+-- a run of k from the place on ends in the window
+place-fits : (shortest : Bool) (a b k s : ℕ) (es : List Entry) → 1 ≤ k → fitter shortest a b k es ≡ some s → s + k ≤ suc b
+place-fits true a b k s es one e = let c = subst (BestOf a b k es) e (best-fit a b k es one) in omega (arith, c .enough, c .gap .run .some, c .gap .run .upto)
+place-fits false a b k s es one e = let c = subst (FirstOf a b k es) e (first-fit a b k es one) in omega (arith, c .run .upto)
 
 -- what follows the question's answer in a reservation
 module _ (shortest : Bool) (w : List ℕ) (a b k : ℕ) (r : Placed) (e : outcome (placedSays r) [] ≡ fitCall (fitter shortest) w a b k) where
@@ -72,7 +79,7 @@ module _ (shortest : Bool) (w : List ℕ) (a b k : ℕ) (r : Placed) (e : outcom
   placing s q m =
       let c = fit-chosen (fitter shortest) w a b k s (ap (λ (x : Placed). outcome (placedSays x) []) (sym q) ∙ e) in
       let j = asked-right w a b k (c .right) in
-      record { block = j .block; run = j .run; fits = omega (arith, place-fits shortest a b k s (entriesOf 2 w) (j .block .sound) (c .place)) }
+      record { block = j .block; run = j .run; fits = omega (arith, place-fits shortest a b k s (entriesOf 2 w) (j .run) (c .place)) }
 
   pub reserve-at : (s : ℕ) → r ≡ placed.At s → (x : Outcome) → x ≡ answering s (editCall 2 setLimit w s (s + k - 1) (some [])) → x ≡ reserveCall (fitter shortest) w a b k
   reserve-at s q x d = d ∙ sym (reserve-inserts (fitter shortest) w a b k s (sym e ∙ ap (λ (y : Placed). outcome (placedSays y) []) q))

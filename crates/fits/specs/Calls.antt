@@ -22,9 +22,12 @@ asked fit w a b k lent next =
     judged (verdict 2 setLimit w) 0 lent
     (pick (ltb b a) (refuse 4 0 lent) (pick (eqb k 0) (refuse 6 0 lent) (atPlace (fit a b k (entriesOf 2 w)) lent next)))
 
--- «Each comes as a question»
+-- «Each comes as a question»: the place is the answer, and nothing is written
+abbrev pub answered : ℕ → Outcome
+answered s = outcome (given (s ∷ [])) []
+
 unfoldable pub fitCall : (ℕ → ℕ → ℕ → List Entry → Option ℕ) → List ℕ → ℕ → ℕ → ℕ → Outcome
-fitCall fit w a b k = asked fit w a b k [] (λ s. outcome (given (s ∷ [])) [])
+fitCall fit w a b k = asked fit w a b k [] answered
 
 -- an outcome that, accepted, answers s
 abbrev pub answering : ℕ → Outcome → Outcome
