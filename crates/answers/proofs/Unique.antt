@@ -15,8 +15,10 @@ use Rattle.answers.specs.declared.Ranged.{Ranged}
 use Rattle.answers.specs.declared.Ranged.the-variants as ranged
 use Rattle.answers.specs.declared.Sized.{Sized}
 use Rattle.answers.specs.declared.Sized.the-variants as sized
+use Rattle.answers.specs.declared.Placed.{Placed}
+use Rattle.answers.specs.declared.Placed.the-variants as placed
 use Rattle.answers.specs.Answers.{Answer, given, refused, Outcome, outcome}
-use Rattle.answers.specs.Says.{numberOf, refusalOf, reasonOf, judgedSays, truthSays, foundSays, rangedSays, sizedSays}
+use Rattle.answers.specs.Says.{numberOf, refusalOf, reasonOf, judgedSays, truthSays, foundSays, rangedSays, sizedSays, placedSays}
 use Rattle.answers.proofs.Numbers.{number-reason}
 
 abbrev answerOf : Outcome → Answer
@@ -99,3 +101,15 @@ sized-undo (sized.Refused f) = ap sized.Refused (refusal-back f)
 
 pub sized-only : (due : Outcome) (r s : Sized) (k l : List (List ℕ)) → outcome (sizedSays r) k ≡ due → outcome (sizedSays s) l ≡ due → (r ≡ s) × (k ≡ l)
 sized-only = only sizedSays sizedBack sized-undo
+
+abbrev placedBack : Answer → Placed
+placedBack (given []) = placed.At 0
+placedBack (given (s ∷ xs)) = placed.At s
+placedBack (refused n p) = placed.Refused (refusalOf n p)
+
+placed-undo : (r : Placed) → placedBack (placedSays r) ≡ r
+placed-undo (placed.At s) = refl
+placed-undo (placed.Refused f) = ap placed.Refused (refusal-back f)
+
+pub placed-only : (due : Outcome) (r s : Placed) (k l : List (List ℕ)) → outcome (placedSays r) k ≡ due → outcome (placedSays s) l ≡ due → (r ≡ s) × (k ≡ l)
+placed-only = only placedSays placedBack placed-undo

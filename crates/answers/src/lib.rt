@@ -61,6 +61,12 @@ pub enum Sized {
     Refused(Refusal),
 }
 
+// The place that a fit chose.
+pub enum Placed {
+    At(u64),
+    Refused(Refusal),
+}
+
 // The refusal with a number of the table.
 pub fn refusal_of(number: u8, place: usize) -> Refusal
     ensures { λ r. ⌜ r ≡ refusalOf number place ⌝ }

@@ -23,7 +23,8 @@ fn below(high: u64, lo: u64) -> u64
     if lo == 0 { 0 } else { lo - 1 }
 }
 
-fn above(low: u64, hi: u64, high: u64) -> u64
+// The least number at or above low that is past hi, for an hi below high.
+pub fn above(low: u64, hi: u64, high: u64) -> u64
     requires { ⌜ hi < high ⌝ }
     ensures { λ r. ⌜ r ≡ max low (suc hi) ⌝ }
 {
@@ -168,7 +169,7 @@ fn set_ends(new: &mut [u64], lo: u64, hi: u64)
 }
 
 // Puts the new entry into a sound block of n items; false where there is no room.
-fn put_value(block: &mut [u64], new: &mut [u64], n: usize, limit: usize) -> bool
+pub fn put_value(block: &mut [u64], new: &mut [u64], n: usize, limit: usize) -> bool
     requires { ⌜ EditOk (now block) (length (now new)) limit n × (getD (now new) 0 0 ≤ getD (now new) 1 0) ⌝ }
     ensures { λ r. ⌜ outcome (roomSays r) (now (block .exit) ∷ []) ≡ stored 0 (length (now (new .entry))) limit (now (block .entry))
         (put (entriesOf (length (now (new .entry))) (now (block .entry))) (getD (now (new .entry)) 0 0) (getD (now (new .entry)) 1 0) (some (take (length (now (new .entry)) - 2) (drop 2 (now (new .entry)))))) ⌝ }

@@ -1,0 +1,10 @@
+pub mod Choosing
+pub mod Gaps
+pub mod Walking
+pub mod Asking
+pub mod Listed
+pub mod Chosen
+pub mod Runs
+pub mod Meaning
+pub mod Reserving
+pub mod Cases

@@ -1,0 +1,24 @@
+use denote.Ref.{now}
+use Rattle.fits.proofs.Asking.{ask-window, ask-zero, ask-right}
+use native.Mathlib.Omega.{arith}
+use borrow.Author.Needs.{needs}
+use Rattle.fits.proofs.ask_verdict.Statement.{statement}
+use Rattle.fits.proofs.ask_verdict.Tie as tie
+use Rattle.fits.proofs.ask_verdict.Reads as reads
+use Rattle.fits.proofs.ask_verdict.Lts as lts
+use Rattle.searches.proofs.window_verdict.Reads as window-verdict-reads
+
+window-verdict-requires : tie.Need-window-verdict-requires
+window-verdict-requires c κs = search needs
+
+returns : tie.Need-returns
+returns c = let a = c .before .before .before in ask-window (now (a .args .block)) (a .args .a) (a .args .b) (a .args .k) (c .before .window-verdict .result) (c .before .window-verdict .ensures) (c .if1 .taken)
+
+returns-2 : tie.Need-returns-2
+returns-2 c = let a = c .before .before .before .before in ask-zero (now (a .args .block)) (a .args .a) (a .args .b) (a .args .k) (c .before .before .window-verdict .result) (c .before .before .window-verdict .ensures) (c .before .if1 .left) (c .if2 .taken)
+
+returns-3 : tie.Need-returns-3
+returns-3 c = let a = c .before .before .before .before in ask-right (now (a .args .block)) (a .args .a) (a .args .b) (a .args .k) (c .before .before .window-verdict .result) (c .before .before .window-verdict .ensures) (c .before .if1 .left) (c .if2 .left)
+
+pub ask-verdict-spec : {M : Type 1} → statement M
+ask-verdict-spec = tie.close (tie.spec window-verdict-requires returns returns-2 returns-3)

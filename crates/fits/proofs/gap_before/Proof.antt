@@ -1,0 +1,30 @@
+use Rattle.fits.proofs.Walking.{before-none, before-cut, before-range}
+use native.Mathlib.Omega.{arith}
+use borrow.Author.Needs.{needs}
+use Rattle.fits.proofs.gap_before.Statement.{statement}
+use Rattle.fits.proofs.gap_before.Tie as tie
+use Rattle.fits.proofs.gap_before.Reads as reads
+use Rattle.fits.proofs.gap_before.Lts as lts
+use Rattle.fits.proofs.tried.Reads as tried-reads
+
+returns : tie.Need-returns
+returns c = let a = c .before in before-none (a .args .best) (a .args .from) (a .args .low) (a .args .b) (a .args .k) (a .pre) (c .if1 .taken)
+
+tried-requires : tie.Need-tried-requires
+tried-requires c κs = search needs
+
+returns-2 : tie.Need-returns-2
+returns-2 c = let a = c .before .before .before in before-cut (a .args .best) (a .args .from) (a .args .low) (a .args .b) (a .args .k) (a .pre) (c .tried .result) (c .before .before .if1 .left) (c .before .if2 .taken) (c .tried .ensures)
+
+sub-tried : tie.Need-sub-tried
+sub-tried c = search needs
+
+tried-requires-2 : tie.Need-tried-requires-2
+tried-requires-2 c κs = search needs
+
+returns-3 : tie.Need-returns-3
+returns-3 c = let a = c .before .before .before in before-range (a .args .best) (a .args .from) (a .args .low) (a .args .b) (a .args .k) (a .pre) (c .tried2 .result) (c .before .before .if1 .left) (c .before .if2 .left) (c .tried2 .ensures)
+
+pub gap-before-spec : {M : Type 1} → statement M
+gap-before-spec =
+    tie.close (tie.spec returns tried-requires returns-2 sub-tried tried-requires-2 returns-3)

@@ -1,0 +1,101 @@
+use denote.Ref.{now}
+use mathlib.Core.Path.{refl, sym, _∙_}
+use Rattle.entries.specs.Questions.{filter}
+use Rattle.blocks.specs.Blocks.{entriesOf}
+use Rattle.fits.specs.Fits.{gaps, fits, anywhere}
+use Rattle.fits.specs.Steps.{chooser}
+use Rattle.fits.proofs.Walking.{Walked, walked-start, walked-inside, walked-enough, walked-over, walked-on, walked-end}
+use borrow.Author.Needs.{needs}
+use native.Mathlib.Omega.{arith}
+use Rattle.fits.proofs.gap_for.Statement.{statement}
+use Rattle.fits.proofs.gap_for.Tie as tie
+use Rattle.fits.proofs.gap_for.Reads as reads
+use Rattle.fits.proofs.gap_for.Lts as lts
+use Rattle.blocks.proofs.word.Reads as word-reads
+use Rattle.edits.proofs.above.Reads as above-reads
+use Rattle.fits.proofs.enough_for.Reads as enough-for-reads
+use Rattle.fits.proofs.gap_before.Reads as gap-before-reads
+use Rattle.fits.proofs.tried.Reads as tried-reads
+use Rattle.fits.proofs.within.Reads as within-reads
+use Rattle.searches.proofs.count_of.Reads as count-of-reads
+
+abbrev Inv-loop : tie.InvT-loop
+Inv-loop block a b k shortest enough best₀ from₀ p₀ left₀ best from p left = Walked block (chooser shortest (filter (fits anywhere k) (gaps a b (entriesOf 2 block)))) b k enough best from p left
+
+abbrev μ-loop : tie.MeasureT-loop
+μ-loop block a b k shortest enough best₀ from₀ p₀ left₀ best from p left = left
+
+enough-for-requires : tie.Need-enough-for-requires Inv-loop μ-loop
+enough-for-requires c κs = search needs
+
+count-of-requires : tie.Need-count-of-requires Inv-loop μ-loop
+count-of-requires c κs = search needs
+
+loop-holds : tie.Need-loop-holds Inv-loop μ-loop
+loop-holds c = let a = c .before .before .before in walked-start (now (a .args .block)) (a .args .a) (a .args .b) (a .args .k) (a .args .shortest) (c .before .enough-for .result) (c .count-of .result) _ (a .pre) (omega arith) (c .before .enough-for .ensures) (c .count-of .ensures) refl refl refl
+
+word-requires : tie.Need-word-requires Inv-loop μ-loop
+word-requires c κs = omega (arith, walked-inside (c .before .loop .inv) (c .loop-test .taken))
+
+add-word : tie.Need-add-word Inv-loop μ-loop
+add-word c = record { fits = omega (arith, walked-inside (c .before .before .loop .inv) (c .before .loop-test .taken)) }
+
+word-requires-2 : tie.Need-word-requires-2 Inv-loop μ-loop
+word-requires-2 c κs = omega (arith, walked-inside (c .before .before .loop .inv) (c .before .loop-test .taken))
+
+gap-before-requires : tie.Need-gap-before-requires Inv-loop μ-loop
+gap-before-requires c κs = let i = c .before .before .before .loop .inv in record { held = i .order; order = i .inside; run = i .run }
+
+within-requires : tie.Need-within-requires Inv-loop μ-loop
+within-requires c κs = c .gap-before .ensures .order
+
+returns : tie.Need-returns Inv-loop μ-loop
+returns c = walked-enough (c .before .before .before .before .before .before .loop .inv) (c .before .before .before .before .before .loop-test .taken) (c .before .before .before .before .word .result) (c .before .before .before .word2 .result) (c .before .before .before .before .word .ensures) (c .before .before .before .word2 .ensures) (c .before .before .gap-before .result) (c .before .before .gap-before .ensures) (sym (c .before .within .ensures) ∙ c .if1 .taken)
+
+returns-2 : tie.Need-returns-2 Inv-loop μ-loop
+returns-2 c = walked-over (c .before .before .before .before .before .before .before .loop .inv) (c .before .before .before .before .before .before .loop-test .taken) (c .before .before .before .before .before .word .result) (c .before .before .before .before .word2 .result) (c .before .before .before .before .before .word .ensures) (c .before .before .before .before .word2 .ensures) (c .before .before .before .gap-before .result) (c .before .before .before .gap-before .ensures) (c .if2 .taken)
+
+above-requires : tie.Need-above-requires Inv-loop μ-loop
+above-requires c κs = search needs
+
+add-p : tie.Need-add-p Inv-loop μ-loop
+add-p c = record { fits = omega (arith, walked-inside (c .before .before .before .before .before .before .before .before .loop .inv) (c .before .before .before .before .before .before .before .loop-test .taken)) }
+
+sub-left : tie.Need-sub-left Inv-loop μ-loop
+sub-left c = search needs
+
+loop-less : tie.Need-loop-less Inv-loop μ-loop
+loop-less c = search needs
+
+loop-again : tie.Need-loop-again Inv-loop μ-loop
+loop-again c = walked-on (c .before .before .before .before .before .before .before .before .loop .inv) (c .before .before .before .before .before .before .before .loop-test .taken) (c .before .before .before .before .before .before .word .result) (c .before .before .before .before .before .word2 .result) (c .before .before .before .before .before .before .word .ensures) (c .before .before .before .before .before .word2 .ensures) (c .before .before .before .before .gap-before .result) (c .before .before .before .before .gap-before .ensures) (c .above .result) _ _ (sym (c .before .before .before .within .ensures) ∙ c .before .before .if1 .left) (c .before .if2 .left) (c .above .ensures) refl refl
+
+tried-requires : tie.Need-tried-requires Inv-loop μ-loop
+tried-requires c κs = let i = c .before .loop .inv in record { held = i .order; order = i .inside; run = i .run }
+
+returns-3 : tie.Need-returns-3 Inv-loop μ-loop
+returns-3 c = walked-end (c .before .before .loop .inv) (omega arith) (c .tried .result) (c .tried .ensures)
+
+pub gap-for-spec : {M : Type 1} → statement M
+gap-for-spec =
+    tie.close
+    (tie.spec
+    Inv-loop
+    μ-loop
+    enough-for-requires
+    count-of-requires
+    loop-holds
+    word-requires
+    add-word
+    word-requires-2
+    gap-before-requires
+    within-requires
+    returns
+    returns-2
+    above-requires
+    add-p
+    sub-left
+    loop-less
+    loop-again
+    tried-requires
+    returns-3)

@@ -1,0 +1,57 @@
+use denote.Ref.{now}
+use mathlib.Core.Path.{refl}
+use Rattle.fits.proofs.Reserving.{reserved, no-room}
+use native.Mathlib.Omega.{arith}
+use borrow.Author.Needs.{needs}
+use Rattle.fits.proofs.reserve_at.Statement.{statement}
+use Rattle.fits.proofs.reserve_at.Tie as tie
+use Rattle.fits.proofs.reserve_at.Reads as reads
+use Rattle.fits.proofs.reserve_at.Lts as lts
+use Rattle.answers.proofs.refusal_of.Reads as refusal-of-reads
+use Rattle.edits.proofs.put_value.Reads as put-value-reads
+use Rattle.searches.proofs.count_of.Reads as count-of-reads
+
+count-of-requires : tie.Need-count-of-requires
+count-of-requires c κs = search needs
+
+sub-t8 : tie.Need-sub-t8
+sub-t8 c = search needs
+
+add-t9 : tie.Need-add-t9
+add-t9 c = search needs
+
+slice-aggregate-put-value : tie.Need-slice-aggregate-put-value
+slice-aggregate-put-value c = search needs
+
+put-value-requires : tie.Need-put-value-requires
+put-value-requires c κs = let a = c .before .before .before .before .before in (record { two = omega arith; block = a .pre .block; count = c .before .before .count-of .ensures }, omega arith)
+
+same-length : tie.Need-same-length
+same-length c = search needs
+
+returns : tie.Need-returns
+returns c = let a = c .before .before .before .before .before .before .before .before .before .before in reserved (a .args .block .now) (a .args .s) (a .args .k) (a .pre) _ refl (c .before .before .before .before .put-value .result) _ (c .before .before .before .before .put-value .ensures) (c .if1 .taken)
+
+refusal-of-requires : tie.Need-refusal-of-requires
+refusal-of-requires c κs = search needs
+
+same-length-2 : tie.Need-same-length-2
+same-length-2 c = search needs
+
+returns-2 : tie.Need-returns-2
+returns-2 c = let a = c .before .before .before .before .before .before .before .before .before .before .before in no-room (a .args .block .now) (a .args .s) (a .args .k) (a .pre) _ refl (c .before .before .before .before .before .put-value .result) _ (c .before .before .before .before .before .put-value .ensures) (c .refusal-of .result) (c .before .if1 .left) (c .refusal-of .ensures)
+
+pub reserve-at-spec : {M : Type 1} → statement M
+reserve-at-spec =
+    tie.close
+    (tie.spec
+    count-of-requires
+    sub-t8
+    add-t9
+    slice-aggregate-put-value
+    put-value-requires
+    same-length
+    returns
+    refusal-of-requires
+    same-length-2
+    returns-2)

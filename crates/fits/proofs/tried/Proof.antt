@@ -1,0 +1,30 @@
+use Rattle.fits.proofs.Walking.{tried-short, tried-keep, tried-new}
+use mathlib.Core.Path.{refl, sym, _∙_}
+use native.Mathlib.Omega.{arith}
+use borrow.Author.Needs.{needs}
+use Rattle.fits.proofs.tried.Statement.{statement}
+use Rattle.fits.proofs.tried.Tie as tie
+use Rattle.fits.proofs.tried.Reads as reads
+use Rattle.fits.proofs.tried.Lts as lts
+use Rattle.fits.proofs.within.Reads as within-reads
+
+sub-less : tie.Need-sub-less
+sub-less c = search needs
+
+sub-if1 : tie.Need-sub-if1
+sub-if1 c = search needs
+
+returns : tie.Need-returns
+returns c = let a = c .before in tried-short (a .args .best) (a .args .low) (a .args .high) (a .args .k) (a .pre) (c .if1 .taken)
+
+within-requires : tie.Need-within-requires
+within-requires c κs = search needs
+
+returns-2 : tie.Need-returns-2
+returns-2 c = let a = c .before .before .before in tried-keep (a .args .best) (a .args .low) (a .args .high) (a .args .k) (a .pre) (c .before .before .if1 .left) (sym (c .before .within .ensures) ∙ c .if2 .taken)
+
+returns-3 : tie.Need-returns-3
+returns-3 c = let a = c .before .before .before in tried-new (a .args .best) (a .args .low) (a .args .high) (a .args .k) (a .pre) (c .before .before .if1 .left) _ refl refl refl (sym (c .before .within .ensures) ∙ c .if2 .left)
+
+pub tried-spec : {M : Type 1} → statement M
+tried-spec = tie.close (tie.spec sub-less sub-if1 returns within-requires returns-2 returns-3)

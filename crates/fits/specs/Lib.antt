@@ -1,0 +1,4 @@
+pub mod Fits
+pub mod Calls
+pub mod Meaning
+pub mod Steps

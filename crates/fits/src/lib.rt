@@ -1,0 +1,192 @@
+// Fitting: a free run of k numbers in a window of a set, found by first fit or by best fit, and reserved.
+// Every call takes any words at all. Its contract names the whole outcome by one definition of specs/Calls.
+ghost use mathlib.Core.Path.{_≡_};
+ghost use mathlib.Core.Option.{some};
+ghost use mathlib.Core.List.{[], _∷_};
+ghost use Prim.Native.Nat.{suc, _+_, _-_, _<_, _≤_, min};
+ghost use lib.Dec.{leb};
+ghost use Rattle.entries.specs.Entries.{entry};
+ghost use Rattle.entries.specs.Build.{pick, andb};
+ghost use Rattle.entries.specs.Sets.{M};
+ghost use Rattle.entries.specs.Questions.{filter};
+ghost use Rattle.answers.specs.Answers.{outcome};
+ghost use Rattle.answers.specs.Says.{placedSays};
+ghost use Rattle.blocks.specs.Blocks.{setLimit, entriesOf};
+ghost use Rattle.edits.specs.Calls.{editCall};
+ghost use Rattle.fits.specs.Fits.{gaps, fits, anywhere};
+ghost use Rattle.fits.specs.Calls.{answering, fitCall, reserveCall, firstFitCall, bestFitCall, reserveFirstCall, reserveBestCall};
+ghost use Rattle.fits.specs.Steps.{chooser, fitter, gapOf, piece, Took, Trying, Asked, Placing, askVerdict};
+use answers::Placed;
+
+const MAX: u64 = 18446744073709551615;
+
+// The gap low..high that is held so far, if one was found. Low is at most high either way.
+pub struct Gap {
+    pub found: bool,
+    pub low: u64,
+    pub high: u64,
+}
+
+// Whether a gap is held that has at most less + 1 numbers.
+fn within(best: Gap, less: u64) -> bool
+    requires { ⌜ best .low ≤ best .high ⌝ }
+    ensures { λ r. ⌜ r ≡ andb (best .found) (leb (best .high - best .low) less) ⌝ }
+{
+    if best.found {
+        return best.high - best.low <= less;
+    }
+    false
+}
+
+// The gap held after low..high came: it is taken if k numbers fit in it and it is shorter than the one held.
+fn tried(best: Gap, low: u64, high: u64, k: u64) -> Gap
+    requires { ⌜ Trying best low high k ⌝ }
+    ensures { λ r. ⌜ Took k best (entry low high [] ∷ []) r ⌝ }
+{
+    let less = high - low;
+    if less < k - 1 {
+        return best;
+    }
+    if within(best, less) {
+        return best;
+    }
+    Gap {
+        found: true,
+        low,
+        high,
+    }
+}
+
+// The gap held after the one from `from` up to low came, cut to the window's end b.
+fn gap_before(best: Gap, from: u64, low: u64, b: u64, k: u64) -> Gap
+    requires { ⌜ Trying best from b k ⌝ }
+    ensures { λ r. ⌜ Took k best (piece from (min (suc b) low)) r ⌝ }
+{
+    if low <= from {
+        return best;
+    }
+    if b < low {
+        return tried(best, from, b, k);
+    }
+    tried(best, from, low - 1, k)
+}
+
+// The length less one of a gap that no later gap can beat: any gap is one for first fit, one of k numbers for best fit.
+fn enough_for(k: u64, shortest: bool) -> u64
+    requires { ⌜ 0 < k ⌝ }
+    ensures { λ r. ⌜ r ≡ pick shortest (k - 1) M ⌝ }
+{
+    if shortest { k - 1 } else { MAX }
+}
+
+// The first gap of the window a..b in which k numbers fit, or the shortest: one walk over the ranges of a sound set.
+fn gap_for(block: &[u64], a: u64, b: u64, k: u64, shortest: bool) -> Gap
+    requires { ⌜ Asked (now block) a b k ⌝ }
+    ensures { λ r. ⌜ gapOf r ≡ chooser shortest (filter (fits anywhere k) (gaps a b (entriesOf 2 (now (block .entry))))) ⌝ }
+{
+    let enough = enough_for(k, shortest);
+    let mut best = Gap {
+        found: false,
+        low: 0,
+        high: 0,
+    };
+    let mut from = a;
+    let mut p: usize = 1;
+    let mut left = searches::count_of(block);
+    while 0 < left {
+        let low = blocks::word(block, p);
+        let high = blocks::word(block, p + 1);
+        best = gap_before(best, from, low, b, k);
+        if within(best, enough) {
+            return best;
+        }
+        if b <= high {
+            return best;
+        }
+        from = edits::above(from, high, b);
+        p += 2;
+        left -= 1;
+    }
+    tried(best, from, b, k)
+}
+
+// The number of the refusal of a run of k in the window a..b, before a place is sought, or 0.
+fn ask_verdict(block: &[u64], a: u64, b: u64, k: u64) -> u8
+    ensures { λ r. ⌜ r ≡ askVerdict (now (block .entry)) a b k ⌝ }
+{
+    let v = searches::window_verdict(block, 2, blocks::SET_LIMIT, a, b);
+    if v != 0 {
+        return v;
+    }
+    if k == 0 {
+        return 6;
+    }
+    0
+}
+
+// The place for k numbers in the window a..b: in the first gap that they fit in, or in the shortest.
+fn fit(block: &[u64], a: u64, b: u64, k: u64, shortest: bool) -> Placed
+    ensures { λ r. ⌜ outcome (placedSays r) [] ≡ fitCall (fitter shortest) (now (block .entry)) a b k ⌝ }
+{
+    let v = ask_verdict(block, a, b, k);
+    if v != 0 {
+        return Placed::Refused(answers::refusal_of(v, 0));
+    }
+    let gap = gap_for(block, a, b, k, shortest);
+    if gap.found {
+        return Placed::At(gap.low);
+    }
+    Placed::Refused(answers::refusal_of(7, 0))
+}
+
+// Inserts the k numbers from s on into a sound set, where there is room.
+fn reserve_at(block: &mut [u64], s: u64, k: u64) -> Placed
+    requires { ⌜ Placing (now block) s k ⌝ }
+    ensures { λ r. ⌜ outcome (placedSays r) (now (block .exit) ∷ []) ≡ answering s (editCall 2 setLimit (now (block .entry)) s (s + k - 1) (some [])) ⌝ }
+{
+    let n = searches::count_of(block);
+    let mut new = [s, s + (k - 1)];
+    if edits::put_value(block, &mut new, n, blocks::SET_LIMIT) {
+        return Placed::At(s);
+    }
+    Placed::Refused(answers::refusal_of(5, 0))
+}
+
+// The place of `fit`, with the k numbers from it on inserted.
+fn reserve(block: &mut [u64], a: u64, b: u64, k: u64, shortest: bool) -> Placed
+    ensures { λ r. ⌜ outcome (placedSays r) (now (block .exit) ∷ []) ≡ reserveCall (fitter shortest) (now (block .entry)) a b k ⌝ }
+{
+    let place = fit(block, a, b, k, shortest);
+    match place {
+        Placed::At(s) => reserve_at(block, s, k),
+        Placed::Refused(f) => Placed::Refused(f),
+    }
+}
+
+// The least start of k numbers of the window a..b that are all free.
+pub fn first_fit(block: &[u64], a: u64, b: u64, k: u64) -> Placed
+    ensures { λ r. ⌜ outcome (placedSays r) [] ≡ firstFitCall (now (block .entry)) a b k ⌝ }
+{
+    fit(block, a, b, k, false)
+}
+
+// The low end of the shortest gap of the window a..b with at least k numbers, the lowest such gap on a tie.
+pub fn best_fit(block: &[u64], a: u64, b: u64, k: u64) -> Placed
+    ensures { λ r. ⌜ outcome (placedSays r) [] ≡ bestFitCall (now (block .entry)) a b k ⌝ }
+{
+    fit(block, a, b, k, true)
+}
+
+// Makes the k numbers from the first fit on members, and answers it.
+pub fn reserve_first(block: &mut [u64], a: u64, b: u64, k: u64) -> Placed
+    ensures { λ r. ⌜ outcome (placedSays r) (now (block .exit) ∷ []) ≡ reserveFirstCall (now (block .entry)) a b k ⌝ }
+{
+    reserve(block, a, b, k, false)
+}
+
+// Makes the k numbers from the best fit on members, and answers it.
+pub fn reserve_best(block: &mut [u64], a: u64, b: u64, k: u64) -> Placed
+    ensures { λ r. ⌜ outcome (placedSays r) (now (block .exit) ∷ []) ≡ reserveBestCall (now (block .entry)) a b k ⌝ }
+{
+    reserve(block, a, b, k, true)
+}
