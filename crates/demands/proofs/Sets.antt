@@ -11,7 +11,7 @@ use lib.ListN.{length}
 use borrow.Author.Tests.{eqb-false}
 use Rattle.entries.proofs.Plain.{mark-empty, set-canonical, listed-plain, plain-marks}
 use Rattle.entries.proofs.Sets.{has-mark, SetOf, union-is, intersection-is, difference-is, symmetric-is, complement-is}
-use Rattle.operations.specs.Calls.{Layout, fromTwo, fromOne}
+use Rattle.operations.specs.Calls.{Layout, fromTwo, fromOne, setLayout}
 use Rattle.entries.specs.Entries.{Value, Entry, valueAt}
 use Rattle.entries.specs.Build.{pick, andb, put, with}
 use Rattle.entries.specs.Sets.{has, mark, M, Plain, member, orb, lessb, xorb, union, intersection, difference, symmetricDifference, complement}
@@ -25,7 +25,7 @@ use Rattle.blocks.proofs.Judging.{verdict-sound}
 use Rattle.blocks.proofs.Canonical.{Zeros, block-is}
 use Rattle.blocks.specs.Calls.{stored}
 use Rattle.edits.specs.Calls.{editCall}
-use Rattle.sets.specs.Calls.{setLayout, insertCall, removeCall, makeEmptyCall, unionCall, intersectionCall, differenceCall, symmetricDifferenceCall, complementCall}
+use Rattle.sets.specs.Calls.{insertCall, removeCall, makeEmptyCall, unionCall, intersectionCall, differenceCall, symmetricDifferenceCall, complementCall}
 use Rattle.sets.proofs.Asking.{entries-plain}
 use Rattle.demands.proofs.Accepting.{Keeps, judged-keeps, pick-keeps, stored-keeps, judged-accepted, picked-accepted, SetLeft, set-left}
 

@@ -6,11 +6,11 @@ use mathlib.Core.List.{List, [], _∷_}
 use Prim.Native.Nat.{ℕ, suc}
 use lib.Dec.{eqb}
 use Rattle.entries.specs.Build.{pick, andb, sameWords, put}
-use Rattle.entries.specs.Sets.{M, union, intersection, difference, symmetricDifference, complement}
+use Rattle.entries.specs.Sets.{M, complement}
 use Rattle.answers.specs.Answers.{Answer, given, refused, Outcome, outcome}
 use Rattle.blocks.specs.Blocks.{blockOf, verdict}
 use Rattle.edits.specs.Calls.{editCall}
-use Rattle.sets.specs.Calls.{makeEmptyCall, memberCall, rangeAtCall, sizeCall, leastMemberCall, leastNonMemberCall, insertCall, removeCall, unionCall, complementCall, equalCall, withinCall, disjointCall}
+use Rattle.sets.specs.Calls.{memberCall, sizeCall, leastNonMemberCall, insertCall, removeCall, complementCall}
 
 pub record Case : Type 0 where
   pub got : Outcome

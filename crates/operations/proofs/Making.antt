@@ -9,8 +9,7 @@ use lib.ListN.{length, getD, drop, length-drop}
 use borrow.Author.Tests.{leb-true, leb-false, le-ltb, lt-ltb, eq-eqb, ne-eqb}
 use Rattle.answers.specs.declared.Judged.{Judged}
 use Rattle.sweeps.specs.declared.Plan.{Plan}
-use Rattle.sweeps.specs.Sweeps.{Inputs, result, Fit, Input}
-use Rattle.sweeps.specs.Cursors.{resultOf}
+use Rattle.sweeps.specs.Sweeps.{Inputs, result, Fit, Input, resultOf}
 use Rattle.entries.specs.Entries.{Entry, Sound}
 use Rattle.entries.specs.Build.{pick}
 use Rattle.answers.specs.Answers.{Outcome, outcome, given, refuse, judged as judgedBy}
@@ -20,7 +19,7 @@ use Rattle.blocks.specs.Blocks.{capacity, blockOf, entriesOf, verdict, SoundBlo
 use Rattle.blocks.specs.Calls.{stored, writable}
 use Rattle.blocks.proofs.Judging.{verdict-sound, room, verdict-most}
 use Rattle.blocks.proofs.Words.{Shaped, items-shaped, items-length}
-use Rattle.sweeps.proofs.Tables.{input, bounded}
+use Rattle.sweeps.proofs.Tables.{none-input, input, bounded}
 use Rattle.operations.specs.Calls.{Layout, fromTwo, fromOne}
 use Rattle.operations.specs.Steps.{AnyOk, StoreOk, Wrote, TwoFit, OneFit}
 
@@ -33,14 +32,6 @@ wrote-yes s limit es o o' cap r t f e q z b = record { room = f ∙ sym z ∙ q 
 
 pub wrote-no : (s limit : ℕ) (es : List Entry) (o : List ℕ) (cap : ℕ) (r t : Bool) → r ≡ false → cap ≡ capacity s limit (length o) → t ≡ leb (length es) cap → t ≡ false → Wrote s limit es o r o
 wrote-no s limit es o cap r t f e q z = record { room = f ∙ sym z ∙ q ∙ ap (leb (length es)) e; words = ap (λ (x : Bool). pick x (blockOf (length o) es) o) (sym f) }
-
--- no items
-pub none-input : Input 2 (0 ∷ [])
-none-input = record { two = omega arith; four = omega arith; some = omega arith; held = omega arith; sound = tt; words = zeros }
-  where
-    zeros : (j : ℕ) → getD (0 ∷ []) j 0 < 18446744073709551616
-    zeros zero = omega arith
-    zeros (suc j) = omega arith
 
 -- the answers of a block written
 module _ (position s limit : ℕ) (es : List Entry) (o : List ℕ) (t : Bool) (o' : List ℕ) (g : Wrote s limit es o t o') (x : Judged) where
@@ -116,7 +107,7 @@ pub one-ok : (plan : Plan) (la : ℕ) (a : List ℕ) → OneFit (plan .table) (p
     → ((j : ℕ) → getD a j 0 < 18446744073709551616) → StoreOk plan limit (n + 1) a (0 ∷ []) L
 one-ok plan la a f sa n e limit L hb hc h k wa = record {
   first = input sa (f .first) (f .first-four) wa;
-  second = rw hb none-input;
+  second = rw hb (none-input 2 (omega arith) (omega arith));
   third = hc;
   fit = rw hb (f .fit);
   most = omega (arith, f .bound (entriesOf (plan .a) a) (sa .sound) (bounded (plan .a) a wa), items-length (plan .a) (getD a 0 0) (drop 1 a));
@@ -127,7 +118,7 @@ one-ok plan la a f sa n e limit L hb hc h k wa = record {
 -- the third input is none
 module _ {plan : Plan} {limit bound : ℕ} {a b : List ℕ} {L : ℕ} (g : StoreOk plan limit bound a b L) where
   pub store-inputs : Inputs (plan .a) (plan .b) (plan .c) a b (0 ∷ [])
-  store-inputs = record { first = g .first; second = g .second; third = rw (g .third) none-input }
+  store-inputs = record { first = g .first; second = g .second; third = rw (g .third) (none-input 2 (omega arith) (omega arith)) }
 
   pub store-fit : Fit (plan .table) (plan .out) (plan .a) (plan .b) (plan .c)
   store-fit = rw (g .third) (g .fit)
@@ -155,7 +146,7 @@ one-as first out make by w o e = ap (λ (l : List Entry). judgedBy (verdict (fir
 
 module _ {plan : Plan} {a b : List ℕ} (g : AnyOk plan a b) where
   pub any-inputs : Inputs (plan .a) (plan .b) (plan .c) a b (0 ∷ [])
-  any-inputs = record { first = g .first; second = g .second; third = rw (g .third) none-input }
+  any-inputs = record { first = g .first; second = g .second; third = rw (g .third) (none-input 2 (omega arith) (omega arith)) }
 
   pub any-fit : Fit (plan .table) (plan .out) (plan .a) (plan .b) (plan .c)
   any-fit = rw (g .third) (g .fit)

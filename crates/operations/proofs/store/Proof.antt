@@ -2,7 +2,7 @@ use denote.Ref.{now}
 use mathlib.Core.Path.{refl, sym, _∙_, ap}
 use lib.ListN.{length}
 use borrow.Author.Tests.{leb-true}
-use Rattle.sweeps.specs.Cursors.{resultOf}
+use Rattle.sweeps.specs.Sweeps.{resultOf}
 use Rattle.operations.proofs.Making.{has-room, wrote-yes, wrote-no}
 use native.Mathlib.Omega.{arith}
 use borrow.Author.Needs.{needs}

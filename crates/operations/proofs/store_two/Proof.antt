@@ -1,4 +1,4 @@
-use Rattle.operations.proofs.Making.{none-input, store-inputs, store-fit, store-most}
+use Rattle.operations.proofs.Making.{store-inputs, store-fit, store-most}
 use native.Mathlib.Omega.{arith}
 use borrow.Author.Needs.{needs}
 use Rattle.operations.proofs.store_two.Statement.{statement}
