@@ -1,11 +1,16 @@
 -- One list has one block of each length: reading a stored block, and the block of a sound one with zeros after it.
 use mathlib.Core.Path.{_≡_, refl, sym, _∙_, ap, ap₂}
+use mathlib.Core.Option.{Option, none, some}
 use mathlib.Core.List.{List, [], _∷_, _++_}
 use Prim.Native.Nat.{ℕ, _+_, _*_, _-_, _≤_, _<_}
 use native.Mathlib.Omega.{arith}
+use native.Mathlib.Decide.{decLt}
 use lib.ListN.{length, getD, take, drop, replicate, length-append, length-replicate, length-drop, take-append-drop}
 use lib.Seq.{drop-cons, drop-drop, length-take-le}
-use Rattle.entries.specs.Entries.{Entry, Sound}
+use Rattle.entries.specs.Entries.{Value, valueAt, ListOf, Entry, Sound}
+use Rattle.entries.proofs.Canon.{none≢some}
+use Rattle.entries.proofs.Sides.{Side, under, past, side, val-in, val-under, val-past, none-upto}
+use Rattle.entries.proofs.Sides.{inside}
 use Rattle.entries.specs.Sets.{Plain}
 use Rattle.blocks.specs.Blocks.{entriesOf, wordsOf, blockOf, capacity, verdict, SoundBlock}
 use Rattle.blocks.proofs.Words.{Shaped, words-length, items-length, read-back, write-back}
@@ -62,3 +67,27 @@ block-is s limit w two b z =
 
     held : length (take (s * n) (drop 1 w)) ≡ s * n
     held = length-take-le (s * n) (drop 1 w) (omega (arith, fits, length-drop 1 w))
+
+-- VALUES of s - 2 words: entry by entry, and number by number
+pub shaped-value : (s : ℕ) (es : List Entry) → Shaped s es → (x : ℕ) (v : Value) → valueAt es x ≡ some v → 2 + length v ≡ s
+shaped-value s [] h x v q = absurd (none≢some none v refl q)
+shaped-value s (e ∷ es) h x v q = go (side e x) (shaped-value s es (h .1) x v)
+  where
+    go : Side e x → (valueAt es x ≡ some v → 2 + length v ≡ s) → 2 + length v ≡ s
+    go (under p) ih = ih (sym (val-under e es x p) ∙ q)
+    go (inside p r) ih = let w : some (e .value) ≡ some v = sym (val-in e es x p r) ∙ q in let u : e .value ≡ v = cc in ap (λ (l : List ℕ). 2 + length l) (sym u) ∙ h .0
+    go (past p) ih = ih (sym (val-past e es x p) ∙ q)
+
+pub value-shaped : (s : ℕ) (es : List Entry) → Sound es → ((x : ℕ) (v : Value) → valueAt es x ≡ some v → 2 + length v ≡ s) → Shaped s es
+value-shaped s [] t h = tt
+value-shaped s (e ∷ es) t h = (h (e .low) (e .value) (val-in e es (e .low) (omega arith) (t .0)), value-shaped s es (t .2) rest)
+  where
+    rest : (x : ℕ) (v : Value) → valueAt es x ≡ some v → 2 + length v ≡ s
+    rest x v q = go (decLt (e .high) x)
+      where
+        go : Dec (e .high < x) → 2 + length v ≡ s
+        go (yes p) = h x v (val-past e es x p ∙ q)
+        go (no p) = absurd (none≢some _ _ (none-upto e es (t .1) (t .2) x (omega arith)) q)
+
+pub listed-shaped : (s : ℕ) (F : ℕ → Option Value) (es : List Entry) → ListOf F es → ((x : ℕ) (v : Value) → F x ≡ some v → 2 + length v ≡ s) → Shaped s es
+listed-shaped s F es l h = value-shaped s es (l .sound) (λ x v q. h x v (sym (l .names x) ∙ q))

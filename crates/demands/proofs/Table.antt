@@ -6,11 +6,14 @@ use mathlib.Core.List.{List, [], _∷_}
 use Prim.Native.Nat.{ℕ, suc}
 use lib.Dec.{eqb}
 use Rattle.entries.specs.Build.{pick, andb, sameWords, put}
-use Rattle.entries.specs.Sets.{M, complement}
+use Rattle.entries.specs.Sets.{M, difference, complement}
 use Rattle.answers.specs.Answers.{Answer, given, refused, Outcome, outcome}
 use Rattle.blocks.specs.Blocks.{blockOf, verdict}
 use Rattle.edits.specs.Calls.{editCall}
 use Rattle.sets.specs.Calls.{memberCall, sizeCall, leastNonMemberCall, insertCall, removeCall, complementCall}
+use Rattle.fits.specs.Fits.{gaps, placeIn}
+use Rattle.fits.specs.Calls.{fitCall, reserveCall, firstFitCall, bestFitCall, reserveFirstCall, reserveBestCall}
+use Rattle.maps.specs.Calls.{assignCall}
 
 pub record Case : Type 0 where
   pub got : Outcome
@@ -49,6 +52,10 @@ refusing number place w = outcome (refused number place) (w ∷ [])
 abbrev answer : List ℕ → Outcome
 answer xs = outcome (given xs) []
 
+-- the set of case F
+abbrev F : List ℕ
+F = 3 ∷ 0 ∷ 3 ∷ 8 ∷ 9 ∷ 12 ∷ M ∷ []
+
 abbrev table : List Case
 table =
     -- A: empty, insert 5..9
@@ -62,6 +69,24 @@ table =
     ∷ case (complementCall (0 ∷ []) (9 ∷ 9 ∷ 9 ∷ [])) (accepted (1 ∷ 0 ∷ M ∷ []))
     ∷ case (sizeCall (1 ∷ 0 ∷ M ∷ [])) (answer (M ∷ []))
     ∷ case (leastNonMemberCall (1 ∷ 0 ∷ M ∷ []) 0) (answer [])
+    -- F: {0..3, 8..9, 12..M}, window 0..M: k = 2 first fit 4, best fit 10; k = 3 both 4; k = 5 refusal 7
+    ∷ case (firstFitCall F 0 M 2) (answer (4 ∷ []))
+    ∷ case (bestFitCall F 0 M 2) (answer (10 ∷ []))
+    ∷ case (firstFitCall F 0 M 3) (answer (4 ∷ []))
+    ∷ case (bestFitCall F 0 M 3) (answer (4 ∷ []))
+    ∷ case (firstFitCall F 0 M 5) (outcome (refused 7 0) [])
+    ∷ case (bestFitCall F 0 M 5) (outcome (refused 7 0) [])
+    -- the reservation of the best fit of 2 fills the gap 10..11 and leaves 0 in the words that come free
+    ∷ case (reserveBestCall F 0 M 2) (outcome (given (10 ∷ [])) ((2 ∷ 0 ∷ 3 ∷ 8 ∷ M ∷ 0 ∷ 0 ∷ []) ∷ []))
+    -- three words holding {5..9}: the first fit 0 is refused for want of room though 4 would join; 4 where the window begins there
+    ∷ case (reserveFirstCall (1 ∷ 5 ∷ 9 ∷ []) 0 M 1) (refusing 5 0 (1 ∷ 5 ∷ 9 ∷ []))
+    ∷ case (reserveFirstCall (1 ∷ 5 ∷ 9 ∷ []) 4 M 1) (outcome (given (4 ∷ [])) ((1 ∷ 4 ∷ 9 ∷ []) ∷ []))
+    -- the longest run that can be asked for, in a gap of 2^64 numbers; 4 comes before 6
+    ∷ case (bestFitCall (0 ∷ []) 0 M M) (answer (0 ∷ []))
+    ∷ case (firstFitCall (0 ∷ []) 5 4 0) (outcome (refused 4 0) [])
+    -- G: {0..9 is 1}: assign 2 to 3..5 gives three entries; then assign 1 to 3..5 gives {0..9 is 1}
+    ∷ case (assignCall (1 ∷ 0 ∷ 9 ∷ 1 ∷ 0 ∷ 0 ∷ 0 ∷ 0 ∷ 0 ∷ 0 ∷ []) 3 5 2) (accepted (3 ∷ 0 ∷ 2 ∷ 1 ∷ 3 ∷ 5 ∷ 2 ∷ 6 ∷ 9 ∷ 1 ∷ []))
+    ∷ case (assignCall (3 ∷ 0 ∷ 2 ∷ 1 ∷ 3 ∷ 5 ∷ 2 ∷ 6 ∷ 9 ∷ 1 ∷ []) 3 5 1) (accepted (1 ∷ 0 ∷ 9 ∷ 1 ∷ 0 ∷ 0 ∷ 0 ∷ 0 ∷ 0 ∷ 0 ∷ []))
     -- K: words 1, 9, 5
     ∷ case (memberCall (1 ∷ 9 ∷ 5 ∷ []) 7) (outcome (refused 3 0) [])
     ∷ case (insertCall (1 ∷ 9 ∷ 5 ∷ []) 1 2) (refusing 3 0 (1 ∷ 9 ∷ 5 ∷ []))
@@ -71,5 +96,5 @@ table =
     ∷ []
 
 pub worked : wrong 0 table ≡ []
-unfolding editCall verdict put blockOf memberCall sizeCall leastNonMemberCall complementCall complement
+unfolding editCall verdict put blockOf memberCall sizeCall leastNonMemberCall complementCall complement difference fitCall reserveCall placeIn gaps
 worked = refl

@@ -7,4 +7,3 @@ pub mod Chosen
 pub mod Runs
 pub mod Meaning
 pub mod Reserving
-pub mod Cases
