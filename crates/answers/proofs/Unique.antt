@@ -15,8 +15,10 @@ use Rattle.answers.specs.declared.Ranged.{Ranged}
 use Rattle.answers.specs.declared.Ranged.the-variants as ranged
 use Rattle.answers.specs.declared.Sized.{Sized}
 use Rattle.answers.specs.declared.Sized.the-variants as sized
+use Rattle.answers.specs.declared.Written.{Written}
+use Rattle.answers.specs.declared.Written.the-variants as written
 use Rattle.answers.specs.Answers.{Answer, given, refused, Outcome, outcome}
-use Rattle.answers.specs.Says.{numberOf, refusalOf, reasonOf, judgedSays, truthSays, foundSays, rangedSays, sizedSays}
+use Rattle.answers.specs.Says.{numberOf, refusalOf, reasonOf, judgedSays, truthSays, foundSays, rangedSays, sizedSays, writtenSays}
 use Rattle.answers.proofs.Numbers.{number-reason}
 
 abbrev answerOf : Outcome → Answer
@@ -99,3 +101,15 @@ sized-undo (sized.Refused f) = ap sized.Refused (refusal-back f)
 
 pub sized-only : (due : Outcome) (r s : Sized) (k l : List (List ℕ)) → outcome (sizedSays r) k ≡ due → outcome (sizedSays s) l ≡ due → (r ≡ s) × (k ≡ l)
 sized-only = only sizedSays sizedBack sized-undo
+
+abbrev writtenBack : Answer → Written
+writtenBack (given []) = written.Length 0
+writtenBack (given (n ∷ xs)) = written.Length n
+writtenBack (refused n p) = written.Refused (refusalOf n p)
+
+written-undo : (r : Written) → writtenBack (writtenSays r) ≡ r
+written-undo (written.Length n) = refl
+written-undo (written.Refused f) = ap written.Refused (refusal-back f)
+
+pub written-only : (due : Outcome) (r s : Written) (k l : List (List ℕ)) → outcome (writtenSays r) k ≡ due → outcome (writtenSays s) l ≡ due → (r ≡ s) × (k ≡ l)
+written-only = only writtenSays writtenBack written-undo

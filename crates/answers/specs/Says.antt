@@ -16,6 +16,8 @@ use Rattle.answers.specs.declared.Ranged.{Ranged}
 use Rattle.answers.specs.declared.Ranged.the-variants as ranged
 use Rattle.answers.specs.declared.Sized.{Sized}
 use Rattle.answers.specs.declared.Sized.the-variants as sized
+use Rattle.answers.specs.declared.Written.{Written}
+use Rattle.answers.specs.declared.Written.the-variants as written
 use Rattle.answers.specs.Answers.{Answer, given, refused}
 
 -- «no. | name»
@@ -63,6 +65,11 @@ abbrev pub sizedSays : Sized → Answer
 sizedSays sized.Empty = given []
 sizedSays (sized.LessOne n) = given (n ∷ [])
 sizedSays (sized.Refused f) = refusalSays f
+
+-- «its length is returned»
+abbrev pub writtenSays : Written → Answer
+writtenSays (written.Length n) = given (n ∷ [])
+writtenSays (written.Refused f) = refusalSays f
 
 -- The other way, for code that has a number: the reason of a number of the table.
 abbrev pub reasonOf : ℕ → Reason

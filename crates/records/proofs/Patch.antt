@@ -7,7 +7,7 @@ use native.Mathlib.Nat.{add-assoc}
 use lib.ListN.{length, take, drop, set, length-drop, length-take, length-append, take-append-drop, drop-of-length-le}
 use lib.Seq.{length-take-le, take-all, drop-drop, take-at, drop-at, sets-eq}
 use borrow.Rule.Slice.PartMut.{putMid}
-use Rattle.records.specs.Steps.{over, patch}
+use Rattle.records.specs.Numbers.{over, patch}
 
 -- a part to the end
 pub tail-part : (p : ℕ) (b : List ℕ) → take (length b - p) (drop p b) ≡ drop p b

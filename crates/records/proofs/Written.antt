@@ -6,10 +6,9 @@ use native.Mathlib.Omega.{arith}
 use lib.ListN.{length, take, drop}
 use lib.Seq.{take-at}
 use borrow.Rule.Slice.PartMut.{putMid}
-use Rattle.records.specs.Numbers.{be2}
+use Rattle.records.specs.Numbers.{be2, over, patch}
 use Rattle.records.specs.Check.{checkOf}
 use Rattle.records.specs.Records.{recordOf}
-use Rattle.records.specs.Steps.{over, patch}
 use Rattle.records.proofs.Patch.{mid-patch, mid-over, patch-over}
 
 pub check-written : (mark n sum : ℕ) (b y : List ℕ) → sum ≡ checkOf mark (take (n + 3 - 2) (drop 2 b))

@@ -1,7 +1,7 @@
 -- Numbers of 2, 4 and 8 bytes. «Numbers are big-endian.»
 use Prim.Native.Nat.{ℕ, zero, suc, _+_, _*_, _/_, _%_, _<_}
 use mathlib.Core.List.{List, [], _∷_, _++_}
-use lib.ListN.{getD}
+use lib.ListN.{length, getD, take, drop}
 
 -- every element is a byte
 abbrev pub Bytes : List ℕ → Type 0
@@ -44,3 +44,10 @@ countsIn (suc k) b q = num2 b q ∷ countsIn k b (q + 2)
 abbrev pub countBytes : List ℕ → List ℕ
 countBytes [] = []
 countBytes (n ∷ ns) = be2 n ++ countBytes ns
+
+-- vs over the front of b, and over b from p on: «Every other byte stays.»
+abbrev pub over : List ℕ → List ℕ → List ℕ
+over vs b = vs ++ drop (length vs) b
+
+abbrev pub patch : ℕ → List ℕ → List ℕ → List ℕ
+patch p vs b = take p b ++ over vs (drop p b)

@@ -23,13 +23,6 @@ abbrev pub bodyRead : Option ℕ → Body
 bodyRead none = body.Unknown
 bodyRead (some n) = body.Known n
 
--- vs over the front of b, and over b from p on
-abbrev pub over : List ℕ → List ℕ → List ℕ
-over vs b = vs ++ drop (length vs) b
-
-abbrev pub patch : ℕ → List ℕ → List ℕ → List ℕ
-patch p vs b = take p b ++ over vs (drop p b)
-
 -- an item kind of s words
 pub record ItemKind (kind s : ℕ) : Type 0 where
   pub two : 2 ≤ s

@@ -7,10 +7,10 @@ ghost use lib.Dec.{ltb};
 ghost use lib.ListN.{length, getD, take, drop};
 ghost use Rattle.entries.specs.Build.{pick, sameWords};
 ghost use Rattle.blocks.specs.Blocks.{afterb};
-ghost use Rattle.records.specs.Numbers.{num2, num4, num8, be2, be4, be8, wordsIn, wordBytes};
+ghost use Rattle.records.specs.Numbers.{num2, num4, num8, be2, be4, be8, wordsIn, wordBytes, over, patch};
 ghost use Rattle.records.specs.Check.{checkOf};
 ghost use Rattle.records.specs.Records.{bodyLength, recordOf, headVerdict, startVerdict, itemVerdict, startRecord};
-ghost use Rattle.records.specs.Steps.{bodyRead, over, patch, ItemKind, itemHere, entryOf, previous, startRead, itemRead, startNumber, itemNumber};
+ghost use Rattle.records.specs.Steps.{bodyRead, ItemKind, itemHere, entryOf, previous, startRead, itemRead, startNumber, itemNumber};
 
 // The mark of every record.
 pub const MARK: u16 = 0xC53A;

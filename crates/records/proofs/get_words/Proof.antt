@@ -3,8 +3,7 @@ use mathlib.Core.Path.{ap₂}
 use Prim.Native.Nat.{ℕ, _+_, _-_, _*_, _≤_, _<_}
 use mathlib.Core.Path.{_≡_, refl, _∙_, sym, ap}
 use lib.ListN.{length, drop, getD, length-set}
-use Rattle.records.specs.Numbers.{wordsIn, num8}
-use Rattle.records.specs.Steps.{over, patch}
+use Rattle.records.specs.Numbers.{wordsIn, num8, over, patch}
 use Rattle.records.proofs.Patch.{store-turn, patch-none}
 use Rattle.records.proofs.Numbers.{words-more}
 use borrow.Author.Needs.{needs}

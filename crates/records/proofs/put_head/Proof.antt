@@ -1,8 +1,7 @@
 use Prim.Native.Nat.{ℕ}
 use mathlib.Core.Path.{refl, _∙_, ap}
 use mathlib.Core.List.{[], _∷_}
-use Rattle.records.specs.Numbers.{be2}
-use Rattle.records.specs.Steps.{over}
+use Rattle.records.specs.Numbers.{be2, over}
 use Rattle.records.proofs.Patch.{mid-over}
 use native.Mathlib.Omega.{arith}
 use borrow.Author.Needs.{needs}
