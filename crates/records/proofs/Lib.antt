@@ -5,3 +5,4 @@ pub mod Table
 pub mod Items
 pub mod Heads
 pub mod Written
+pub mod Accepted
