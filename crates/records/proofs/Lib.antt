@@ -6,3 +6,4 @@ pub mod Items
 pub mod Heads
 pub mod Written
 pub mod Accepted
+pub mod Bounded
