@@ -148,7 +148,7 @@ module _ (start kind s limit : ℕ) (k : FormKind start kind s limit) where
     ends : trailing (7 + (8 * s + 5) * num2 (formOf start kind es) 3) (formOf start kind es) ≡ given []
     ends =
         let l : length (formOf start kind es) ≤ 7 + (8 * s + 5) * num2 (formOf start kind es) 3 =
-              omega (arith, size es h, ap (λ (n : ℕ). (8 * s + 5) * n) (count-back es)) in
+        omega (arith, size es h, ap (λ (n : ℕ). (8 * s + 5) * n) (count-back es)) in
         rw (le-ltb (7 + (8 * s + 5) * num2 (formOf start kind es) 3) (length (formOf start kind es)) l)
 
     whole : Sound es → length es ≤ limit → formVerdict start kind s limit (formOf start kind es) ≡ given []

@@ -158,9 +158,9 @@ module _ (mark kind s : ℕ) (k : ItemKind kind s) where
       let t = and-true (andb (leb (e .low) (e .high)) (follows before e)) (sinceb (some e) es) (sym (since-cons before e es) ∙ q) in
       let d : entryIn s (x ++ l) ≡ e = entry-back mark kind s e l (h .0) in
       let i : ItemAt mark kind (x ++ l) s before = record {
-            whole = record-whole mark kind (wordBytes (e .low ∷ e .high ∷ e .value)) l (8 * s) (body-length e (h .0));
-            sound = ap (λ (f : Entry). andb (leb (f .low) (f .high)) (follows before f)) d ∙ t .0;
-          } in
+        whole = record-whole mark kind (wordBytes (e .low ∷ e .high ∷ e .value)) l (8 * s) (body-length e (h .0));
+        sound = ap (λ (f : Entry). andb (leb (f .low) (f .high)) (follows before f)) d ∙ t .0;
+      } in
       let v : itemVerdict mark kind s before (x ++ l) ≡ 0 = item-zero mark kind (x ++ l) s before (k .body) i in
       let w : drop m (x ++ l) ≡ l = rest-laid mark kind (wordBytes (e .low ∷ e .high ∷ e .value)) l (8 * s) (body-length e (h .0)) in
       ap (λ (y : List ℕ). andThen (numberSays (itemVerdict mark kind s before y) p) (runVerdict mark kind s (length es) (p + m) (some (entryIn s y)) (drop m y))) a

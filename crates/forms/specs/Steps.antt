@@ -4,7 +4,10 @@ use mathlib.Core.Path.{_≡_}
 use mathlib.Core.Option.{some}
 use mathlib.Core.List.{List, []}
 use lib.ListN.{length}
-use Rattle.answers.specs.Answers.{Answer, given, refused, numberSays}
+use Rattle.answers.specs.Answers.{Answer, given, refused}
+use Rattle.answers.specs.Says.{judgedOf}
+use Rattle.answers.specs.declared.Judged.{Judged}
+use Rattle.answers.specs.declared.Judged.the-variants as judged
 use Rattle.records.specs.Records.{bodyLength}
 use Rattle.records.specs.Steps.{ItemKind}
 use Rattle.forms.specs.declared.FormRead.{FormRead}
@@ -21,10 +24,10 @@ abbrev pub formRead : Answer → ℕ → FormRead
 formRead (given xs) n = form.Good n
 formRead (refused v p) n = form.Refused v p
 
--- what such an answer says
-abbrev pub formSays : FormRead → Answer
-formSays (form.Good n) = given []
-formSays (form.Refused v p) = numberSays v p
+-- the answer of a call whose bytes were refused
+abbrev pub judgedForm : FormRead → Judged
+judgedForm (form.Good n) = judged.Accepted
+judgedForm (form.Refused v p) = judgedOf v p
 
 -- n records and their n items have the room
 pub record Fills (s n : ℕ) (b out : List ℕ) : Type 0 where

@@ -80,7 +80,7 @@ module _ (mark kind : ℕ) (b : List ℕ) where
     record-bytes =
         let m : be2 mark ≡ take 2 b = ap be2 (sym (w .marked)) ∙ two-bytes b y 0 (omega (arith, w .long)) in
         let s : be2 (checkOf mark (kind ∷ take n (drop 3 b))) ≡ take 2 (drop (n + 3) b) =
-              ap be2 (ap (checkOf mark) kind-body ∙ w .sum) ∙ two-bytes b y (n + 3) (omega (arith, w .long)) in
+        ap be2 (ap (checkOf mark) kind-body ∙ w .sum) ∙ two-bytes b y (n + 3) (omega (arith, w .long)) in
         let k : 2 + (n + 1) ≡ n + 3 = omega arith in
         let j : n + 3 + 2 ≡ n + 5 = omega arith in
         let x = take 2 b in
@@ -88,8 +88,8 @@ module _ (mark kind : ℕ) (b : List ℕ) where
         let v = take 2 (drop (n + 3) b) in
         let whole : recordOf mark kind (take n (drop 3 b)) ≡ x ++ (u ++ v) = ap₂ _++_ m (ap₂ _++_ kind-body s) in
         let last : v ++ drop (n + 5) b ≡ drop (n + 1) (drop 2 b) =
-              ap (λ (q : ℕ). v ++ drop q b) (sym j) ∙ ap (λ (l : List ℕ). v ++ l) (sym (drop-drop 2 (n + 3) b)) ∙ take-append-drop 2 (drop (n + 3) b)
-              ∙ ap (λ (q : ℕ). drop q b) (sym k) ∙ sym (drop-drop (n + 1) 2 b) in
+        ap (λ (q : ℕ). v ++ drop q b) (sym j) ∙ ap (λ (l : List ℕ). v ++ l) (sym (drop-drop 2 (n + 3) b)) ∙ take-append-drop 2 (drop (n + 3) b)
+        ∙ ap (λ (q : ℕ). drop q b) (sym k) ∙ sym (drop-drop (n + 1) 2 b) in
         sym (ap (λ (l : List ℕ). l ++ drop (n + 5) b) whole ∙ append-assoc x (u ++ v) (drop (n + 5) b)
         ∙ ap (λ (l : List ℕ). x ++ l) (append-assoc u v (drop (n + 5) b) ∙ ap (λ (l : List ℕ). u ++ l) last ∙ take-append-drop (n + 1) (drop 2 b))
         ∙ take-append-drop 2 b)
@@ -98,7 +98,7 @@ module _ (mark kind : ℕ) (b : List ℕ) where
   item-bytes y s two w =
       record-bytes y (8 * s) w
       ∙ ap (λ (l : List ℕ). recordOf mark kind l ++ drop (8 * s + 5) b)
-        (sym (words-bytes b y s 3 (omega (arith, w .long))) ∙ ap wordBytes (sym (item-words s (wordsIn s b 3) two (length-words s b 3))))
+      (sym (words-bytes b y s 3 (omega (arith, w .long))) ∙ ap wordBytes (sym (item-words s (wordsIn s b 3) two (length-words s b 3))))
 
   pub start-bytes : Bytes b → (n : ℕ) → Whole mark kind (2 * n) b → b ≡ startRecord mark kind (countsIn n b 3) ++ drop (2 * n + 5) b
   start-bytes y n w =
@@ -128,8 +128,8 @@ module _ (mark kind : ℕ) (body rest : List ℕ) where
       let l : length laid ≡ n + 5 + length rest = simp length-append (omega arith) in
       let lk : length (kind ∷ body) ≡ n + 1 = omega arith in
       let d : drop (n + 3) laid ≡ c ++ rest =
-            let k : 3 + n ≡ n + 3 = omega arith in
-            sym (ap (λ (m : ℕ). drop m laid) k) ∙ sym (drop-drop n 3 laid) ∙ ap (drop n) body-laid ∙ drop-at body (c ++ rest) n h in
+      let k : 3 + n ≡ n + 3 = omega arith in
+      sym (ap (λ (m : ℕ). drop m laid) k) ∙ sym (drop-drop n 3 laid) ∙ ap (drop n) body-laid ∙ drop-at body (c ++ rest) n h in
       let z : n + 3 + 0 ≡ n + 3 = omega arith in
       record {
         marked = div-add-mod' mark 256;

@@ -73,10 +73,11 @@ loop-less c = search needs
 
 loop-again : tie.Need-loop-again Inv-loop μ-loop
 loop-again c = let l = c .before .before .before .before .before .before in
-    let a = c .before .before .before .before .before .before .before .before .args in
-    (judge-fits (a .mark) (a .kind) (a .s) (l .loop .p) (a .bytes .now) (l .loop .first) (l .loop .before) _ (c .before .before .before .read-item .ensures) (c .before .before .before .before .before .before .before .before .pre .0) _ (c .before .a .given .1) (l .loop .inv .0),
-        l .loop .inv .1 ∙ judge-more (a .mark) (a .kind) (a .s) (l .loop .p) (a .bytes .now) (l .loop .first) (l .loop .before) _ (c .before .before .before .read-item .ensures) (c .before .before .before .before .before .before .before .before .pre .0) (l .loop .left) _ (omega arith) (c .before .a .given .1),
-        omega (arith, less-one (8 * a .s + 5) (l .loop .left) (omega arith)))
+    let a = c .before .before .before .before .before .before .before .before .args in (
+      judge-fits (a .mark) (a .kind) (a .s) (l .loop .p) (a .bytes .now) (l .loop .first) (l .loop .before) _ (c .before .before .before .read-item .ensures) (c .before .before .before .before .before .before .before .before .pre .0) _ (c .before .a .given .1) (l .loop .inv .0),
+      l .loop .inv .1 ∙ judge-more (a .mark) (a .kind) (a .s) (l .loop .p) (a .bytes .now) (l .loop .first) (l .loop .before) _ (c .before .before .before .read-item .ensures) (c .before .before .before .before .before .before .before .before .pre .0) (l .loop .left) _ (omega arith) (c .before .a .given .1),
+      omega (arith, less-one (8 * a .s + 5) (l .loop .left) (omega arith)),
+    )
 
 returns-2 : tie.Need-returns-2 Inv-loop μ-loop
 returns-2 c = let l = c .before in
