@@ -31,7 +31,7 @@ use Rattle.forms.specs.Steps.{FormKind, formRead, judgedForm, Fills}
 use Rattle.forms.specs.declared.FormRead.{FormRead}
 use Rattle.forms.specs.declared.FormRead.the-variants as form
 use Rattle.forms.proofs.Running.{Bare, passed, stopped, length-entries}
-use Rattle.forms.proofs.Forms.{form-bare, size, accepted-size}
+use Rattle.forms.proofs.Whole.{form-bare, size, made-size}
 
 -- what the judge's answer tells of the verdict
 record Told (a : Answer) (x p : ℕ) : Type 0 where
@@ -97,7 +97,7 @@ module _ (start kind s limit : ℕ) (b out : List ℕ) (v : FormRead) (e : v ≡
       -- an accepted form has its items in the bytes, and they have room
       pub read-fills : FormKind start kind s limit → Bytes b → n ≤ c → (7 ≤ length b) × (1 ≤ length out) × Fills s n (drop 7 b) (drop 1 out)
       read-fills k y l =
-          let a = accepted-size start kind s limit k b y (t .0) ∙ ap (λ (m : ℕ). 7 + (8 * s + 5) * m) count in
+          let a = made-size start kind s limit k b y (t .0) ∙ ap (λ (m : ℕ). 7 + (8 * s + 5) * m) count in
           let o : 1 ≤ length out = omega arith in
           let r = room s limit (length out) n o (omega arith) in
           (omega arith, o, record { two = k .item .two; four = k .item .four; held = omega (arith, length-drop 7 b); room = omega (arith, length-drop 1 out) })

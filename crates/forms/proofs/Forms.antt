@@ -1,169 +1,83 @@
--- The laws of the byte form: reading accepts exactly the byte forms of sound lists, the sizes, and one list has one form.
--- `start`, `kind`, `s` and `limit` are those of a set or of a map: `set-kinds`, `map-kinds`.
-use Prim.Native.Nat.{ℕ, zero, suc, _+_, _-_, _*_, _<_, _≤_}
-use mathlib.Core.List.{List, [], _∷_, _++_, append-nil}
-use mathlib.Core.Bool.{Bool, true, false}
-use mathlib.Core.Option.{Option, none, some}
+-- The laws of the byte form. `start`, `kind`, `s` and `limit` are those of sets (`set-kinds`) or of maps (`map-kinds`) in proofs/Whole.
+use Prim.Native.Nat.{ℕ, _+_, _-_, _*_, _<_, _≤_}
+use mathlib.Core.List.{List, [], _∷_, _++_}
 use mathlib.Core.Path.{_≡_, refl, sym, ap, ap₂, _∙_}
 use native.Mathlib.Omega.{arith}
-use native.Mathlib.Nat.{div-add-mod'}
-use lib.Dec.{leb, ltb, lit<, lit≤}
-use lib.ListN.{length, drop, length-append, length-drop, drop-of-length-le}
-use borrow.Author.Tests.{leb-true, le-leb, ltb-false, le-ltb}
+use lib.ListN.{length, getD, take, drop, length-take, length-drop}
+use lib.Seq.{take-at, drop-at, length-take-le}
+use borrow.Author.Tests.{le-ltb, ne-eqb}
 use Rattle.entries.specs.Entries.{Entry, Sound}
-use Rattle.entries.specs.Build.{andb, pick}
-use Rattle.entries.proofs.Values.{and-true}
-use Rattle.answers.specs.Answers.{Answer, given, refused, numberSays}
-use Rattle.blocks.specs.Blocks.{setLimit, mapLimit, wordsOf}
-use Rattle.blocks.proofs.Words.{Shaped}
-use Rattle.blocks.proofs.Judging.{sound-true, true-sound}
-use Rattle.records.specs.Numbers.{Bytes, num2, be2, countsIn, countBytes}
-use Rattle.records.specs.Records.{formMark, bodyLength, startRecord, allWithin, startVerdict}
-use Rattle.records.specs.Steps.{ItemKind}
-use Rattle.records.proofs.Heads.{pick-else}
-use Rattle.records.proofs.Accepted.{StartAt, start-inv, start-zero, start-bytes, record-whole, rest-laid, counts-back-in}
-use Rattle.records.proofs.Bounded.{start-bound}
-use Rattle.forms.specs.Runs.{runOf, entriesIn, andThen, runVerdict}
-use Rattle.forms.specs.Forms.{formOf, setForm, mapForm, formEntries, trailing, formVerdict}
+use Rattle.answers.specs.Answers.{Outcome, outcome, given}
+use Rattle.blocks.specs.Blocks.{setLimit, mapLimit, capacity, entriesOf, itemsOf, wordsOf, blockOf, SoundBlock}
+use Rattle.blocks.proofs.Words.{Shaped, items-shaped, items-length}
+use Rattle.blocks.proofs.Judging.{verdict-sound, room}
+use Rattle.records.specs.Numbers.{Bytes, over, patch}
+use Rattle.forms.specs.Forms.{formOf, formEntries, formVerdict}
+use Rattle.forms.specs.Calls.{readCall, writeCall}
 use Rattle.forms.specs.Steps.{FormKind}
-use Rattle.forms.proofs.Turns.{length-record}
-use Rattle.forms.proofs.Running.{Bare, passed, stopped, then-bare, number-bare, run-bare, then-given, both-passed, Fit, RunAt, run-inv, run-accept, run-back, length-run, length-entries, entries-shaped, entries-fit, bytes-drop}
+use Rattle.forms.proofs.Running.{Fit}
+use Rattle.forms.proofs.Whole.{made, whole, back, size, made-size}
+use Rattle.forms.proofs.Outcomes.{read-inv, write-inv, block-entries, block-verdict}
 
-pub set-kinds : FormKind 0x01 0x10 2 setLimit
-unfolding bodyLength
-set-kinds = record { item = record { two = lit≤ tt; four = lit≤ tt; body = refl }; counted = refl; small = lit< tt }
-
-pub map-kinds : FormKind 0x02 0x11 3 mapLimit
-unfolding bodyLength
-map-kinds = record { item = record { two = lit≤ tt; four = lit≤ tt; body = refl }; counted = refl; small = lit< tt }
-
--- b is the byte form of the entries es, which are sound, have s words each, are at most as many as the limit, and fit words
+-- b is the byte form of the entries es, which are sound, take s words each, are at most as many as the limit, and fit 64-bit words
 pub record Formed (start kind s limit : ℕ) (b : List ℕ) (es : List Entry) : Type 0 where
+  pub form : b ≡ formOf start kind es
   pub sound : Sound es
   pub shaped : Shaped s es
   pub within : length es ≤ limit
   pub fit : Fit (wordsOf es)
-  pub form : b ≡ formOf start kind es
-
-trailing-bare : (p : ℕ) (b : List ℕ) → Bare (trailing p b)
-trailing-bare p b = go (ltb p (length b))
-  where
-    go : (t : Bool) → Bare (pick t (refused 13 p) (given []))
-    go true = stopped (lit≤ tt) (lit≤ tt)
-    go false = passed
-
-pub form-bare : (start kind s limit : ℕ) (b : List ℕ) → Bare (formVerdict start kind s limit b)
-unfolding formVerdict
-form-bare start kind s limit b =
-    let run = runVerdict formMark kind s (num2 b 3) 7 none (drop 7 b) in
-    let end = trailing (7 + (8 * s + 5) * num2 b 3) b in
-    then-bare (numberSays (startVerdict formMark start 1 limit b) 0) (andThen run end)
-    (number-bare (startVerdict formMark start 1 limit b) 0 (start-bound formMark start 1 limit b))
-    (then-bare run end (run-bare formMark kind s (num2 b 3) 7 none (drop 7 b)) (trailing-bare (7 + (8 * s + 5) * num2 b 3) b))
-
-no-trailing : (p : ℕ) (b : List ℕ) → trailing p b ≡ given [] → length b ≤ p
-no-trailing p b e = go (ltb p (length b)) refl e
-  where
-    go : (t : Bool) → ltb p (length b) ≡ t → pick t (refused 13 p) (given []) ≡ given [] → length b ≤ p
-    go true q e = absurd (let z : _≡_ {A = ℕ} 0 1 = cc in omega arith)
-    go false q e = ltb-false p (length b) q
 
 module _ (start kind s limit : ℕ) (k : FormKind start kind s limit) where
-  -- what an accepted form is made of
-  record Parts (b : List ℕ) : Type 0 where
-    begin : StartAt formMark start b 1 limit
-    run : RunAt formMark kind s (k .item) (num2 b 3) none (drop 7 b)
-    end : length b ≡ 7 + (8 * s + 5) * num2 b 3
-
-  parts : (b : List ℕ) → Bytes b → formVerdict start kind s limit b ≡ given [] → Parts b
-  unfolding formVerdict
-  parts b y e =
-      let n = num2 b 3 in
-      let end = trailing (7 + (8 * s + 5) * n) b in
-      let t = then-given (startVerdict formMark start 1 limit b) 0 (andThen (runVerdict formMark kind s n 7 none (drop 7 b)) end) e in
-      let u = both-passed end (run-bare formMark kind s n 7 none (drop 7 b)) (t .1) in
-      let i = start-inv formMark start b 1 limit (k .counted) (t .0) in
-      let r = run-inv formMark kind s (k .item) n 7 none (drop 7 b) (bytes-drop 7 b y) (u .0) in
-      record { begin = i; run = r; end = omega (arith, no-trailing (7 + (8 * s + 5) * n) b (u .1), r .long, i .whole .long, length-drop 7 b) }
-
-  within : (n : ℕ) → andb (leb n limit) true ≡ true → n ≤ limit
-  within n e = leb-true n limit (and-true (leb n limit) true e .0)
-
-  -- Only byte forms are accepted, those of the entries that are then read.
+  -- «acceptance exactly of byte forms»: only byte forms are accepted, those of the entries that are then read
   pub accepted-formed : (b : List ℕ) → Bytes b → formVerdict start kind s limit b ≡ given [] → Formed start kind s limit b (formEntries s b)
-  unfolding formOf formEntries
   accepted-formed b y e =
-      let n = num2 b 3 in
-      let p = parts b y e in
-      let es = entriesIn s n (drop 7 b) in
-      let l = length-entries s n (drop 7 b) in
-      let none-after : drop ((8 * s + 5) * n) (drop 7 b) ≡ [] = drop-of-length-le (drop 7 b) {i = (8 * s + 5) * n} (omega (arith, p .end, length-drop 7 b)) in
-      let run : drop 7 b ≡ runOf formMark kind es = p .run .bytes ∙ ap (λ (r : List ℕ). runOf formMark kind es ++ r) none-after ∙ append-nil (runOf formMark kind es) in
-      record {
-        sound = sound-true es (p .run .sound);
-        shaped = entries-shaped s n (drop 7 b) (k .item .two);
-        within = omega (arith, l, within n (p .begin .within));
-        fit = entries-fit s n (drop 7 b) (bytes-drop 7 b y) (k .item .two);
-        form = start-bytes formMark start b y 1 (p .begin .whole) ∙ ap₂ (λ (m : ℕ) (r : List ℕ). startRecord formMark start (m ∷ []) ++ r) (sym l) run;
-      }
+      let m = made start kind s limit k b y e in
+      record { form = m .form; sound = m .sound; shaped = m .shaped; within = m .within; fit = m .fit }
 
-  count-back : (es : List Entry) → num2 (formOf start kind es) 3 ≡ length es
-  unfolding formOf
-  count-back es = div-add-mod' (length es) 256
-
-  -- «Sizes: set 7+21n, map 7+29n»: (8 * 2 + 5) is 21, (8 * 3 + 5) is 29
-  pub size : (es : List Entry) → Shaped s es → length (formOf start kind es) ≡ 7 + (8 * s + 5) * length es
-  unfolding formOf
-  size es h =
-      length-append (startRecord formMark start (length es ∷ [])) (runOf formMark kind es)
-      ∙ omega (arith, length-record formMark start (countBytes (length es ∷ [])), length-run formMark kind s (k .item) es h)
-
-  -- the form of es, taken apart
-  module _ (es : List Entry) (h : Shaped s es) where
-    dropped : drop 7 (formOf start kind es) ≡ runOf formMark kind es
-    unfolding formOf
-    dropped = rest-laid formMark start (countBytes (length es ∷ [])) (runOf formMark kind es) 2 refl
-
-    back : formEntries s (formOf start kind es) ≡ es
-    unfolding formEntries
-    back =
-        ap₂ (entriesIn s) (count-back es) (dropped ∙ sym (append-nil (runOf formMark kind es)))
-        ∙ run-back formMark kind s (k .item) es [] h
-
-    starts : length es ≤ limit → startVerdict formMark start 1 limit (formOf start kind es) ≡ 0
-    unfolding formOf
-    starts l =
-        let b = formOf start kind es in
-        start-zero formMark start b 1 limit (k .counted)
-        (record {
-          whole = record-whole formMark start (countBytes (length es ∷ [])) (runOf formMark kind es) 2 refl;
-          within = ap (allWithin limit) (counts-back-in formMark start (length es ∷ []) (runOf formMark kind es)) ∙ rw (le-leb (length es) limit l);
-        })
-
-    runs : Sound es → runVerdict formMark kind s (num2 (formOf start kind es) 3) 7 none (drop 7 (formOf start kind es)) ≡ given []
-    runs d =
-        ap₂ (λ (n : ℕ) (r : List ℕ). runVerdict formMark kind s n 7 none r) (count-back es) (dropped ∙ sym (append-nil (runOf formMark kind es)))
-        ∙ run-accept formMark kind s (k .item) 7 none es [] h (true-sound es d)
-
-    ends : trailing (7 + (8 * s + 5) * num2 (formOf start kind es) 3) (formOf start kind es) ≡ given []
-    ends =
-        let l : length (formOf start kind es) ≤ 7 + (8 * s + 5) * num2 (formOf start kind es) 3 =
-        omega (arith, size es h, ap (λ (n : ℕ). (8 * s + 5) * n) (count-back es)) in
-        rw (le-ltb (7 + (8 * s + 5) * num2 (formOf start kind es) 3) (length (formOf start kind es)) l)
-
-    whole : Sound es → length es ≤ limit → formVerdict start kind s limit (formOf start kind es) ≡ given []
-    unfolding formVerdict
-    whole d l = rw (starts l, runs d) ends
-
-  -- Every byte form of a sound list is accepted, and gives back its entries.
+  -- and each byte form is accepted, with its entries
   pub formed-accepted : (b : List ℕ) (es : List Entry) → Formed start kind s limit b es → (formVerdict start kind s limit b ≡ given []) × (formEntries s b ≡ es)
-  formed-accepted b es f =
-      (ap (formVerdict start kind s limit) (f .form) ∙ whole es (f .shaped) (f .sound) (f .within), ap (formEntries s) (f .form) ∙ back es (f .shaped))
+  formed-accepted b es f = (
+    ap (formVerdict start kind s limit) (f .form) ∙ whole start kind s limit k es (f .shaped) (f .sound) (f .within),
+    ap (formEntries s) (f .form) ∙ back start kind s limit k es (f .shaped),
+  )
 
-  -- «A made-up record count or length fails the size formulas.»
+  -- «Sizes: set 7+21n, map 7+29n»: for s = 2 and s = 3, 8 * s + 5 is 21 and 29
   pub accepted-size : (b : List ℕ) → Bytes b → formVerdict start kind s limit b ≡ given [] → length b ≡ 7 + (8 * s + 5) * length (formEntries s b)
-  accepted-size b y e = let f = accepted-formed b y e in ap length (f .form) ∙ size (formEntries s b) (f .shaped)
+  accepted-size b y e = made-size start kind s limit k b y e
 
-  -- Two lists with one form are one list.
+  -- one byte form, one list; that a list has one byte form is `formOf`
   pub one-list : (es fs : List Entry) → Shaped s es → Shaped s fs → formOf start kind es ≡ formOf start kind fs → es ≡ fs
-  one-list es fs p q e = sym (back es p) ∙ ap (formEntries s) e ∙ back fs q
+  one-list es fs p q e = sym (back start kind s limit k es p) ∙ ap (formEntries s) e ∙ back start kind s limit k fs q
+
+  -- what was read, written into enough bytes, gives back the bytes read
+  pub read-written : (b out w bytes : List ℕ) (p : ℕ) → Bytes b → readCall start kind s limit b out ≡ outcome (given []) (w ∷ [])
+      → p + length b ≤ length bytes → writeCall start kind s limit w bytes p ≡ outcome (given (length b ∷ [])) (patch p b bytes ∷ [])
+  unfolding writeCall
+  read-written b out w bytes p y e h =
+      let r = read-inv start kind s limit b out w e in
+      let m = made start kind s limit k b y (r .0) in
+      let es = formEntries s b in
+      let v = block-verdict s limit (length out) es (k .item .two) (m .shaped) (m .sound) (r .1 .some) (r .1 .fits) in
+      let i = block-entries s limit (length out) es (k .item .two) (m .shaped) in
+      let f : formOf start kind (entriesOf s (blockOf (length out) es)) ≡ b = ap (formOf start kind) i ∙ sym (m .form) in
+      rw (r .1 .block, v, f, le-ltb (length bytes) p (omega arith), le-ltb (length bytes - p) (length b) (omega arith))
+
+  -- what was written, read into enough words, gives the same words, and 0 to the end
+  pub written-read : (w bytes bytes' out : List ℕ) (p n : ℕ) → writeCall start kind s limit w bytes p ≡ outcome (given (n ∷ [])) (bytes' ∷ [])
+      → 0 < length out → length (entriesOf s w) ≤ capacity s limit (length out)
+      → readCall start kind s limit (take n (drop p bytes')) out ≡ outcome (given []) (blockOf (length out) (entriesOf s w) ∷ [])
+  unfolding readCall
+  written-read w bytes bytes' out p n e o c =
+      let t = write-inv start kind s limit w bytes p n bytes' e in
+      let d = verdict-sound s limit w (t .0) in
+      let es = entriesOf s w in
+      let l = items-length s (getD w 0 0) (drop 1 w) in
+      let h : Shaped s es = items-shaped s (k .item .two) (getD w 0 0) (drop 1 w) (omega (arith, room s limit (length w) (getD w 0 0) (d .some) (d .fits), length-drop 1 w)) in
+      let g = formOf start kind es in
+      let part : take n (drop p bytes') ≡ g =
+      ap₂ (λ (m : ℕ) (x : List ℕ). take m (drop p x)) (t .1 .count) (t .1 .laid)
+      ∙ ap (take (length g)) (drop-at (take p bytes) (over g (drop p bytes)) p (length-take-le p bytes (t .1 .above)))
+      ∙ take-at g (drop (length g) (drop p bytes)) (length g) refl in
+      let v = whole start kind s limit k es h (d .sound) (omega (arith, d .fits)) in
+      let b = back start kind s limit k es h in
+      rw (part, v, b, ne-eqb (length out) 0 (λ z. omega arith), le-ltb (capacity s limit (length out)) (length es) c)

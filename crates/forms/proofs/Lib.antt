@@ -1,7 +1,9 @@
 pub mod Turns
 pub mod Verdicts
 pub mod Running
-pub mod Forms
+pub mod Whole
 pub mod Storing
 pub mod Answering
+pub mod Outcomes
+pub mod Forms
 pub mod Cases

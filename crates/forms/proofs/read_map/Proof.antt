@@ -1,4 +1,4 @@
-use Rattle.forms.proofs.Forms.{map-kinds}
+use Rattle.forms.proofs.Whole.{map-kinds}
 use native.Mathlib.Omega.{arith}
 use borrow.Author.Needs.{needs}
 use Rattle.forms.proofs.read_map.Statement.{statement}
