@@ -26,7 +26,7 @@ pub enum FormRead {
 }
 
 // The verdict on the n item records from place `from` on; if all are good, the place behind them.
-fn judge_items(bytes: &[u8], from: usize, mark: u16, kind: u8, s: usize, n: usize) -> FormRead
+pub fn judge_items(bytes: &[u8], from: usize, mark: u16, kind: u8, s: usize, n: usize) -> FormRead
     requires { ⌜ ItemKind kind s × (from ≤ length (now bytes)) ⌝ }
     ensures { λ r. ⌜ r ≡ formRead (runVerdict mark kind s n from none (drop from (now (bytes .entry)))) (from + (8 * s + 5) * n) ⌝ }
 {
@@ -88,7 +88,7 @@ fn fill_items(bytes: &[u8], s: usize, n: usize, out: &mut [u64])
 }
 
 // Writes the n items whose words begin at the front of words as item records, at the front of the bytes.
-fn write_items(words: &[u64], s: usize, n: usize, mark: u16, kind: u8, bytes: &mut [u8])
+pub fn write_items(words: &[u64], s: usize, n: usize, mark: u16, kind: u8, bytes: &mut [u8])
     requires { ⌜ Fills s n (now bytes) (now words) ⌝ }
     ensures { λ _. ⌜ now (bytes .exit) ≡ over (runOf mark kind (itemsOf s n (now (words .entry)))) (now (bytes .entry)) ⌝ }
 {
@@ -112,7 +112,7 @@ fn put_count(out: &mut [u64], n: u64)
 }
 
 // Makes out the block of the n items whose records begin at place `from` and were judged good.
-fn store(bytes: &[u8], from: usize, s: usize, n: usize, out: &mut [u64])
+pub fn store(bytes: &[u8], from: usize, s: usize, n: usize, out: &mut [u64])
     requires { ⌜ (from ≤ length (now bytes)) × (1 ≤ length (now out)) × Fills s n (drop from (now bytes)) (drop 1 (now out)) ⌝ }
     ensures { λ _. ⌜ now (out .exit) ≡ blockOf (length (now (out .entry))) (entriesIn s n (drop from (now (bytes .entry)))) ⌝ }
 {
@@ -122,7 +122,7 @@ fn store(bytes: &[u8], from: usize, s: usize, n: usize, out: &mut [u64])
 }
 
 // The answer of a call whose bytes were refused.
-fn judged_form(v: FormRead) -> Judged
+pub fn judged_form(v: FormRead) -> Judged
     ensures { λ r. ⌜ r ≡ judgedForm v ⌝ }
 {
     match v {

@@ -13,10 +13,11 @@ use Rattle.entries.specs.Entries.{Entry}
 use Rattle.blocks.specs.Blocks.{afterb}
 use Rattle.records.specs.Records.{entryIn, follows, headVerdict, itemVerdict, startVerdict}
 use Rattle.records.specs.Numbers.{num2, num8}
-use Rattle.records.specs.Steps.{itemHere, entryOf, itemRead, startRead}
+use Rattle.records.specs.Steps.{itemHere, entryOf, itemRead, startRead, countsRead}
 use Rattle.records.specs.declared.Item.{Item}
 use Rattle.records.specs.declared.ItemRead.the-variants as item
 use Rattle.records.specs.declared.StartRead.the-variants as start
+use Rattle.records.specs.declared.CountsRead.the-variants as counts
 
 -- values of s - 2 words, one word after the other
 module _ (s v w x y : ℕ) where
@@ -111,3 +112,24 @@ module _ (mark due limit : ℕ) (b : List ℕ) where
       go : (t : Bool) → startRead (pick t 0 12) (num2 b 3) ≡ startRead (pick (andb t true) 0 12) (num2 b 3)
       go true = refl
       go false = refl
+
+pub counts-refused : (mark due limit : ℕ) (b : List ℕ) (h n m : ℕ) → h ≡ headVerdict mark due b → (h ≡ 0 → ⊥)
+    → counts.Bad h ≡ countsRead (startVerdict mark due 2 limit b) n m
+unfolding startVerdict
+counts-refused mark due limit b zero n m e z = absurd (z refl)
+counts-refused mark due limit b (suc v) n m e z = rw (← e)
+
+module _ (mark due limit : ℕ) (b : List ℕ) where
+  pub counts-content : (h n m : ℕ) → h ≡ headVerdict mark due b → h ≡ 0 → n ≡ num2 b 3 → m ≡ num2 b 5 → (t u : Bool) → leb n limit ≡ t → leb m limit ≡ u
+      → countsRead (pick (andb t u) 0 12) n m ≡ countsRead (startVerdict mark due 2 limit b) (num2 b 3) (num2 b 5)
+  unfolding startVerdict
+  counts-content h n m e z i j t u p q =
+      let k : headVerdict mark due b ≡ 0 = sym e ∙ z in
+      let r : leb (num2 b 3) limit ≡ t = ap (λ (x : ℕ). leb x limit) (sym i) ∙ p in
+      let s : leb (num2 b 5) limit ≡ u = ap (λ (x : ℕ). leb x limit) (sym j) ∙ q in
+      rw (k, r, s, i, j) (go t u)
+    where
+      go : (t u : Bool) → countsRead (pick (andb t u) 0 12) (num2 b 3) (num2 b 5) ≡ countsRead (pick (andb t (andb u true)) 0 12) (num2 b 3) (num2 b 5)
+      go true true = refl
+      go true false = refl
+      go false u = refl

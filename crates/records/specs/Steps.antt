@@ -15,6 +15,8 @@ use Rattle.records.specs.declared.Body.the-variants as body
 use Rattle.records.specs.declared.Item.{Item}
 use Rattle.records.specs.declared.StartRead.{StartRead}
 use Rattle.records.specs.declared.StartRead.the-variants as start
+use Rattle.records.specs.declared.CountsRead.{CountsRead}
+use Rattle.records.specs.declared.CountsRead.the-variants as counts
 use Rattle.records.specs.declared.ItemRead.{ItemRead}
 use Rattle.records.specs.declared.ItemRead.the-variants as item
 
@@ -45,6 +47,10 @@ abbrev pub startRead : ℕ → ℕ → StartRead
 startRead zero n = start.Good n
 startRead (suc v) n = start.Bad (suc v)
 
+abbrev pub countsRead : ℕ → ℕ → ℕ → CountsRead
+countsRead zero n m = counts.Good n m
+countsRead (suc v) n m = counts.Bad (suc v)
+
 abbrev pub itemRead : ℕ → Item → ItemRead
 itemRead zero i = item.Good i
 itemRead (suc v) i = item.Bad (suc v)
@@ -52,6 +58,10 @@ itemRead (suc v) i = item.Bad (suc v)
 abbrev pub startNumber : StartRead → ℕ
 startNumber (start.Good n) = 0
 startNumber (start.Bad v) = v
+
+abbrev pub countsNumber : CountsRead → ℕ
+countsNumber (counts.Good n m) = 0
+countsNumber (counts.Bad v) = v
 
 abbrev pub itemNumber : ItemRead → ℕ
 itemNumber (item.Good i) = 0

@@ -10,7 +10,7 @@ ghost use Rattle.blocks.specs.Blocks.{afterb};
 ghost use Rattle.records.specs.Numbers.{num2, num4, num8, be2, be4, be8, wordsIn, wordBytes, over, patch};
 ghost use Rattle.records.specs.Check.{checkOf};
 ghost use Rattle.records.specs.Records.{bodyLength, recordOf, headVerdict, startVerdict, itemVerdict, startRecord};
-ghost use Rattle.records.specs.Steps.{bodyRead, ItemKind, itemHere, entryOf, previous, startRead, itemRead, startNumber, itemNumber};
+ghost use Rattle.records.specs.Steps.{bodyRead, ItemKind, itemHere, entryOf, previous, startRead, countsRead, itemRead, startNumber, countsNumber, itemNumber};
 
 // The mark of every record.
 pub const MARK: u16 = 0xC53A;
@@ -32,6 +32,12 @@ pub struct Item {
 // What reading a start record answers: its count, or the number of the refusal.
 pub enum StartRead {
     Good(usize),
+    Bad(u8),
+}
+
+// What reading a start record with two counts answers: the counts, or the number of the refusal.
+pub enum CountsRead {
+    Good(usize, usize),
     Bad(u8),
 }
 
@@ -148,6 +154,26 @@ pub fn read_start(bytes: &[u8], mark: u16, due: u8, limit: usize) -> StartRead
     StartRead::Bad(12)
 }
 
+// The start record with two counts at the front of the bytes: its counts, each at most the limit.
+pub fn read_counts(bytes: &[u8], mark: u16, due: u8, limit: usize) -> CountsRead
+    requires { ⌜ bodyLength due ≡ some 4 ⌝ }
+    ensures { λ r. ⌜ r ≡ countsRead (startVerdict mark due 2 limit (now (bytes .entry))) (num2 (now (bytes .entry)) 3) (num2 (now (bytes .entry)) 5) ⌝ }
+{
+    let h = read_head(bytes, mark, due);
+    if h != 0 {
+        return CountsRead::Bad(h);
+    }
+    let n = blocks::wide(get2(bytes, 3));
+    let m = blocks::wide(get2(bytes, 5));
+    if limit < n {
+        return CountsRead::Bad(12);
+    }
+    if limit < m {
+        return CountsRead::Bad(12);
+    }
+    CountsRead::Good(n, m)
+}
+
 // Word j of the item record at the front of the bytes, or 0 if its s words are fewer.
 fn value_word(bytes: &[u8], s: usize, j: usize) -> u64
     requires { ⌜ 8 * s + 5 ≤ length (now bytes) ⌝ }
@@ -242,6 +268,15 @@ pub fn start_number(a: StartRead) -> u8
     }
 }
 
+pub fn counts_number(a: CountsRead) -> u8
+    ensures { λ r. ⌜ r ≡ countsNumber a ⌝ }
+{
+    match a {
+        CountsRead::Good(_, _) => 0,
+        CountsRead::Bad(v) => v,
+    }
+}
+
 pub fn item_number(a: ItemRead) -> u8
     ensures { λ r. ⌜ r ≡ itemNumber a ⌝ }
 {
@@ -323,6 +358,17 @@ pub fn write_start(bytes: &mut [u8], mark: u16, kind: u8, n: u64)
     put_head(bytes, mark, kind);
     put2(&mut bytes[3..], n);
     put_check(bytes, mark, 2);
+}
+
+// Writes a start record with two counts.
+pub fn write_counts(bytes: &mut [u8], mark: u16, kind: u8, n: u64, m: u64)
+    requires { ⌜ (n < 65536) × (m < 65536) × (9 ≤ length (now bytes)) ⌝ }
+    ensures { λ _. ⌜ now (bytes .exit) ≡ over (startRecord mark kind (n ∷ m ∷ [])) (now (bytes .entry)) ⌝ }
+{
+    put_head(bytes, mark, kind);
+    put2(&mut bytes[3..], n);
+    put2(&mut bytes[5..], m);
+    put_check(bytes, mark, 4);
 }
 
 // Writes an item record with these words.
