@@ -34,23 +34,23 @@ use Rattle.forms.proofs.Running.{Bare, passed, stopped, length-entries}
 use Rattle.forms.proofs.Whole.{form-bare, size, made-size}
 
 -- what the judge's answer tells of the verdict
-record Told (a : Answer) (x p : ℕ) : Type 0 where
-  is : a ≡ refused x p
-  least : 1 ≤ x
-  most : x ≤ 15
+pub record Told (a : Answer) (x p : ℕ) : Type 0 where
+  pub is : a ≡ refused x p
+  pub least : 1 ≤ x
+  pub most : x ≤ 15
 
-told-refused : {a : Answer} (x p q : ℕ) (v : FormRead) → Bare a → v ≡ formRead a q → v ≡ form.Refused x p → Told a x p
+pub told-refused : {a : Answer} (x p q : ℕ) (v : FormRead) → Bare a → v ≡ formRead a q → v ≡ form.Refused x p → Told a x p
 told-refused x p q v passed e g = absurd (let z : _≡_ {A = ℕ} 0 1 = cc in omega arith)
 told-refused x p q v (stopped {v = w} {p = u} h l) e g =
     let i : w ≡ x = cc in
     let j : u ≡ p = cc in
     record { is = ap₂ refused i j; least = omega arith; most = omega arith }
 
-told-good : {a : Answer} (n q : ℕ) (v : FormRead) → Bare a → v ≡ formRead a q → v ≡ form.Good n → (a ≡ given []) × (n ≡ q)
+pub told-good : {a : Answer} (n q : ℕ) (v : FormRead) → Bare a → v ≡ formRead a q → v ≡ form.Good n → (a ≡ given []) × (n ≡ q)
 told-good n q v passed e g = let k : n ≡ q = cc in (refl, k)
 told-good n q v (stopped h l) e g = absurd (let z : _≡_ {A = ℕ} 0 1 = cc in omega arith)
 
-says-refused : (x p : ℕ) → 1 ≤ x → numberSays x p ≡ refused x p
+pub says-refused : (x p : ℕ) → 1 ≤ x → numberSays x p ≡ refused x p
 says-refused zero p h = absurd (omega arith)
 says-refused (suc x) p h = refl
 

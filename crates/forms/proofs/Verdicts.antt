@@ -28,11 +28,11 @@ told-bad : (v m p n : ℕ) (r : StartRead) → r ≡ startRead v n → r ≡ sta
 told-bad zero m p n r e q = absurd (let z : _≡_ {A = ℕ} 0 1 = cc in omega arith)
 told-bad (suc v) m p n r e q = let k : suc v ≡ m = cc in ap (λ (n : ℕ). refused n p) k
 
-run-good : (a x : Answer) (p q : ℕ) (r : FormRead) → r ≡ formRead a q → r ≡ form.Good p → (andThen a x ≡ x) × (p ≡ q)
+pub run-good : (a x : Answer) (p q : ℕ) (r : FormRead) → r ≡ formRead a q → r ≡ form.Good p → (andThen a x ≡ x) × (p ≡ q)
 run-good (given xs) x p q r e g = let k : p ≡ q = cc in (refl, k)
 run-good (refused v w) x p q r e g = absurd (let z : _≡_ {A = ℕ} 0 1 = cc in omega arith)
 
-run-bad : (a x : Answer) (v p q m : ℕ) (r : FormRead) → r ≡ formRead a q → r ≡ form.Refused v p → r ≡ formRead (andThen a x) m
+pub run-bad : (a x : Answer) (v p q m : ℕ) (r : FormRead) → r ≡ formRead a q → r ≡ form.Refused v p → r ≡ formRead (andThen a x) m
 run-bad (given xs) x v p q m r e g = absurd (let z : _≡_ {A = ℕ} 0 1 = cc in omega arith)
 run-bad (refused w u) x v p q m r e g = e
 

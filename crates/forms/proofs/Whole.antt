@@ -36,7 +36,7 @@ pub map-kinds : FormKind 0x02 0x11 3 mapLimit
 unfolding bodyLength
 map-kinds = record { item = record { two = lit≤ tt; four = lit≤ tt; body = refl }; counted = refl; small = lit< tt }
 
-trailing-bare : (p : ℕ) (b : List ℕ) → Bare (trailing p b)
+pub trailing-bare : (p : ℕ) (b : List ℕ) → Bare (trailing p b)
 trailing-bare p b = go (ltb p (length b))
   where
     go : (t : Bool) → Bare (pick t (refused 13 p) (given []))
@@ -52,7 +52,7 @@ form-bare start kind s limit b =
     (number-bare (startVerdict formMark start 1 limit b) 0 (start-bound formMark start 1 limit b))
     (then-bare run end (run-bare formMark kind s (num2 b 3) 7 none (drop 7 b)) (trailing-bare (7 + (8 * s + 5) * num2 b 3) b))
 
-no-trailing : (p : ℕ) (b : List ℕ) → trailing p b ≡ given [] → length b ≤ p
+pub no-trailing : (p : ℕ) (b : List ℕ) → trailing p b ≡ given [] → length b ≤ p
 no-trailing p b e = go (ltb p (length b)) refl e
   where
     go : (t : Bool) → ltb p (length b) ≡ t → pick t (refused 13 p) (given []) ≡ given [] → length b ≤ p
