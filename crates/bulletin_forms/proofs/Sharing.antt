@@ -64,12 +64,12 @@ pub cross-found : (e f : Entry) (es fs : List Entry) → e .low ≤ f .high → 
 cross-found e f es fs h l = rw (le-leb (e .low) (f .high) h, le-leb (f .low) (e .high) l)
 
 -- a number in both
-record Common (es fs : List Entry) : Type 0 where
-  x : ℕ
-  left : member es x ≡ true
-  right : member fs x ≡ true
+pub record Common (es fs : List Entry) : Type 0 where
+  pub x : ℕ
+  pub left : member es x ≡ true
+  pub right : member fs x ≡ true
 
-inside : (e : Entry) (es : List Entry) (x : ℕ) → e .low ≤ x → x ≤ e .high → member (e ∷ es) x ≡ true
+pub inside : (e : Entry) (es : List Entry) (x : ℕ) → e .low ≤ x → x ≤ e .high → member (e ∷ es) x ≡ true
 inside e es x h l = rw (le-leb (e .low) x h, le-leb x (e .high) l)
 
 further : (e : Entry) (es : List Entry) (x : ℕ) → member es x ≡ true → member (e ∷ es) x ≡ true
@@ -128,7 +128,7 @@ module _ (x : ℕ) where
   common-cross (e ∷ es) fs p q =
       member-of e es p (λ a b. rw (meets-at e fs a b q)) (λ r. or-right (meetsb e fs) (crossb es fs) (common-cross es fs r q))
 
-some-member : (l : List Entry) (x : ℕ) → member l x ≡ true → ltb 0 (length l) ≡ true
+pub some-member : (l : List Entry) (x : ℕ) → member l x ≡ true → ltb 0 (length l) ≡ true
 some-member [] x q = absurd (true≢false (sym q))
 some-member (e ∷ l) x q = lt-ltb 0 (suc (length l)) (omega arith)
 

@@ -38,7 +38,7 @@ read-into s limit es out w e = go (eqb (length out) 0) refl (ltb (capacity s lim
         let k : w ≡ blockOf (length out) es = cc in
         record { some = omega arith; fits = ltb-false (capacity s limit (length out)) (length es) q; block = k }
 
-accepted-inv : {a : Answer} (lent : List (List ℕ)) (x : Outcome) (l : List (List ℕ)) → Bare a → accepted a lent x ≡ outcome (given []) l → (a ≡ given []) × (x ≡ outcome (given []) l)
+pub accepted-inv : {a : Answer} (lent : List (List ℕ)) (x : Outcome) (l : List (List ℕ)) → Bare a → accepted a lent x ≡ outcome (given []) l → (a ≡ given []) × (x ≡ outcome (given []) l)
 accepted-inv lent x l passed e = (refl, e)
 accepted-inv lent x l (stopped h m) e = absurd (let z : _≡_ {A = ℕ} 0 1 = cc in omega arith)
 
@@ -56,7 +56,7 @@ pub record WrittenAt (p n : ℕ) (form bytes bytes' : List ℕ) : Type 0 where
   pub count : n ≡ length form
   pub laid : bytes' ≡ patch p form bytes
 
-written-at : (p n : ℕ) (form bytes bytes' : List ℕ) → writtenAt p form bytes ≡ outcome (given (n ∷ [])) (bytes' ∷ []) → WrittenAt p n form bytes bytes'
+pub written-at : (p n : ℕ) (form bytes bytes' : List ℕ) → writtenAt p form bytes ≡ outcome (given (n ∷ [])) (bytes' ∷ []) → WrittenAt p n form bytes bytes'
 written-at p n form bytes bytes' e = go (ltb (length bytes) p) refl (ltb (length bytes - p) (length form)) refl e
   where
     go : (a : Bool) → ltb (length bytes) p ≡ a → (b : Bool) → ltb (length bytes - p) (length form) ≡ b
@@ -69,15 +69,15 @@ written-at p n form bytes bytes' e = go (ltb (length bytes) p) refl (ltb (length
         let l : bytes' ≡ patch p form bytes = cc in
         record { above = ltb-false (length bytes) p f; long = ltb-false (length bytes - p) (length form) q; count = k; laid = l }
 
-judged-inv : (v : ℕ) (lent : List (List ℕ)) (x : Outcome) (xs : List ℕ) (l : List (List ℕ)) → judged v 0 lent x ≡ outcome (given xs) l → (v ≡ 0) × (x ≡ outcome (given xs) l)
-judged-inv zero lent x xs l e = (refl, e)
-judged-inv (suc v) lent x xs l e = absurd (let z : _≡_ {A = ℕ} 0 1 = cc in omega arith)
+pub judged-inv : (v place : ℕ) (lent : List (List ℕ)) (x : Outcome) (xs : List ℕ) (l : List (List ℕ)) → judged v place lent x ≡ outcome (given xs) l → (v ≡ 0) × (x ≡ outcome (given xs) l)
+judged-inv zero place lent x xs l e = (refl, e)
+judged-inv (suc v) place lent x xs l e = absurd (let z : _≡_ {A = ℕ} 0 1 = cc in omega arith)
 
 pub write-inv : (start kind s limit : ℕ) (w bytes : List ℕ) (p n : ℕ) (bytes' : List ℕ) → writeCall start kind s limit w bytes p ≡ outcome (given (n ∷ [])) (bytes' ∷ [])
     → (verdict s limit w ≡ 0) × WrittenAt p n (formOf start kind (entriesOf s w)) bytes bytes'
 unfolding writeCall
 write-inv start kind s limit w bytes p n bytes' e =
-    let t = judged-inv (verdict s limit w) (bytes ∷ []) (writtenAt p (formOf start kind (entriesOf s w)) bytes) (n ∷ []) (bytes' ∷ []) e in
+    let t = judged-inv (verdict s limit w) 0 (bytes ∷ []) (writtenAt p (formOf start kind (entriesOf s w)) bytes) (n ∷ []) (bytes' ∷ []) e in
     (t .0, written-at p n (formOf start kind (entriesOf s w)) bytes bytes' (t .1))
 
 -- the block of sound entries is sound, and says them
