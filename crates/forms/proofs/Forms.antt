@@ -16,7 +16,7 @@ use Rattle.forms.specs.Forms.{formOf, formEntries, formVerdict}
 use Rattle.forms.specs.Calls.{readCall, writeCall}
 use Rattle.forms.specs.Steps.{FormKind}
 use Rattle.forms.proofs.Running.{Fit}
-use Rattle.forms.proofs.Whole.{made, whole, back, size, made-size}
+use Rattle.forms.proofs.Whole.{set-kinds, map-kinds, made, whole, back, size, made-size}
 use Rattle.forms.proofs.Outcomes.{read-inv, write-inv, block-entries, block-verdict}
 
 -- b is the byte form of the entries es, which are sound, take s words each, are at most as many as the limit, and fit 64-bit words
@@ -81,3 +81,11 @@ module _ (start kind s limit : ℕ) (k : FormKind start kind s limit) where
       let v = whole start kind s limit k es h (d .sound) (omega (arith, d .fits)) in
       let b = back start kind s limit k es h in
       rw (part, v, b, ne-eqb (length out) 0 (λ z. omega arith), le-ltb (capacity s limit (length out)) (length es) c)
+
+-- «set 7+21n»
+pub set-size : (b : List ℕ) → Bytes b → formVerdict 0x01 0x10 2 setLimit b ≡ given [] → length b ≡ 7 + 21 * length (formEntries 2 b)
+set-size = accepted-size 0x01 0x10 2 setLimit set-kinds
+
+-- «map 7+29n»
+pub map-size : (b : List ℕ) → Bytes b → formVerdict 0x02 0x11 3 mapLimit b ≡ given [] → length b ≡ 7 + 29 * length (formEntries 3 b)
+map-size = accepted-size 0x02 0x11 3 mapLimit map-kinds

@@ -53,7 +53,7 @@ pub fn judge_items(bytes: &[u8], from: usize, mark: u16, kind: u8, s: usize, n: 
 }
 
 // The verdict on the bytes as a whole form; if they are one, its count.
-fn judge_form(bytes: &[u8], start: u8, kind: u8, s: usize, limit: usize) -> FormRead
+pub fn judge_form(bytes: &[u8], start: u8, kind: u8, s: usize, limit: usize) -> FormRead
     requires { ⌜ FormKind start kind s limit ⌝ }
     ensures { λ r. ⌜ r ≡ formRead (formVerdict start kind s limit (now (bytes .entry))) (num2 (now (bytes .entry)) 3) ⌝ }
 {

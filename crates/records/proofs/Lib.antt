@@ -7,3 +7,4 @@ pub mod Heads
 pub mod Written
 pub mod Accepted
 pub mod Bounded
+pub mod Cases

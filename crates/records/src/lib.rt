@@ -47,12 +47,14 @@ pub enum ItemRead {
     Bad(u8),
 }
 
+// A byte as a word.
 fn wide(x: u8) -> u64
     ensures { λ r. ⌜ (r ≡ x) × (r < 256) ⌝ }
 {
     x as u64
 }
 
+// A number of 2 bytes as a word.
 fn wide2(x: u16) -> u64
     ensures { λ r. ⌜ (r ≡ x) × (r < 65536) ⌝ }
 {
@@ -75,7 +77,7 @@ pub fn check_of(bytes: &[u8], mark: u16) -> u64
     b % 255 * 256 + a % 255
 }
 
-// The number of 2, 4, 8 bytes at place q.
+// The number of 2 bytes at place q.
 pub fn get2(bytes: &[u8], q: usize) -> u64
     requires { ⌜ q + 2 ≤ length (now bytes) ⌝ }
     ensures { λ r. ⌜ (r ≡ num2 (now (bytes .entry)) q) × (r < 65536) ⌝ }
@@ -83,6 +85,7 @@ pub fn get2(bytes: &[u8], q: usize) -> u64
     wide(bytes[q]) * 256 + wide(bytes[q + 1])
 }
 
+// The number of 4 bytes at place q.
 fn get4(bytes: &[u8], q: usize) -> u64
     requires { ⌜ q + 4 ≤ length (now bytes) ⌝ }
     ensures { λ r. ⌜ (r ≡ num4 (now (bytes .entry)) q) × (r < 4294967296) ⌝ }
@@ -90,6 +93,7 @@ fn get4(bytes: &[u8], q: usize) -> u64
     get2(bytes, q) * 65536 + get2(bytes, q + 2)
 }
 
+// The number of 8 bytes at place q.
 pub fn get8(bytes: &[u8], q: usize) -> u64
     requires { ⌜ q + 8 ≤ length (now bytes) ⌝ }
     ensures { λ r. ⌜ r ≡ num8 (now (bytes .entry)) q ⌝ }
@@ -258,7 +262,7 @@ pub fn read_item(bytes: &[u8], mark: u16, kind: u8, s: usize, first: bool, befor
     ItemRead::Bad(12)
 }
 
-// The number of a refusal, 0 for a good record.
+// The number of a start record's refusal, 0 for a good one.
 pub fn start_number(a: StartRead) -> u8
     ensures { λ r. ⌜ r ≡ startNumber a ⌝ }
 {
@@ -268,6 +272,7 @@ pub fn start_number(a: StartRead) -> u8
     }
 }
 
+// The number of the refusal of a start record with two counts, 0 for a good one.
 pub fn counts_number(a: CountsRead) -> u8
     ensures { λ r. ⌜ r ≡ countsNumber a ⌝ }
 {
@@ -277,6 +282,7 @@ pub fn counts_number(a: CountsRead) -> u8
     }
 }
 
+// The number of an item record's refusal, 0 for a good one.
 pub fn item_number(a: ItemRead) -> u8
     ensures { λ r. ⌜ r ≡ itemNumber a ⌝ }
 {
@@ -286,7 +292,7 @@ pub fn item_number(a: ItemRead) -> u8
     }
 }
 
-// Writes a number of 2, 4, 8 bytes at the front.
+// Writes a number of 2 bytes at the front.
 fn put2(bytes: &mut [u8], v: u64)
     requires { ⌜ (v < 65536) × (2 ≤ length (now bytes)) ⌝ }
     ensures { λ _. ⌜ now (bytes .exit) ≡ over (be2 v) (now (bytes .entry)) ⌝ }
@@ -295,6 +301,7 @@ fn put2(bytes: &mut [u8], v: u64)
     bytes[1] = (v % 256) as u8;
 }
 
+// Writes a number of 4 bytes at the front.
 fn put4(bytes: &mut [u8], v: u64)
     requires { ⌜ (v < 4294967296) × (4 ≤ length (now bytes)) ⌝ }
     ensures { λ _. ⌜ now (bytes .exit) ≡ over (be4 v) (now (bytes .entry)) ⌝ }
@@ -303,6 +310,7 @@ fn put4(bytes: &mut [u8], v: u64)
     put2(&mut bytes[2..], v % 65536);
 }
 
+// Writes a number of 8 bytes at the front.
 fn put8(bytes: &mut [u8], v: u64)
     requires { ⌜ 8 ≤ length (now bytes) ⌝ }
     ensures { λ _. ⌜ now (bytes .exit) ≡ over (be8 v) (now (bytes .entry)) ⌝ }
@@ -311,6 +319,7 @@ fn put8(bytes: &mut [u8], v: u64)
     put4(&mut bytes[4..], v % 4294967296);
 }
 
+// Writes one byte at the front.
 fn put_byte(bytes: &mut [u8], v: u8)
     requires { ⌜ 1 ≤ length (now bytes) ⌝ }
     ensures { λ _. ⌜ now (bytes .exit) ≡ over (v ∷ []) (now (bytes .entry)) ⌝ }
