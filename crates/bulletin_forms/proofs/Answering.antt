@@ -4,13 +4,12 @@ use mathlib.Core.List.{List, [], _∷_, _++_, append-assoc}
 use mathlib.Core.Bool.{Bool, true, false}
 use mathlib.Core.Path.{_≡_, refl, sym, ap, ap₂, _∙_}
 use native.Mathlib.Omega.{arith}
-use lib.Dec.{ltb, eqb, lit≤}
+use lib.Dec.{ltb, lit≤}
 use lib.ListN.{length, getD, take, drop, length-drop, length-append}
 use borrow.Author.Tests.{lt-ltb, le-ltb, eq-eqb, ne-eqb}
 use borrow.Rule.Slice.PartMut.{putMid}
 use Rattle.entries.specs.Entries.{Entry}
-use Rattle.entries.specs.Build.{pick}
-use Rattle.answers.specs.Answers.{Answer, given, refused, numberSays, Outcome, outcome}
+use Rattle.answers.specs.Answers.{Answer, given, refused, outcome}
 use Rattle.answers.specs.Says.{judgedSays, judgedOf, writtenSays, refusalOf}
 use Rattle.answers.specs.declared.Judged.{Judged}
 use Rattle.answers.specs.declared.Judged.the-variants as judged
@@ -28,11 +27,11 @@ use Rattle.forms.specs.Calls.{accepted, writtenAt}
 use Rattle.forms.specs.Steps.{formRead, judgedForm, Fills}
 use Rattle.forms.specs.declared.FormRead.{FormRead}
 use Rattle.forms.specs.declared.FormRead.the-variants as form
-use Rattle.forms.proofs.Running.{Bare, length-entries, length-run}
+use Rattle.forms.proofs.Running.{length-entries, length-run}
 use Rattle.forms.proofs.Answering.{told-refused, told-good, says-refused, verdict-bound}
 use Rattle.bulletin_forms.specs.Bulletins.{bulletinForm, withdrawnAt, releasedIn, withdrawnIn, shareb, bulletinVerdict}
 use Rattle.bulletin_forms.specs.Calls.{readTwo, readBulletinCall, writeBulletinCall}
-use Rattle.bulletin_forms.proofs.Verdicts.{released-kind, withdrawn-kind, bulletin-bare}
+use Rattle.bulletin_forms.proofs.Verdicts.{released-kind, bulletin-bare}
 use Rattle.bulletin_forms.proofs.Whole.{Parts, parts, size}
 
 held-there : (b : List ℕ) (p m : ℕ) → length b ≡ p + 21 * m → (p ≤ length b) × (21 * m ≤ length (drop p b))

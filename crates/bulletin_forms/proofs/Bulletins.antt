@@ -1,6 +1,6 @@
 -- The laws of a bulletin's byte form.
-use Prim.Native.Nat.{ℕ, zero, suc, _+_, _-_, _*_, _<_, _≤_}
-use mathlib.Core.List.{List, [], _∷_, _++_}
+use Prim.Native.Nat.{ℕ, _+_, _-_, _*_, _<_, _≤_}
+use mathlib.Core.List.{List, [], _∷_}
 use mathlib.Core.Bool.{Bool, true, false}
 use mathlib.Core.Path.{_≡_, refl, sym, ap, ap₂, _∙_}
 use native.Mathlib.Omega.{arith}
@@ -13,21 +13,21 @@ use Rattle.entries.specs.Build.{andb, pick}
 use Rattle.entries.specs.Sets.{member, intersection}
 use Rattle.entries.proofs.Values.{and-true}
 use Rattle.entries.proofs.Sets.{intersection-is}
-use Rattle.answers.specs.Answers.{Answer, Outcome, outcome, given, refused, refuse}
-use Rattle.blocks.specs.Blocks.{setLimit, capacity, entriesOf, itemsOf, wordsOf, blockOf, verdict, SoundBlock}
+use Rattle.answers.specs.Answers.{Outcome, outcome, given, refuse}
+use Rattle.blocks.specs.Blocks.{setLimit, capacity, entriesOf, wordsOf, blockOf, verdict, SoundBlock}
 use Rattle.blocks.proofs.Words.{Shaped, items-shaped, items-length}
 use Rattle.blocks.proofs.Judging.{verdict-sound, room}
 use Rattle.records.specs.Numbers.{Bytes, num2, over, patch}
 use Rattle.forms.specs.Runs.{entriesIn}
 use Rattle.forms.specs.Calls.{writtenAt}
 use Rattle.forms.proofs.Running.{Fit, length-entries, entries-shaped, entries-fit, bytes-drop}
-use Rattle.forms.proofs.Outcomes.{accepted-inv, judged-inv, WrittenAt, written-at, block-entries, block-verdict}
+use Rattle.forms.proofs.Outcomes.{accepted-inv, judged-inv, written-at, block-entries, block-verdict}
 use Rattle.blocks.proofs.Judging.{sound-true}
 use Rattle.bulletin_forms.specs.Bulletins.{bulletinForm, withdrawnAt, releasedIn, withdrawnIn, shareb, bulletinVerdict}
 use Rattle.bulletin_forms.specs.Calls.{readTwo, readBulletinCall, writeBulletinCall}
 use Rattle.bulletin_forms.proofs.Sharing.{Common, inside, some-member}
 use Rattle.bulletin_forms.proofs.Verdicts.{bulletin-bare}
-use Rattle.bulletin_forms.proofs.Whole.{Parts, parts, made, counts-within, size, back, back-too, whole}
+use Rattle.bulletin_forms.proofs.Whole.{parts, made, counts-within, size, back, back-too, whole}
 
 -- «share a number»: what `shareb` says
 pub shared-number : (r w : List Entry) → shareb r w ≡ true → Common r w

@@ -1,18 +1,18 @@
 -- Two sound lists share a number: pair by pair, by a walk along both, and by their intersection.
-use Prim.Native.Nat.{ℕ, zero, suc, _+_, _-_, _*_, _<_, _≤_, max}
-use mathlib.Core.List.{List, [], _∷_, _++_}
+use Prim.Native.Nat.{ℕ, suc, _-_, _<_, _≤_, max}
+use mathlib.Core.List.{List, [], _∷_}
 use mathlib.Core.Bool.{Bool, true, false}
 use mathlib.Core.Option.{Option, none, some}
 use mathlib.Core.Path.{_≡_, refl, sym, ap, ap₂, _∙_}
 use native.Mathlib.Omega.{arith}
-use lib.Dec.{leb, ltb, lit<}
+use lib.Dec.{leb, ltb}
 use lib.ListN.{length}
-use borrow.Author.Tests.{leb-true, leb-false, le-leb, lt-leb, lt-ltb}
-use Rattle.entries.specs.Entries.{Value, Entry, entry, Sound, at, both, orElse, valueAt}
-use Rattle.entries.specs.Build.{andb, pick}
+use borrow.Author.Tests.{leb-true, le-leb, lt-leb, lt-ltb}
+use Rattle.entries.specs.Entries.{Value, Entry, Sound, at, both, orElse, valueAt}
+use Rattle.entries.specs.Build.{andb}
 use Rattle.entries.specs.Sets.{has, orb, member, intersection}
 use Rattle.entries.proofs.Values.{true≢false, and-true}
-use Rattle.entries.proofs.Sets.{SetOf, set-unique, intersection-is}
+use Rattle.entries.proofs.Sets.{set-unique, intersection-is}
 use Rattle.bulletin_forms.specs.Bulletins.{shareb}
 
 -- pair by pair

@@ -1,14 +1,14 @@
 -- The verdict on a whole bulletin, by the answers of its records.
 use Prim.Native.Nat.{ℕ, zero, suc, _+_, _-_, _*_, _<_, _≤_}
-use mathlib.Core.List.{List, [], _∷_}
+use mathlib.Core.List.{List, []}
 use mathlib.Core.Bool.{Bool, true, false}
 use mathlib.Core.Option.{none, some}
-use mathlib.Core.Path.{_≡_, refl, sym, ap, ap₂, _∙_}
+use mathlib.Core.Path.{_≡_, refl, sym, ap, _∙_}
 use native.Mathlib.Omega.{arith}
-use lib.Dec.{ltb, lit≤}
+use lib.Dec.{lit≤}
 use lib.ListN.{length, drop, length-drop}
 use borrow.Author.Tests.{lt-ltb, le-ltb}
-use Rattle.entries.specs.Entries.{Entry, Sound}
+use Rattle.entries.specs.Entries.{Entry}
 use Rattle.entries.specs.Build.{pick}
 use Rattle.answers.specs.Answers.{Answer, given, refused, numberSays}
 use Rattle.blocks.specs.Blocks.{setLimit}
@@ -25,7 +25,7 @@ use Rattle.forms.specs.Forms.{trailing}
 use Rattle.forms.specs.Steps.{formRead}
 use Rattle.forms.specs.declared.FormRead.{FormRead}
 use Rattle.forms.specs.declared.FormRead.the-variants as form
-use Rattle.forms.proofs.Running.{Bare, passed, stopped, then-bare, number-bare, run-bare, both-passed, RunAt, run-inv, bytes-drop}
+use Rattle.forms.proofs.Running.{Bare, passed, stopped, then-bare, number-bare, run-bare, RunAt, run-inv, bytes-drop}
 use Rattle.forms.proofs.Whole.{trailing-bare}
 use Rattle.forms.proofs.Verdicts.{run-good, run-bad}
 use Rattle.bulletin_forms.specs.Bulletins.{bulletinVerdict, releasedIn, withdrawnIn, shareb, overlap}

@@ -1,32 +1,32 @@
 -- Whole bulletins: what an accepted form is made of, and the form of two sound lists that share no number is accepted.
-use Prim.Native.Nat.{ℕ, zero, suc, _+_, _-_, _*_, _<_, _≤_}
-use mathlib.Core.List.{List, [], _∷_, _++_, append-nil, append-assoc}
+use Prim.Native.Nat.{ℕ, _+_, _-_, _*_, _≤_}
+use mathlib.Core.List.{List, [], _∷_, _++_, append-nil}
 use mathlib.Core.Bool.{Bool, true, false}
-use mathlib.Core.Option.{none, some}
+use mathlib.Core.Option.{none}
 use mathlib.Core.Path.{_≡_, refl, sym, ap, ap₂, _∙_}
 use native.Mathlib.Omega.{arith}
 use native.Mathlib.Nat.{div-add-mod'}
-use lib.Dec.{leb, ltb}
+use lib.Dec.{leb}
 use lib.ListN.{length, drop, length-append, length-drop, drop-of-length-le}
 use lib.Seq.{drop-drop, drop-at}
 use borrow.Author.Tests.{leb-true, le-leb, le-ltb}
 use Rattle.entries.specs.Entries.{Entry, Sound}
 use Rattle.entries.specs.Build.{andb, pick}
 use Rattle.entries.proofs.Values.{and-true}
-use Rattle.answers.specs.Answers.{Answer, given, refused, numberSays}
-use Rattle.blocks.specs.Blocks.{setLimit, wordsOf}
+use Rattle.answers.specs.Answers.{given, refused}
+use Rattle.blocks.specs.Blocks.{setLimit}
 use Rattle.blocks.proofs.Words.{Shaped}
-use Rattle.blocks.proofs.Judging.{sound-true, true-sound}
-use Rattle.records.specs.Numbers.{Bytes, num2, countsIn, countBytes}
+use Rattle.blocks.proofs.Judging.{true-sound}
+use Rattle.records.specs.Numbers.{Bytes, num2, countBytes}
 use Rattle.records.specs.Records.{formMark, startRecord, allWithin, startVerdict}
 use Rattle.records.proofs.Accepted.{StartAt, start-inv, start-zero, start-bytes, record-whole, rest-laid, counts-back-in}
 use Rattle.forms.specs.Runs.{runOf, entriesIn, andThen, runVerdict}
 use Rattle.forms.specs.Forms.{trailing}
 use Rattle.forms.proofs.Turns.{length-record}
-use Rattle.forms.proofs.Running.{Bare, run-bare, then-given, both-passed, Fit, RunAt, run-inv, run-accept, run-back, length-run, length-entries, entries-shaped, entries-fit, bytes-drop}
+use Rattle.forms.proofs.Running.{run-bare, then-given, both-passed, RunAt, run-inv, run-accept, run-back, length-run, length-entries, bytes-drop}
 use Rattle.forms.proofs.Whole.{trailing-bare, no-trailing}
 use Rattle.bulletin_forms.specs.Bulletins.{bulletinForm, withdrawnAt, releasedIn, withdrawnIn, shareb, overlap, bulletinVerdict}
-use Rattle.bulletin_forms.proofs.Verdicts.{released-kind, withdrawn-kind, start-kind, released-run, withdrawn-run, ending, after-start}
+use Rattle.bulletin_forms.proofs.Verdicts.{released-kind, withdrawn-kind, start-kind, withdrawn-run, ending, after-start}
 
 -- what an accepted bulletin is made of
 pub record Parts (b : List ℕ) : Type 0 where

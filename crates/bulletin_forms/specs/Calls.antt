@@ -5,7 +5,7 @@ use lib.Dec.{ltb, eqb}
 use lib.ListN.{length}
 use Rattle.entries.specs.Entries.{Entry}
 use Rattle.entries.specs.Build.{pick}
-use Rattle.answers.specs.Answers.{Answer, given, refused, Outcome, outcome, refuse, judged}
+use Rattle.answers.specs.Answers.{given, Outcome, outcome, refuse, judged}
 use Rattle.blocks.specs.Blocks.{setLimit, capacity, entriesOf, blockOf, verdict}
 use Rattle.forms.specs.Calls.{accepted, writtenAt}
 use Rattle.bulletin_forms.specs.Bulletins.{bulletinForm, releasedIn, withdrawnIn, shareb, bulletinVerdict}

@@ -1,8 +1,7 @@
 -- The answers of the calls, case by case.
 use Prim.Native.Nat.{ℕ, zero, suc, _+_, _-_, _*_, _<_, _≤_}
-use mathlib.Core.List.{List, [], _∷_, _++_}
+use mathlib.Core.List.{List, [], _∷_}
 use mathlib.Core.Bool.{Bool, true, false}
-use mathlib.Core.Option.{none}
 use mathlib.Core.Path.{_≡_, refl, sym, ap, ap₂, _∙_}
 use native.Mathlib.Omega.{arith}
 use lib.Dec.{ltb, eqb, lit≤}
@@ -11,12 +10,11 @@ use borrow.Author.Tests.{lt-ltb, le-ltb, eq-eqb, ne-eqb}
 use borrow.Rule.Slice.PartMut.{putMid}
 use Rattle.entries.specs.Entries.{Entry}
 use Rattle.entries.specs.Build.{pick}
-use Rattle.answers.specs.Answers.{Answer, given, refused, numberSays, Outcome, outcome}
+use Rattle.answers.specs.Answers.{Answer, given, refused, numberSays, outcome}
 use Rattle.answers.specs.Says.{judgedSays, judgedOf, writtenSays, refusalOf}
 use Rattle.answers.specs.declared.Judged.{Judged}
 use Rattle.answers.specs.declared.Judged.the-variants as judged
 use Rattle.answers.specs.declared.Refusal.{Refusal}
-use Rattle.answers.specs.declared.Written.{Written}
 use Rattle.answers.specs.declared.Written.the-variants as written
 use Rattle.answers.proofs.Numbers.{judged-says, refusal-says}
 use Rattle.blocks.specs.Blocks.{capacity, entriesOf, itemsOf, blockOf, soundb, verdict, SoundBlock}

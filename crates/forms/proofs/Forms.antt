@@ -1,14 +1,14 @@
 -- The laws of the byte form. `start`, `kind`, `s` and `limit` are those of sets (`set-kinds`) or of maps (`map-kinds`) in proofs/Whole.
 use Prim.Native.Nat.{ℕ, _+_, _-_, _*_, _<_, _≤_}
-use mathlib.Core.List.{List, [], _∷_, _++_}
+use mathlib.Core.List.{List, [], _∷_}
 use mathlib.Core.Path.{_≡_, refl, sym, ap, ap₂, _∙_}
 use native.Mathlib.Omega.{arith}
-use lib.ListN.{length, getD, take, drop, length-take, length-drop}
+use lib.ListN.{length, getD, take, drop, length-drop}
 use lib.Seq.{take-at, drop-at, length-take-le}
 use borrow.Author.Tests.{le-ltb, ne-eqb}
 use Rattle.entries.specs.Entries.{Entry, Sound}
-use Rattle.answers.specs.Answers.{Outcome, outcome, given}
-use Rattle.blocks.specs.Blocks.{setLimit, mapLimit, capacity, entriesOf, itemsOf, wordsOf, blockOf, SoundBlock}
+use Rattle.answers.specs.Answers.{outcome, given}
+use Rattle.blocks.specs.Blocks.{setLimit, mapLimit, capacity, entriesOf, wordsOf, blockOf}
 use Rattle.blocks.proofs.Words.{Shaped, items-shaped, items-length}
 use Rattle.blocks.proofs.Judging.{verdict-sound, room}
 use Rattle.records.specs.Numbers.{Bytes, over, patch}
@@ -16,7 +16,7 @@ use Rattle.forms.specs.Forms.{formOf, formEntries, formVerdict}
 use Rattle.forms.specs.Calls.{readCall, writeCall}
 use Rattle.forms.specs.Steps.{FormKind}
 use Rattle.forms.proofs.Running.{Fit}
-use Rattle.forms.proofs.Whole.{set-kinds, map-kinds, made, whole, back, size, made-size}
+use Rattle.forms.proofs.Whole.{set-kinds, map-kinds, made, whole, back, made-size}
 use Rattle.forms.proofs.Outcomes.{read-inv, write-inv, block-entries, block-verdict}
 
 -- b is the byte form of the entries es, which are sound, take s words each, are at most as many as the limit, and fit 64-bit words

@@ -1,17 +1,16 @@
 -- What an accepted call tells of its inputs, and the block of sound entries.
-use Prim.Native.Nat.{ℕ, zero, suc, _+_, _-_, _*_, _<_, _≤_}
-use mathlib.Core.List.{List, [], _∷_, _++_}
+use Prim.Native.Nat.{ℕ, zero, suc, _+_, _-_, _<_, _≤_}
+use mathlib.Core.List.{List, [], _∷_}
 use mathlib.Core.Bool.{Bool, true, false}
-use mathlib.Core.Path.{_≡_, refl, sym, ap, ap₂, _∙_}
+use mathlib.Core.Path.{_≡_, refl}
 use native.Mathlib.Omega.{arith}
-use native.Mathlib.Nat.{mul-suc}
 use lib.Dec.{ltb, eqb}
-use lib.ListN.{length, getD, take, drop, replicate, length-append, length-replicate}
+use lib.ListN.{length, replicate, length-append, length-replicate}
 use borrow.Author.Tests.{ltb-false, eqb-false}
 use Rattle.entries.specs.Entries.{Entry, Sound}
 use Rattle.entries.specs.Build.{pick}
-use Rattle.answers.specs.Answers.{Answer, given, refused, Outcome, outcome, refuse, judged}
-use Rattle.blocks.specs.Blocks.{capacity, entriesOf, wordsOf, blockOf, verdict, SoundBlock}
+use Rattle.answers.specs.Answers.{Answer, given, Outcome, outcome, refuse, judged}
+use Rattle.blocks.specs.Blocks.{capacity, entriesOf, wordsOf, blockOf, verdict}
 use Rattle.blocks.proofs.Judging.{sound-verdict, room}
 use Rattle.blocks.proofs.Words.{Shaped, words-length, read-back}
 use Rattle.records.specs.Numbers.{patch}

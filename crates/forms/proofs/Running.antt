@@ -7,7 +7,7 @@ use mathlib.Core.Path.{_≡_, refl, sym, subst, ap, ap₂, _∙_}
 use native.Mathlib.Omega.{arith}
 use native.Mathlib.Nat.{mul-suc, mul-zero}
 use lib.Dec.{leb}
-use lib.ListN.{length, getD, drop, length-append, length-drop}
+use lib.ListN.{length, drop, length-append, length-drop}
 use lib.Seq.{drop-drop, getD-drop}
 use Rattle.entries.specs.Entries.{Entry}
 use Rattle.entries.specs.Build.{andb}
@@ -15,8 +15,8 @@ use Rattle.entries.proofs.Values.{and-true}
 use Rattle.answers.specs.Answers.{Answer, given, refused, numberSays}
 use Rattle.blocks.specs.Blocks.{linkb, soundb, wordsOf}
 use Rattle.blocks.proofs.Words.{Shaped}
-use Rattle.records.specs.Numbers.{Bytes, wordsIn, wordBytes, num8}
-use Rattle.records.specs.Records.{recordOf, itemRecord, itemVerdict, entryIn, follows}
+use Rattle.records.specs.Numbers.{Bytes, wordsIn, wordBytes}
+use Rattle.records.specs.Records.{itemRecord, itemVerdict, entryIn, follows}
 use Rattle.records.specs.Steps.{ItemKind}
 use Rattle.records.proofs.Numbers.{length-bytes, length-words, word-fits}
 use Rattle.records.proofs.Accepted.{ItemAt, item-inv, item-zero, item-bytes, item-words, record-whole, rest-laid, entry-back}

@@ -1,22 +1,21 @@
 -- The block that reading leaves, and the bytes that writing leaves.
-use Prim.Native.Nat.{ℕ, zero, suc, _+_, _-_, _*_, _<_, _≤_}
+use Prim.Native.Nat.{ℕ, zero, _+_, _-_, _*_, _<_, _≤_}
 use mathlib.Core.List.{List, [], _∷_, _++_}
 use mathlib.Core.Path.{_≡_, refl, sym, ap, ap₂, _∙_}
 use native.Mathlib.Omega.{arith}
 use native.Mathlib.Nat.{mul-comm, mul-le-mul-left}
-use lib.ListN.{length, getD, take, drop, replicate, length-append, length-drop, length-replicate, getD-replicate, take-append-drop}
+use lib.ListN.{length, getD, take, drop, replicate, length-drop, length-replicate, getD-replicate, take-append-drop}
 use lib.Seq.{ext-getD, getD-drop, take-at}
 use borrow.Rule.Slice.PartMut.{putMid}
 use Rattle.blocks.specs.Blocks.{itemsOf, wordsOf, blockOf}
 use Rattle.blocks.specs.Steps.{Cleared}
 use Rattle.blocks.proofs.Words.{words-length, items-length}
 use Rattle.blocks.proofs.Moves.{part-eq, block-path}
-use Rattle.records.specs.Numbers.{over, countBytes}
+use Rattle.records.specs.Numbers.{over}
 use Rattle.records.specs.Records.{formMark, startRecord}
 use Rattle.records.proofs.Patch.{tail-part, mid-over, length-over}
 use Rattle.forms.specs.Runs.{runOf, entriesIn}
 use Rattle.forms.specs.Forms.{formOf}
-use Rattle.forms.specs.Steps.{Fills}
 use Rattle.forms.proofs.Running.{length-entries, entries-shaped}
 
 -- words with zeros from f on

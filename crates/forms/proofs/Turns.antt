@@ -1,20 +1,18 @@
 -- One turn of each loop over a run of item records.
 use Prim.Native.Nat.{ℕ, zero, suc, _+_, _-_, _*_, _<_, _≤_}
 use mathlib.Core.List.{List, [], _∷_, _++_}
-use mathlib.Core.Bool.{Bool, true, false}
-use mathlib.Core.Option.{Option, none, some}
+use mathlib.Core.Bool.{Bool}
+use mathlib.Core.Option.{Option, some}
 use mathlib.Core.Path.{_≡_, refl, sym, ap, ap₂, _∙_}
 use native.Mathlib.Omega.{arith}
-use native.Mathlib.Nat.{add-zero}
 use lib.ListN.{length, take, drop, length-append, length-drop, length-take}
-use lib.Seq.{drop-drop, take-add, length-take-le}
+use lib.Seq.{drop-drop, take-add}
 use borrow.Rule.Slice.PartMut.{putMid}
 use Rattle.entries.specs.Entries.{Entry}
-use Rattle.answers.specs.Answers.{Answer, given, refused, numberSays}
+use Rattle.answers.specs.Answers.{Answer, refused, numberSays}
 use Rattle.blocks.specs.Blocks.{itemOf, itemsOf, wordsOf}
-use Rattle.records.specs.Numbers.{wordsIn, wordBytes, be2, over, patch}
-use Rattle.records.specs.Check.{checkOf}
-use Rattle.records.specs.Records.{itemVerdict, entryIn, recordOf, itemRecord}
+use Rattle.records.specs.Numbers.{wordsIn, wordBytes, over, patch}
+use Rattle.records.specs.Records.{itemVerdict, entryIn, recordOf}
 use Rattle.records.specs.Steps.{ItemKind, itemHere, entryOf, previous, itemRead, itemNumber}
 use Rattle.records.specs.declared.Item.{Item}
 use Rattle.records.specs.declared.ItemRead.{ItemRead}
@@ -25,7 +23,6 @@ use Rattle.records.proofs.Items.{here-entry}
 use Rattle.records.proofs.Accepted.{item-inv, item-words}
 use Rattle.forms.specs.Runs.{runOf, entriesIn, andThen, runVerdict}
 use Rattle.forms.specs.Steps.{formRead}
-use Rattle.forms.specs.declared.FormRead.{FormRead}
 use Rattle.forms.specs.declared.FormRead.the-variants as form
 
 -- what a record's answer tells of its verdict

@@ -1,8 +1,8 @@
 -- Whole forms: what an accepted form is made of, and the form of sound entries is accepted.
-use Prim.Native.Nat.{ℕ, zero, suc, _+_, _-_, _*_, _<_, _≤_}
+use Prim.Native.Nat.{ℕ, _+_, _-_, _*_, _<_, _≤_}
 use mathlib.Core.List.{List, [], _∷_, _++_, append-nil}
 use mathlib.Core.Bool.{Bool, true, false}
-use mathlib.Core.Option.{Option, none, some}
+use mathlib.Core.Option.{none}
 use mathlib.Core.Path.{_≡_, refl, sym, ap, ap₂, _∙_}
 use native.Mathlib.Omega.{arith}
 use native.Mathlib.Nat.{div-add-mod'}
@@ -12,18 +12,16 @@ use borrow.Author.Tests.{leb-true, le-leb, ltb-false, le-ltb}
 use Rattle.entries.specs.Entries.{Entry, Sound}
 use Rattle.entries.specs.Build.{andb, pick}
 use Rattle.entries.proofs.Values.{and-true}
-use Rattle.answers.specs.Answers.{Answer, given, refused, numberSays}
+use Rattle.answers.specs.Answers.{given, refused, numberSays}
 use Rattle.blocks.specs.Blocks.{setLimit, mapLimit, wordsOf}
 use Rattle.blocks.proofs.Words.{Shaped}
 use Rattle.blocks.proofs.Judging.{sound-true, true-sound}
-use Rattle.records.specs.Numbers.{Bytes, num2, be2, countsIn, countBytes}
+use Rattle.records.specs.Numbers.{Bytes, num2, countBytes}
 use Rattle.records.specs.Records.{formMark, bodyLength, startRecord, allWithin, startVerdict}
-use Rattle.records.specs.Steps.{ItemKind}
-use Rattle.records.proofs.Heads.{pick-else}
 use Rattle.records.proofs.Accepted.{StartAt, start-inv, start-zero, start-bytes, record-whole, rest-laid, counts-back-in}
 use Rattle.records.proofs.Bounded.{start-bound}
 use Rattle.forms.specs.Runs.{runOf, entriesIn, andThen, runVerdict}
-use Rattle.forms.specs.Forms.{formOf, setForm, mapForm, formEntries, trailing, formVerdict}
+use Rattle.forms.specs.Forms.{formOf, formEntries, trailing, formVerdict}
 use Rattle.forms.specs.Steps.{FormKind}
 use Rattle.forms.proofs.Turns.{length-record}
 use Rattle.forms.proofs.Running.{Bare, passed, stopped, then-bare, number-bare, run-bare, then-given, both-passed, Fit, RunAt, run-inv, run-accept, run-back, length-run, length-entries, entries-shaped, entries-fit, bytes-drop}

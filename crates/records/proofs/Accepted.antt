@@ -1,23 +1,23 @@
 -- What an accepted record says of the bytes, and the bytes of a record are accepted.
-use Prim.Native.Nat.{ℕ, zero, suc, _+_, _-_, _*_, _<_, _≤_}
+use Prim.Native.Nat.{ℕ, zero, suc, _+_, _-_, _*_, _≤_}
 use mathlib.Core.List.{List, [], _∷_, _++_, append-assoc}
 use mathlib.Core.Bool.{Bool, true, false}
-use mathlib.Core.Option.{Option, none, some}
+use mathlib.Core.Option.{Option, some}
 use mathlib.Core.Path.{_≡_, refl, sym, ap, ap₂, _∙_}
 use native.Mathlib.Omega.{arith}
 use native.Mathlib.Numerals.{add-one}
 use native.Mathlib.Nat.{div-add-mod'}
 use lib.Dec.{leb}
-use lib.ListN.{length, getD, take, drop, take-append-drop, length-append, length-drop}
-use lib.Seq.{drop-drop, drop-cons, take-add, take-at, drop-at, take-all}
+use lib.ListN.{length, take, drop, take-append-drop, length-append}
+use lib.Seq.{drop-drop, drop-cons, take-at, drop-at, take-all}
 use Rattle.entries.specs.Entries.{Entry, entry}
 use Rattle.entries.specs.Build.{pick, andb}
 use Rattle.blocks.specs.Blocks.{itemOf}
 use Rattle.records.specs.Numbers.{Bytes, num2, be2, wordsIn, wordBytes, countsIn, countBytes}
 use Rattle.records.specs.Check.{checkOf}
 use Rattle.records.specs.Records.{bodyLength, headVerdict, orNext, recordOf, startRecord, itemRecord, allWithin, startVerdict, entryIn, follows, itemVerdict}
-use Rattle.records.proofs.Heads.{Whole, head-inv, head-whole, pick-then}
-use Rattle.records.proofs.Numbers.{two-bytes, words-bytes, counts-bytes, words-drop, counts-drop, words-back, counts-back, length-words, length-bytes, length-counts, num2-drop}
+use Rattle.records.proofs.Heads.{Whole, head-inv, head-whole}
+use Rattle.records.proofs.Numbers.{two-bytes, words-bytes, counts-bytes, words-drop, counts-drop, words-back, counts-back, length-words, num2-drop}
 
 -- both verdicts of two are 0
 both-zero : (h x : ℕ) → orNext h x ≡ 0 → (h ≡ 0) × (x ≡ 0)

@@ -3,7 +3,6 @@ use Prim.Native.Nat.{ℕ, zero, suc, _+_, _≤_}
 use mathlib.Core.List.{List}
 use mathlib.Core.Bool.{Bool, true, false}
 use mathlib.Core.Option.{Option, none, some}
-use native.Mathlib.Omega.{arith}
 use lib.Dec.{leb, ltb, eqb, lit≤}
 use lib.ListN.{length, getD, take, drop}
 use Rattle.entries.specs.Entries.{Entry}

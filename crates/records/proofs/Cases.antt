@@ -1,5 +1,5 @@
 -- Published and worked checks, by computing the definition.
-use mathlib.Core.List.{[], _∷_, _++_}
+use mathlib.Core.List.{[], _∷_}
 use mathlib.Core.Path.{_≡_, refl}
 use Rattle.entries.specs.Sets.{M}
 use Rattle.records.specs.Numbers.{wordBytes}

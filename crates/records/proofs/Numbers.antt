@@ -1,14 +1,14 @@
 -- Numbers and words in bytes: shifted, read back from their bytes, and their bytes from what was read.
-use Prim.Native.Nat.{ℕ, zero, suc, _+_, _-_, _*_, _/_, _%_, _^_, _<_, _≤_}
+use Prim.Native.Nat.{ℕ, zero, suc, _+_, _-_, _*_, _^_, _<_, _≤_}
 use mathlib.Core.List.{List, [], _∷_, _++_}
 use mathlib.Core.Path.{_≡_, refl, sym, ap, ap₂, _∙_}
 use native.Mathlib.Omega.{arith}
 use native.Mathlib.Numerals.{add-one}
-use native.Mathlib.Nat.{add-assoc, div-add-mod', mul-suc}
+use native.Mathlib.Nat.{add-assoc, div-add-mod'}
 use lib.Arith.{digits-div, digits-mod}
-use lib.ListN.{length, getD, take, drop, length-append, length-drop}
+use lib.ListN.{length, getD, take, drop, length-drop}
 use lib.Seq.{drop-cons, drop-drop, getD-drop, take-add}
-use Rattle.records.specs.Numbers.{Bytes, num2, num4, num8, be2, be4, be8, wordsIn, wordBytes, countsIn, countBytes}
+use Rattle.records.specs.Numbers.{Bytes, num2, num8, be2, be4, be8, wordsIn, wordBytes, countsIn, countBytes}
 
 -- seen from q on
 pub num2-drop : (b : List ℕ) (q k : ℕ) → num2 (drop q b) k ≡ num2 b (q + k)

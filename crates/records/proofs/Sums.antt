@@ -1,7 +1,7 @@
 -- Fletcher's sums with the remainder taken once at the end.
 use Prim.Native.Nat.{ℕ, suc, _+_, _*_, _%_, _<_, _≤_}
 use mathlib.Core.List.{List}
-use mathlib.Core.Path.{_≡_, refl, sym, ap, ap₂, _∙_}
+use mathlib.Core.Path.{_≡_, sym, ap, ap₂, _∙_}
 use native.Mathlib.Numerals.{add-one}
 use native.Mathlib.Nat.{add-mod, mod-add-mod}
 use lib.ListN.{length, getD, drop, drop-of-length-le}

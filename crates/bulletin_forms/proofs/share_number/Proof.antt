@@ -1,5 +1,5 @@
-use Prim.Native.Nat.{ℕ, _+_, _*_, _≤_, _<_}
-use mathlib.Core.Path.{refl, _∙_}
+use Prim.Native.Nat.{_+_, _*_, _≤_}
+use mathlib.Core.Path.{_∙_}
 use lib.ListN.{length, getD}
 use Rattle.blocks.specs.Blocks.{setLimit}
 use Rattle.blocks.proofs.Judging.{room}

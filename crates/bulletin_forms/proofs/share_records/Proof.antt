@@ -1,4 +1,4 @@
-use Prim.Native.Nat.{ℕ, _+_, _*_, _≤_, _<_}
+use Prim.Native.Nat.{_+_, _*_, _≤_}
 use mathlib.Core.Path.{refl}
 use lib.ListN.{length}
 use Rattle.bulletin_forms.proofs.Walking.{Left, in-bytes, all-left, no-others, none-left, go-left, go-right, found}

@@ -1,5 +1,4 @@
 use Rattle.forms.proofs.Verdicts.{form-refused, form-seven, form-bad, form-trailing, form-good}
-use native.Mathlib.Omega.{arith}
 use borrow.Author.Needs.{needs}
 use Rattle.forms.proofs.judge_form.Statement.{statement}
 use Rattle.forms.proofs.judge_form.Tie as tie

@@ -1,6 +1,5 @@
 use mathlib.Core.Path.{sym, ap, _∙_}
 use Rattle.forms.specs.Steps.{judgedForm}
-use native.Mathlib.Omega.{arith}
 use borrow.Author.Needs.{needs}
 use Rattle.forms.proofs.judged_form.Statement.{statement}
 use Rattle.forms.proofs.judged_form.Tie as tie

@@ -1,6 +1,5 @@
 use mathlib.Core.List.{[], _∷_}
 use lib.Seq.{sets-eq}
-use native.Mathlib.Omega.{arith}
 use borrow.Author.Needs.{needs}
 use Rattle.forms.proofs.put_count.Statement.{statement}
 use Rattle.forms.proofs.put_count.Tie as tie

@@ -1,5 +1,4 @@
 use Rattle.forms.proofs.Whole.{set-kinds}
-use native.Mathlib.Omega.{arith}
 use borrow.Author.Needs.{needs}
 use Rattle.forms.proofs.read_set.Statement.{statement}
 use Rattle.forms.proofs.read_set.Tie as tie

@@ -1,10 +1,9 @@
-use Prim.Native.Nat.{ℕ, _+_, _-_, _*_, _%_, _≤_, _<_}
+use Prim.Native.Nat.{_-_, _*_, _%_, _≤_}
 use mathlib.Core.Path.{_≡_, refl, _∙_, sym}
-use lib.ListN.{length, drop, getD}
+use lib.ListN.{length, drop}
 use Rattle.records.specs.Check.{checkOf, fletcher}
 use Rattle.records.proofs.Sums.{sums-step, sums-end}
 use borrow.Author.Needs.{needs}
-use native.Mathlib.Omega.{arith}
 use Rattle.records.proofs.check_of.Statement.{statement}
 use Rattle.records.proofs.check_of.Tie as tie
 use Rattle.records.proofs.check_of.Reads as reads

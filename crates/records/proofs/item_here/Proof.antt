@@ -1,5 +1,4 @@
 use Rattle.records.proofs.Items.{item-made}
-use native.Mathlib.Omega.{arith}
 use borrow.Author.Needs.{needs}
 use Rattle.records.proofs.item_here.Statement.{statement}
 use Rattle.records.proofs.item_here.Tie as tie

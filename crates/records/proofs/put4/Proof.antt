@@ -2,7 +2,6 @@ use mathlib.Core.Path.{refl}
 use Prim.Native.Nat.{_/_, _%_}
 use Rattle.records.specs.Numbers.{be2}
 use Rattle.records.proofs.Patch.{mid-over}
-use native.Mathlib.Omega.{arith}
 use borrow.Author.Needs.{needs}
 use Rattle.records.proofs.put4.Statement.{statement}
 use Rattle.records.proofs.put4.Tie as tie

@@ -1,5 +1,4 @@
 use Rattle.records.proofs.Written.{check-written}
-use native.Mathlib.Omega.{arith}
 use borrow.Author.Needs.{needs}
 use Rattle.records.proofs.put_check.Statement.{statement}
 use Rattle.records.proofs.put_check.Tie as tie

@@ -3,7 +3,6 @@ use mathlib.Core.Path.{refl, _∙_, ap}
 use mathlib.Core.List.{[], _∷_}
 use Rattle.records.specs.Numbers.{be2, over}
 use Rattle.records.proofs.Patch.{mid-over}
-use native.Mathlib.Omega.{arith}
 use borrow.Author.Needs.{needs}
 use Rattle.records.proofs.put_head.Statement.{statement}
 use Rattle.records.proofs.put_head.Tie as tie

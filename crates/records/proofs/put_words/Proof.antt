@@ -1,9 +1,9 @@
 use mathlib.Core.List.{List}
 use lib.ListN.{drop-of-length-le}
-use Prim.Native.Nat.{ℕ, _+_, _-_, _*_, _≤_, _<_}
+use Prim.Native.Nat.{ℕ, _+_, _-_, _*_, _≤_}
 use mathlib.Core.Path.{_≡_, refl, _∙_, sym, ap}
 use lib.ListN.{length, drop, getD}
-use Rattle.records.specs.Numbers.{wordBytes, be8, over, patch}
+use Rattle.records.specs.Numbers.{wordBytes, be8, patch}
 use Rattle.records.proofs.Patch.{lent-turn, patch-none}
 use Rattle.records.proofs.Numbers.{bytes-more}
 use borrow.Rule.Slice.PartMut.{same-len-mid}

@@ -2,7 +2,6 @@ use Rattle.records.specs.Steps.{entryOf}
 use mathlib.Core.Bool.{true, false}
 use Rattle.records.proofs.Heads.{head-fits}
 use Rattle.records.proofs.Items.{item-refused, item-back, item-first, item-next}
-use native.Mathlib.Omega.{arith}
 use borrow.Author.Needs.{needs}
 use Rattle.records.proofs.read_item.Statement.{statement}
 use Rattle.records.proofs.read_item.Tie as tie

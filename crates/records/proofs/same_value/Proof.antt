@@ -1,5 +1,4 @@
 use Rattle.records.proofs.Items.{same-none, same-differ, same-one, same-two}
-use borrow.Author.Needs.{needs}
 use native.Mathlib.Omega.{arith}
 use Rattle.records.proofs.same_value.Statement.{statement}
 use Rattle.records.proofs.same_value.Tie as tie

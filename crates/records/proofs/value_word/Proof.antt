@@ -1,6 +1,5 @@
 use mathlib.Core.Path.{sym, _∙_}
 use borrow.Author.Tests.{lt-ltb, le-ltb}
-use native.Mathlib.Omega.{arith}
 use borrow.Author.Needs.{needs}
 use Rattle.records.proofs.value_word.Statement.{statement}
 use Rattle.records.proofs.value_word.Tie as tie

@@ -1,5 +1,4 @@
 use Rattle.records.proofs.Written.{counts-written}
-use native.Mathlib.Omega.{arith}
 use borrow.Author.Needs.{needs}
 use Rattle.records.proofs.write_counts.Statement.{statement}
 use Rattle.records.proofs.write_counts.Tie as tie

@@ -1,7 +1,6 @@
 use Rattle.records.specs.Numbers.{wordBytes}
 use Rattle.records.proofs.Numbers.{length-bytes}
 use Rattle.records.proofs.Written.{record-written}
-use native.Mathlib.Omega.{arith}
 use borrow.Author.Needs.{needs}
 use Rattle.records.proofs.write_item.Statement.{statement}
 use Rattle.records.proofs.write_item.Tie as tie

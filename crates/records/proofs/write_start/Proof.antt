@@ -1,7 +1,6 @@
 use mathlib.Core.Path.{refl}
 use Rattle.records.specs.Numbers.{be2}
 use Rattle.records.proofs.Written.{record-written}
-use native.Mathlib.Omega.{arith}
 use borrow.Author.Needs.{needs}
 use Rattle.records.proofs.write_start.Statement.{statement}
 use Rattle.records.proofs.write_start.Tie as tie
