@@ -1,14 +1,14 @@
 // The byte form of bulletins: read into two blocks, written from two.
 ghost use mathlib.Core.Path.{_≡_};
-ghost use mathlib.Core.List.{List, [], _∷_, _++_};
-ghost use Prim.Native.Nat.{ℕ, _+_, _-_, _*_, _≤_, _<_};
-ghost use lib.ListN.{length, getD, take, drop};
+ghost use mathlib.Core.List.{[], _∷_};
+ghost use Prim.Native.Nat.{_+_, _*_, _≤_, _<_};
+ghost use lib.ListN.{length, drop};
 ghost use Rattle.answers.specs.Answers.{outcome};
 ghost use Rattle.answers.specs.Says.{judgedSays, writtenSays};
 ghost use Rattle.blocks.specs.Blocks.{setLimit, entriesOf, itemsOf, SoundBlock};
 ghost use Rattle.records.specs.Numbers.{num2, over};
 ghost use Rattle.forms.specs.Runs.{entriesIn};
-ghost use Rattle.forms.specs.Steps.{formRead, Fills};
+ghost use Rattle.forms.specs.Steps.{formRead};
 ghost use Rattle.bulletin_forms.specs.Bulletins.{bulletinForm, bulletinVerdict, shareb};
 ghost use Rattle.bulletin_forms.specs.Calls.{readBulletinCall, writeBulletinCall};
 ghost use Rattle.bulletin_forms.specs.Steps.{TwoRuns};

@@ -1,9 +1,9 @@
 // The byte form of sets and maps: read into a block, written from one.
 ghost use mathlib.Core.Path.{_≡_};
 ghost use mathlib.Core.Option.{none};
-ghost use mathlib.Core.List.{List, [], _∷_, _++_};
-ghost use Prim.Native.Nat.{ℕ, _+_, _-_, _*_, _≤_, _<_};
-ghost use lib.ListN.{length, getD, take, drop};
+ghost use mathlib.Core.List.{[], _∷_};
+ghost use Prim.Native.Nat.{_+_, _*_, _≤_, _<_};
+ghost use lib.ListN.{length, drop};
 ghost use Rattle.answers.specs.Answers.{outcome};
 ghost use Rattle.answers.specs.Says.{judgedSays, writtenSays};
 ghost use Rattle.blocks.specs.Blocks.{itemsOf, wordsOf, blockOf};

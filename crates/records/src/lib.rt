@@ -1,10 +1,10 @@
 // One record of the byte form, read or written: numbers of 2 and 8 bytes, the check, the kinds, a start and an item.
 ghost use mathlib.Core.Path.{_≡_};
 ghost use mathlib.Core.Option.{some};
-ghost use mathlib.Core.List.{List, [], _∷_, _++_};
-ghost use Prim.Native.Nat.{ℕ, _+_, _-_, _*_, _≤_, _<_};
+ghost use mathlib.Core.List.{[], _∷_, _++_};
+ghost use Prim.Native.Nat.{_+_, _*_, _≤_, _<_};
 ghost use lib.Dec.{ltb};
-ghost use lib.ListN.{length, getD, take, drop};
+ghost use lib.ListN.{length, take, drop};
 ghost use Rattle.entries.specs.Build.{pick, sameWords};
 ghost use Rattle.blocks.specs.Blocks.{afterb};
 ghost use Rattle.records.specs.Numbers.{num2, num4, num8, be2, be4, be8, wordsIn, wordBytes, over, patch};
