@@ -22,12 +22,12 @@ use Rattle.blocks.proofs.Words.{Shaped, items-shaped, items-length}
 use Rattle.records.specs.Numbers.{Bytes, num2, over, patch}
 use Rattle.records.specs.Records.{formMark, startRecord}
 use Rattle.records.proofs.Patch.{tail-part, mid-patch, mid-over}
-use Rattle.forms.specs.Runs.{runOf, entriesIn}
+use Rattle.runs.specs.Runs.{runOf, entriesIn}
 use Rattle.forms.specs.Calls.{accepted, writtenAt}
-use Rattle.forms.specs.Steps.{formRead, judgedForm, Fills}
-use Rattle.forms.specs.declared.FormRead.{FormRead}
-use Rattle.forms.specs.declared.FormRead.the-variants as form
-use Rattle.forms.proofs.Running.{length-entries, length-run}
+use Rattle.runs.specs.Steps.{formRead, judgedForm, Fills}
+use Rattle.runs.specs.declared.FormRead.{FormRead}
+use Rattle.runs.specs.declared.FormRead.the-variants as form
+use Rattle.runs.proofs.Running.{length-entries, length-run}
 use Rattle.forms.proofs.Answering.{told-refused, told-good, says-refused, verdict-bound}
 use Rattle.bulletin_forms.specs.Bulletins.{bulletinForm, withdrawnAt, releasedIn, withdrawnIn, shareb, bulletinVerdict}
 use Rattle.bulletin_forms.specs.Calls.{readTwo, readBulletinCall, writeBulletinCall}

@@ -18,9 +18,9 @@ use Rattle.blocks.specs.Blocks.{setLimit, capacity, entriesOf, wordsOf, blockOf
 use Rattle.blocks.proofs.Words.{Shaped, items-shaped, items-length}
 use Rattle.blocks.proofs.Judging.{verdict-sound, room}
 use Rattle.records.specs.Numbers.{Bytes, num2, over, patch}
-use Rattle.forms.specs.Runs.{entriesIn}
+use Rattle.runs.specs.Runs.{entriesIn}
 use Rattle.forms.specs.Calls.{writtenAt}
-use Rattle.forms.proofs.Running.{Fit, length-entries, entries-shaped, entries-fit, bytes-drop}
+use Rattle.runs.proofs.Running.{Fit, length-entries, entries-shaped, entries-fit, bytes-drop}
 use Rattle.forms.proofs.Outcomes.{accepted-inv, judged-inv, written-at, block-entries, block-verdict}
 use Rattle.blocks.proofs.Judging.{sound-true}
 use Rattle.bulletin_forms.specs.Bulletins.{bulletinForm, withdrawnAt, releasedIn, withdrawnIn, shareb, bulletinVerdict}

@@ -6,7 +6,7 @@ use Rattle.answers.specs.Answers.{outcome, given, refuse}
 use Rattle.blocks.specs.Blocks.{blockOf}
 use Rattle.records.specs.Check.{fletcher, checkOf}
 use Rattle.records.specs.Records.{bodyLength, headVerdict, startVerdict, itemVerdict}
-use Rattle.forms.specs.Runs.{runOf, entriesIn, runVerdict}
+use Rattle.runs.specs.Runs.{runOf, entriesIn, runVerdict}
 use Rattle.bulletin_forms.specs.Bulletins.{bulletinForm, releasedIn, withdrawnIn, shareb, bulletinVerdict}
 use Rattle.bulletin_forms.specs.Calls.{readBulletinCall}
 use Rattle.entries.specs.Entries.{entry}

@@ -20,12 +20,12 @@ use Rattle.records.specs.declared.CountsRead.{CountsRead}
 use Rattle.records.specs.declared.CountsRead.the-variants as counts
 use Rattle.records.proofs.Accepted.{start-inv}
 use Rattle.records.proofs.Bounded.{start-bound}
-use Rattle.forms.specs.Runs.{entriesIn, andThen, runVerdict}
+use Rattle.runs.specs.Runs.{entriesIn, andThen, runVerdict}
 use Rattle.forms.specs.Forms.{trailing}
-use Rattle.forms.specs.Steps.{formRead}
-use Rattle.forms.specs.declared.FormRead.{FormRead}
-use Rattle.forms.specs.declared.FormRead.the-variants as form
-use Rattle.forms.proofs.Running.{Bare, passed, stopped, then-bare, number-bare, run-bare, RunAt, run-inv, bytes-drop}
+use Rattle.runs.specs.Steps.{formRead}
+use Rattle.runs.specs.declared.FormRead.{FormRead}
+use Rattle.runs.specs.declared.FormRead.the-variants as form
+use Rattle.runs.proofs.Running.{Bare, passed, stopped, then-bare, number-bare, run-bare, RunAt, run-inv, bytes-drop}
 use Rattle.forms.proofs.Whole.{trailing-bare}
 use Rattle.forms.proofs.Verdicts.{run-good, run-bad}
 use Rattle.bulletin_forms.specs.Bulletins.{bulletinVerdict, releasedIn, withdrawnIn, shareb, overlap}

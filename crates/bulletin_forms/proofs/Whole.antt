@@ -20,10 +20,10 @@ use Rattle.blocks.proofs.Judging.{true-sound}
 use Rattle.records.specs.Numbers.{Bytes, num2, countBytes}
 use Rattle.records.specs.Records.{formMark, startRecord, allWithin, startVerdict}
 use Rattle.records.proofs.Accepted.{StartAt, start-inv, start-zero, start-bytes, record-whole, rest-laid, counts-back-in}
-use Rattle.forms.specs.Runs.{runOf, entriesIn, andThen, runVerdict}
+use Rattle.runs.specs.Runs.{runOf, entriesIn, andThen, runVerdict}
 use Rattle.forms.specs.Forms.{trailing}
-use Rattle.forms.proofs.Turns.{length-record}
-use Rattle.forms.proofs.Running.{run-bare, then-given, both-passed, RunAt, run-inv, run-accept, run-back, length-run, length-entries, bytes-drop}
+use Rattle.runs.proofs.Turns.{length-record}
+use Rattle.runs.proofs.Running.{run-bare, then-given, both-passed, RunAt, run-inv, run-accept, run-back, length-run, length-entries, bytes-drop}
 use Rattle.forms.proofs.Whole.{trailing-bare, no-trailing}
 use Rattle.bulletin_forms.specs.Bulletins.{bulletinForm, withdrawnAt, releasedIn, withdrawnIn, shareb, overlap, bulletinVerdict}
 use Rattle.bulletin_forms.proofs.Verdicts.{released-kind, withdrawn-kind, start-kind, withdrawn-run, ending, after-start}

@@ -12,7 +12,7 @@ use Rattle.answers.specs.Answers.{Answer, given, refused, numberSays}
 use Rattle.blocks.specs.Blocks.{setLimit}
 use Rattle.records.specs.Numbers.{num2}
 use Rattle.records.specs.Records.{formMark, startRecord, startVerdict}
-use Rattle.forms.specs.Runs.{runOf, entriesIn, andThen, runVerdict}
+use Rattle.runs.specs.Runs.{runOf, entriesIn, andThen, runVerdict}
 use Rattle.forms.specs.Forms.{trailing}
 
 -- «a bulletin is its start, all released, all withdrawn»; «0x03 | released count, withdrawn count», «0x12, 0x13 | released range,

@@ -3,7 +3,7 @@ use Prim.Native.Nat.{ℕ, _+_, _*_, _≤_}
 use mathlib.Core.List.{List}
 use lib.ListN.{length, drop}
 use Rattle.entries.specs.Entries.{Sound}
-use Rattle.forms.specs.Runs.{entriesIn}
+use Rattle.runs.specs.Runs.{entriesIn}
 
 -- n range records at p and m at q, all sound
 pub record TwoRuns (p n q m : ℕ) (b : List ℕ) : Type 0 where

@@ -7,15 +7,15 @@ ghost use Rattle.answers.specs.Answers.{outcome};
 ghost use Rattle.answers.specs.Says.{judgedSays, writtenSays};
 ghost use Rattle.blocks.specs.Blocks.{setLimit, entriesOf, itemsOf, SoundBlock};
 ghost use Rattle.records.specs.Numbers.{num2, over};
-ghost use Rattle.forms.specs.Runs.{entriesIn};
-ghost use Rattle.forms.specs.Steps.{formRead};
+ghost use Rattle.runs.specs.Runs.{entriesIn};
+ghost use Rattle.runs.specs.Steps.{formRead};
 ghost use Rattle.bulletin_forms.specs.Bulletins.{bulletinForm, bulletinVerdict, shareb};
 ghost use Rattle.bulletin_forms.specs.Calls.{readBulletinCall, writeBulletinCall};
 ghost use Rattle.bulletin_forms.specs.Steps.{TwoRuns};
 use answers::Judged;
 use answers::Written;
-use forms::FormRead;
 use records::CountsRead;
+use runs::FormRead;
 
 // Whether the n ranges whose records begin at place p share a number with the m whose records begin at place q.
 fn share_records(bytes: &[u8], p: usize, n: usize, q: usize, m: usize) -> bool
@@ -81,11 +81,11 @@ fn judge_bulletin(bytes: &[u8]) -> FormRead
     let CountsRead::Good(n, m) = a else {
         return FormRead::Refused(records::counts_number(a), 0);
     };
-    let r = forms::judge_items(bytes, 9, records::MARK, 0x12, 2, n);
+    let r = runs::judge_items(bytes, 9, records::MARK, 0x12, 2, n);
     let FormRead::Good(p) = r else {
         return r;
     };
-    let w = forms::judge_items(bytes, p, records::MARK, 0x13, 2, m);
+    let w = runs::judge_items(bytes, p, records::MARK, 0x13, 2, m);
     let FormRead::Good(q) = w else {
         return w;
     };
@@ -104,7 +104,7 @@ pub fn read_bulletin(bytes: &[u8], released: &mut [u64], withdrawn: &mut [u64]) 
 {
     let v = judge_bulletin(bytes);
     let FormRead::Good(p) = v else {
-        return forms::judged_form(v);
+        return runs::judged_form(v);
     };
     if released.len() == 0 {
         return answers::judged_of(1, 0);
@@ -120,8 +120,8 @@ pub fn read_bulletin(bytes: &[u8], released: &mut [u64], withdrawn: &mut [u64]) 
     if blocks::room_for(2, blocks::SET_LIMIT, withdrawn.len()) < m {
         return answers::judged_of(5, 1);
     }
-    forms::store(bytes, 9, 2, n, released);
-    forms::store(bytes, p, 2, m, withdrawn);
+    runs::store(bytes, 9, 2, n, released);
+    runs::store(bytes, p, 2, m, withdrawn);
     Judged::Accepted
 }
 
@@ -137,9 +137,9 @@ fn put_bulletin(released: &[u64], n: usize, withdrawn: &[u64], m: usize, bytes: 
         blocks::narrow(n),
         blocks::narrow(m),
     );
-    forms::write_items(released, 2, n, records::MARK, 0x12, &mut bytes[9..]);
+    runs::write_items(released, 2, n, records::MARK, 0x12, &mut bytes[9..]);
     let p = 9 + 21 * n;
-    forms::write_items(withdrawn, 2, m, records::MARK, 0x13, &mut bytes[p..]);
+    runs::write_items(withdrawn, 2, m, records::MARK, 0x13, &mut bytes[p..]);
 }
 
 // Writes the byte form of a bulletin into the bytes from place p on, and answers its length. A refused call changes nothing.

@@ -22,13 +22,14 @@ use Rattle.blocks.proofs.Judging.{verdict-sound, room}
 use Rattle.blocks.proofs.Words.{Shaped, items-shaped, items-length}
 use Rattle.records.specs.Numbers.{Bytes, num2, over, patch}
 use Rattle.records.proofs.Patch.{tail-part, mid-patch}
-use Rattle.forms.specs.Runs.{entriesIn}
+use Rattle.runs.specs.Runs.{entriesIn}
 use Rattle.forms.specs.Forms.{formOf, formEntries, formVerdict}
 use Rattle.forms.specs.Calls.{accepted, readInto, readCall, writtenAt, writeCall}
-use Rattle.forms.specs.Steps.{FormKind, formRead, judgedForm, Fills}
-use Rattle.forms.specs.declared.FormRead.{FormRead}
-use Rattle.forms.specs.declared.FormRead.the-variants as form
-use Rattle.forms.proofs.Running.{Bare, passed, stopped, length-entries}
+use Rattle.forms.specs.Steps.{FormKind}
+use Rattle.runs.specs.Steps.{formRead, judgedForm, Fills}
+use Rattle.runs.specs.declared.FormRead.{FormRead}
+use Rattle.runs.specs.declared.FormRead.the-variants as form
+use Rattle.runs.proofs.Running.{Bare, passed, stopped, length-entries}
 use Rattle.forms.proofs.Whole.{form-bare, size, made-size}
 
 -- what the judge's answer tells of the verdict

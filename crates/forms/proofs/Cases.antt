@@ -8,7 +8,7 @@ use Rattle.answers.specs.Answers.{outcome, given, refuse}
 use Rattle.blocks.specs.Blocks.{blockOf, verdict}
 use Rattle.records.specs.Check.{fletcher, checkOf}
 use Rattle.records.specs.Records.{bodyLength, headVerdict, startVerdict, itemVerdict}
-use Rattle.forms.specs.Runs.{runOf, entriesIn, runVerdict}
+use Rattle.runs.specs.Runs.{runOf, entriesIn, runVerdict}
 use Rattle.forms.specs.Forms.{formOf, setForm, mapForm, formEntries, formVerdict}
 use Rattle.forms.specs.Calls.{readCall, writeCall, readSetCall, readMapCall, writeSetCall}
 

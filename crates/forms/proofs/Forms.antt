@@ -15,7 +15,7 @@ use Rattle.records.specs.Numbers.{Bytes, over, patch}
 use Rattle.forms.specs.Forms.{formOf, formEntries, formVerdict}
 use Rattle.forms.specs.Calls.{readCall, writeCall}
 use Rattle.forms.specs.Steps.{FormKind}
-use Rattle.forms.proofs.Running.{Fit}
+use Rattle.runs.proofs.Running.{Fit}
 use Rattle.forms.proofs.Whole.{set-kinds, map-kinds, made, whole, back, made-size}
 use Rattle.forms.proofs.Outcomes.{read-inv, write-inv, block-entries, block-verdict}
 

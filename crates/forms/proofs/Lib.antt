@@ -1,8 +1,6 @@
-pub mod Turns
 pub mod Verdicts
-pub mod Running
 pub mod Whole
-pub mod Storing
+pub mod Writing
 pub mod Answering
 pub mod Outcomes
 pub mod Forms

@@ -16,7 +16,7 @@ use Rattle.blocks.proofs.Words.{Shaped, words-length, read-back}
 use Rattle.records.specs.Numbers.{patch}
 use Rattle.forms.specs.Forms.{formOf, formEntries, formVerdict}
 use Rattle.forms.specs.Calls.{accepted, readInto, readCall, writtenAt, writeCall}
-use Rattle.forms.proofs.Running.{Bare, passed, stopped}
+use Rattle.runs.proofs.Running.{Bare, passed, stopped}
 use Rattle.forms.proofs.Whole.{form-bare}
 
 -- an accepted reading

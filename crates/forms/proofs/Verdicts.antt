@@ -13,11 +13,11 @@ use Rattle.records.specs.Steps.{startRead, startNumber}
 use Rattle.records.specs.declared.StartRead.{StartRead}
 use Rattle.records.specs.declared.StartRead.the-variants as start
 use Rattle.records.proofs.Accepted.{start-inv}
-use Rattle.forms.specs.Runs.{andThen, runVerdict}
+use Rattle.runs.specs.Runs.{andThen, runVerdict}
 use Rattle.forms.specs.Forms.{formVerdict, trailing}
-use Rattle.forms.specs.Steps.{formRead}
-use Rattle.forms.specs.declared.FormRead.{FormRead}
-use Rattle.forms.specs.declared.FormRead.the-variants as form
+use Rattle.runs.specs.Steps.{formRead}
+use Rattle.runs.specs.declared.FormRead.{FormRead}
+use Rattle.runs.specs.declared.FormRead.the-variants as form
 
 told-good : (v n m : ℕ) (r : StartRead) → r ≡ startRead v m → r ≡ start.Good n → (v ≡ 0) × (n ≡ m)
 told-good zero n m r e q = let k : n ≡ m = cc in (refl, k)

@@ -20,11 +20,11 @@ use Rattle.records.specs.Numbers.{Bytes, num2, countBytes}
 use Rattle.records.specs.Records.{formMark, bodyLength, startRecord, allWithin, startVerdict}
 use Rattle.records.proofs.Accepted.{StartAt, start-inv, start-zero, start-bytes, record-whole, rest-laid, counts-back-in}
 use Rattle.records.proofs.Bounded.{start-bound}
-use Rattle.forms.specs.Runs.{runOf, entriesIn, andThen, runVerdict}
+use Rattle.runs.specs.Runs.{runOf, entriesIn, andThen, runVerdict}
 use Rattle.forms.specs.Forms.{formOf, formEntries, trailing, formVerdict}
 use Rattle.forms.specs.Steps.{FormKind}
-use Rattle.forms.proofs.Turns.{length-record}
-use Rattle.forms.proofs.Running.{Bare, passed, stopped, then-bare, number-bare, run-bare, then-given, both-passed, Fit, RunAt, run-inv, run-accept, run-back, length-run, length-entries, entries-shaped, entries-fit, bytes-drop}
+use Rattle.runs.proofs.Turns.{length-record}
+use Rattle.runs.proofs.Running.{Bare, passed, stopped, then-bare, number-bare, run-bare, then-given, both-passed, Fit, RunAt, run-inv, run-accept, run-back, length-run, length-entries, entries-shaped, entries-fit, bytes-drop}
 
 pub set-kinds : FormKind 0x01 0x10 2 setLimit
 unfolding bodyLength

@@ -9,7 +9,7 @@ use Rattle.entries.specs.Build.{pick}
 use Rattle.answers.specs.Answers.{Answer, given, refused, numberSays}
 use Rattle.records.specs.Numbers.{num2}
 use Rattle.records.specs.Records.{formMark, startRecord, startVerdict}
-use Rattle.forms.specs.Runs.{runOf, entriesIn, andThen, runVerdict}
+use Rattle.runs.specs.Runs.{runOf, entriesIn, andThen, runVerdict}
 
 -- «A set is its start and then n range records; a map likewise»
 unfoldable pub formOf : ℕ → ℕ → List Entry → List ℕ

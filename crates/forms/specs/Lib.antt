@@ -1,4 +1,3 @@
-pub mod Runs
 pub mod Forms
 pub mod Calls
 pub mod Steps

@@ -1,59 +1,23 @@
 // The byte form of sets and maps: read into a block, written from one.
 ghost use mathlib.Core.Path.{_≡_};
-ghost use mathlib.Core.Option.{none};
 ghost use mathlib.Core.List.{[], _∷_};
 ghost use Prim.Native.Nat.{_+_, _*_, _≤_, _<_};
 ghost use lib.ListN.{length, drop};
 ghost use Rattle.answers.specs.Answers.{outcome};
 ghost use Rattle.answers.specs.Says.{judgedSays, writtenSays};
-ghost use Rattle.blocks.specs.Blocks.{itemsOf, wordsOf, blockOf};
+ghost use Rattle.blocks.specs.Blocks.{setLimit, itemsOf};
 ghost use Rattle.records.specs.Numbers.{num2, over};
-ghost use Rattle.records.specs.Steps.{ItemKind};
-ghost use Rattle.forms.specs.Runs.{runOf, entriesIn, runVerdict};
 ghost use Rattle.forms.specs.Forms.{formOf, formVerdict};
 ghost use Rattle.forms.specs.Calls.{readCall, readSetCall, readMapCall, writeCall, writeSetCall, writeMapCall};
-ghost use Rattle.forms.specs.Steps.{FormKind, formRead, judgedForm, Fills};
+ghost use Rattle.forms.specs.Steps.{FormKind};
+ghost use Rattle.runs.specs.Steps.{formRead, Fills};
 use answers::Judged;
 use answers::Written;
-use records::Item;
-use records::ItemRead;
 use records::StartRead;
-
-// What judging bytes answers: a count or a place, or a refusal with its place.
-pub enum FormRead {
-    Good(usize),
-    Refused(u8, usize),
-}
-
-// The verdict on the n item records from place `from` on; if all are good, the place behind them.
-pub fn judge_items(bytes: &[u8], from: usize, mark: u16, kind: u8, s: usize, n: usize) -> FormRead
-    requires { ⌜ ItemKind kind s × (from ≤ length (now bytes)) ⌝ }
-    ensures { λ r. ⌜ r ≡ formRead (runVerdict mark kind s n from none (drop from (now (bytes .entry)))) (from + (8 * s + 5) * n) ⌝ }
-{
-    let mut p = from;
-    let mut left = n;
-    let mut first = true;
-    let mut before = Item {
-        low: 0,
-        high: 0,
-        value: 0,
-        second: 0,
-    };
-    while 0 < left {
-        let a = records::read_item(&bytes[p..], mark, kind, s, first, before);
-        let ItemRead::Good(item) = a else {
-            return FormRead::Refused(records::item_number(a), p);
-        };
-        first = false;
-        before = item;
-        p += 8 * s + 5;
-        left -= 1;
-    }
-    FormRead::Good(p)
-}
+use runs::FormRead;
 
 // The verdict on the bytes as a whole form; if they are one, its count.
-pub fn judge_form(bytes: &[u8], start: u8, kind: u8, s: usize, limit: usize) -> FormRead
+fn judge_form(bytes: &[u8], start: u8, kind: u8, s: usize, limit: usize) -> FormRead
     requires { ⌜ FormKind start kind s limit ⌝ }
     ensures { λ r. ⌜ r ≡ formRead (formVerdict start kind s limit (now (bytes .entry))) (num2 (now (bytes .entry)) 3) ⌝ }
 {
@@ -61,7 +25,7 @@ pub fn judge_form(bytes: &[u8], start: u8, kind: u8, s: usize, limit: usize) -> 
     let StartRead::Good(n) = a else {
         return FormRead::Refused(records::start_number(a), 0);
     };
-    let b = judge_items(bytes, 7, records::MARK, kind, s, n);
+    let b = runs::judge_items(bytes, 7, records::MARK, kind, s, n);
     let FormRead::Good(p) = b else {
         return b;
     };
@@ -71,64 +35,11 @@ pub fn judge_form(bytes: &[u8], start: u8, kind: u8, s: usize, limit: usize) -> 
     FormRead::Good(n)
 }
 
-// Fills the front of out with the words of the n item records at the front of the bytes.
-fn fill_items(bytes: &[u8], s: usize, n: usize, out: &mut [u64])
-    requires { ⌜ Fills s n (now bytes) (now out) ⌝ }
-    ensures { λ _. ⌜ now (out .exit) ≡ over (wordsOf (entriesIn s n (now (bytes .entry)))) (now (out .entry)) ⌝ }
+// The verdict on the bytes as the form of a set; if they are one, its count.
+pub fn judge_set(bytes: &[u8]) -> FormRead
+    ensures { λ r. ⌜ r ≡ formRead (formVerdict 0x01 0x10 2 setLimit (now (bytes .entry))) (num2 (now (bytes .entry)) 3) ⌝ }
 {
-    let mut left = n;
-    let mut q: usize = 0;
-    let mut w: usize = 0;
-    while 0 < left {
-        records::get_words(&bytes[q + 3..], s, &mut out[w..]);
-        q += 8 * s + 5;
-        w += s;
-        left -= 1;
-    }
-}
-
-// Writes the n items whose words begin at the front of words as item records, at the front of the bytes.
-pub fn write_items(words: &[u64], s: usize, n: usize, mark: u16, kind: u8, bytes: &mut [u8])
-    requires { ⌜ Fills s n (now bytes) (now words) ⌝ }
-    ensures { λ _. ⌜ now (bytes .exit) ≡ over (runOf mark kind (itemsOf s n (now (words .entry)))) (now (bytes .entry)) ⌝ }
-{
-    let mut left = n;
-    let mut q: usize = 0;
-    let mut w: usize = 0;
-    while 0 < left {
-        records::write_item(&mut bytes[q..], mark, kind, &words[w..w + s]);
-        q += 8 * s + 5;
-        w += s;
-        left -= 1;
-    }
-}
-
-// Writes word 0.
-fn put_count(out: &mut [u64], n: u64)
-    requires { ⌜ 1 ≤ length (now out) ⌝ }
-    ensures { λ _. ⌜ now (out .exit) ≡ over (n ∷ []) (now (out .entry)) ⌝ }
-{
-    out[0] = n;
-}
-
-// Makes out the block of the n items whose records begin at place `from` and were judged good.
-pub fn store(bytes: &[u8], from: usize, s: usize, n: usize, out: &mut [u64])
-    requires { ⌜ (from ≤ length (now bytes)) × (1 ≤ length (now out)) × Fills s n (drop from (now bytes)) (drop 1 (now out)) ⌝ }
-    ensures { λ _. ⌜ now (out .exit) ≡ blockOf (length (now (out .entry))) (entriesIn s n (drop from (now (bytes .entry)))) ⌝ }
-{
-    put_count(out, blocks::narrow(n));
-    fill_items(&bytes[from..], s, n, &mut out[1..]);
-    blocks::clear(out, 1 + s * n);
-}
-
-// The answer of a call whose bytes were refused.
-pub fn judged_form(v: FormRead) -> Judged
-    ensures { λ r. ⌜ r ≡ judgedForm v ⌝ }
-{
-    match v {
-        FormRead::Good(_) => Judged::Accepted,
-        FormRead::Refused(number, place) => answers::judged_of(number, place),
-    }
+    judge_form(bytes, 0x01, 0x10, 2, blocks::SET_LIMIT)
 }
 
 // Reads a form into a block: judges all of it, then fills. A refused call changes nothing.
@@ -138,7 +49,7 @@ fn read_form(bytes: &[u8], out: &mut [u64], start: u8, kind: u8, s: usize, limit
 {
     let v = judge_form(bytes, start, kind, s, limit);
     let FormRead::Good(n) = v else {
-        return judged_form(v);
+        return runs::judged_form(v);
     };
     if out.len() == 0 {
         return answers::judged_of(1, 0);
@@ -146,7 +57,7 @@ fn read_form(bytes: &[u8], out: &mut [u64], start: u8, kind: u8, s: usize, limit
     if blocks::room_for(s, limit, out.len()) < n {
         return answers::judged_of(5, 0);
     }
-    store(bytes, 7, s, n, out);
+    runs::store(bytes, 7, s, n, out);
     Judged::Accepted
 }
 
@@ -170,7 +81,7 @@ fn put_form(words: &[u64], s: usize, n: usize, start: u8, kind: u8, bytes: &mut 
     ensures { λ _. ⌜ now (bytes .exit) ≡ over (formOf start kind (itemsOf s n (now (words .entry)))) (now (bytes .entry)) ⌝ }
 {
     records::write_start(bytes, records::MARK, start, blocks::narrow(n));
-    write_items(words, s, n, records::MARK, kind, &mut bytes[7..]);
+    runs::write_items(words, s, n, records::MARK, kind, &mut bytes[7..]);
 }
 
 // Writes the form of a block into the bytes from place p on. A refused call changes nothing.

@@ -6,7 +6,7 @@ use Rattle.bulletin_forms.proofs.judge_bulletin.Tie as tie
 use Rattle.bulletin_forms.proofs.judge_bulletin.Reads as reads
 use Rattle.bulletin_forms.proofs.judge_bulletin.Lts as lts
 use Rattle.bulletin_forms.proofs.share_records.Reads as share-records-reads
-use Rattle.forms.proofs.judge_items.Reads as judge-items-reads
+use Rattle.runs.proofs.judge_items.Reads as judge-items-reads
 use Rattle.records.proofs.counts_number.Reads as counts-number-reads
 use Rattle.records.proofs.read_counts.Reads as read-counts-reads
 

@@ -8,7 +8,7 @@ use Rattle.bulletin_forms.proofs.put_bulletin.Tie as tie
 use Rattle.bulletin_forms.proofs.put_bulletin.Reads as reads
 use Rattle.bulletin_forms.proofs.put_bulletin.Lts as lts
 use Rattle.blocks.proofs.narrow.Reads as narrow-reads
-use Rattle.forms.proofs.write_items.Reads as write-items-reads
+use Rattle.runs.proofs.write_items.Reads as write-items-reads
 use Rattle.records.proofs.write_counts.Reads as write-counts-reads
 
 narrow-requires : tie.Need-narrow-requires

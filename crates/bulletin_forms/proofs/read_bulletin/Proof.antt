@@ -10,8 +10,8 @@ use Rattle.answers.proofs.judged_of.Reads as judged-of-reads
 use Rattle.blocks.proofs.room_for.Reads as room-for-reads
 use Rattle.blocks.proofs.wide.Reads as wide-reads
 use Rattle.bulletin_forms.proofs.judge_bulletin.Reads as judge-bulletin-reads
-use Rattle.forms.proofs.judged_form.Reads as judged-form-reads
-use Rattle.forms.proofs.store.Reads as store-reads
+use Rattle.runs.proofs.judged_form.Reads as judged-form-reads
+use Rattle.runs.proofs.store.Reads as store-reads
 use Rattle.records.proofs.get2.Reads as get2-reads
 
 judge-bulletin-requires : tie.Need-judge-bulletin-requires

@@ -4,7 +4,7 @@ use Rattle.forms.proofs.judge_form.Statement.{statement}
 use Rattle.forms.proofs.judge_form.Tie as tie
 use Rattle.forms.proofs.judge_form.Reads as reads
 use Rattle.forms.proofs.judge_form.Lts as lts
-use Rattle.forms.proofs.judge_items.Reads as judge-items-reads
+use Rattle.runs.proofs.judge_items.Reads as judge-items-reads
 use Rattle.records.proofs.read_start.Reads as read-start-reads
 use Rattle.records.proofs.start_number.Reads as start-number-reads
 

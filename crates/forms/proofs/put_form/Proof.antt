@@ -1,5 +1,5 @@
 use lib.ListN.{length-take, length-drop}
-use Rattle.forms.proofs.Storing.{form-written}
+use Rattle.forms.proofs.Writing.{form-written}
 use native.Mathlib.Omega.{arith}
 use borrow.Author.Needs.{needs}
 use Rattle.forms.proofs.put_form.Statement.{statement}
@@ -7,7 +7,7 @@ use Rattle.forms.proofs.put_form.Tie as tie
 use Rattle.forms.proofs.put_form.Reads as reads
 use Rattle.forms.proofs.put_form.Lts as lts
 use Rattle.blocks.proofs.narrow.Reads as narrow-reads
-use Rattle.forms.proofs.write_items.Reads as write-items-reads
+use Rattle.runs.proofs.write_items.Reads as write-items-reads
 use Rattle.records.proofs.write_start.Reads as write-start-reads
 
 narrow-requires : tie.Need-narrow-requires

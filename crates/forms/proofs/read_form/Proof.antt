@@ -9,8 +9,8 @@ use Rattle.forms.proofs.read_form.Lts as lts
 use Rattle.answers.proofs.judged_of.Reads as judged-of-reads
 use Rattle.blocks.proofs.room_for.Reads as room-for-reads
 use Rattle.forms.proofs.judge_form.Reads as judge-form-reads
-use Rattle.forms.proofs.judged_form.Reads as judged-form-reads
-use Rattle.forms.proofs.store.Reads as store-reads
+use Rattle.runs.proofs.judged_form.Reads as judged-form-reads
+use Rattle.runs.proofs.store.Reads as store-reads
 
 judge-form-requires : tie.Need-judge-form-requires
 judge-form-requires c κs = search needs

@@ -1,7 +1,7 @@
 use mathlib.Core.Path.{_∙_}
 use Rattle.forms.proofs.Answering.{write-fills}
 use Rattle.forms.proofs.Answering.{write-judged, write-above, block-sound, block-small, write-short, write-good}
-use Rattle.forms.proofs.Storing.{small-size}
+use Rattle.forms.proofs.Writing.{small-size}
 use native.Mathlib.Omega.{arith}
 use borrow.Author.Needs.{needs}
 use Rattle.forms.proofs.write_form.Statement.{statement}

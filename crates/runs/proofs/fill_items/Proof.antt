@@ -5,14 +5,14 @@ use borrow.Rule.Slice.PartMut.{same-len-mid}
 use Rattle.blocks.specs.Blocks.{wordsOf}
 use Rattle.blocks.proofs.Tests.{less-one}
 use Rattle.records.specs.Numbers.{patch}
-use Rattle.forms.specs.Runs.{entriesIn}
-use Rattle.forms.proofs.Turns.{fill-turn, fill-end}
+use Rattle.runs.specs.Runs.{entriesIn}
+use Rattle.runs.proofs.Turns.{fill-turn, fill-end}
 use borrow.Author.Needs.{needs}
 use native.Mathlib.Omega.{arith}
-use Rattle.forms.proofs.fill_items.Statement.{statement}
-use Rattle.forms.proofs.fill_items.Tie as tie
-use Rattle.forms.proofs.fill_items.Reads as reads
-use Rattle.forms.proofs.fill_items.Lts as lts
+use Rattle.runs.proofs.fill_items.Statement.{statement}
+use Rattle.runs.proofs.fill_items.Tie as tie
+use Rattle.runs.proofs.fill_items.Reads as reads
+use Rattle.runs.proofs.fill_items.Lts as lts
 use Rattle.records.proofs.get_words.Reads as get-words-reads
 
 abbrev Inv-loop : tie.InvT-loop

@@ -5,14 +5,14 @@ use borrow.Rule.Slice.PartMut.{same-len-mid}
 use Rattle.blocks.specs.Blocks.{itemsOf}
 use Rattle.blocks.proofs.Tests.{less-one}
 use Rattle.records.specs.Numbers.{patch}
-use Rattle.forms.specs.Runs.{runOf}
-use Rattle.forms.proofs.Turns.{write-turn, write-end}
+use Rattle.runs.specs.Runs.{runOf}
+use Rattle.runs.proofs.Turns.{write-turn, write-end}
 use borrow.Author.Needs.{needs}
 use native.Mathlib.Omega.{arith}
-use Rattle.forms.proofs.write_items.Statement.{statement}
-use Rattle.forms.proofs.write_items.Tie as tie
-use Rattle.forms.proofs.write_items.Reads as reads
-use Rattle.forms.proofs.write_items.Lts as lts
+use Rattle.runs.proofs.write_items.Statement.{statement}
+use Rattle.runs.proofs.write_items.Tie as tie
+use Rattle.runs.proofs.write_items.Reads as reads
+use Rattle.runs.proofs.write_items.Lts as lts
 use Rattle.records.proofs.write_item.Reads as write-item-reads
 
 abbrev Inv-loop : tie.InvT-loop

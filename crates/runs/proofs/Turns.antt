@@ -21,9 +21,9 @@ use Rattle.records.proofs.Patch.{tail-part, lent-turn, patch-none}
 use Rattle.records.proofs.Numbers.{words-drop, length-words, length-bytes}
 use Rattle.records.proofs.Items.{here-entry}
 use Rattle.records.proofs.Accepted.{item-inv, item-words}
-use Rattle.forms.specs.Runs.{runOf, entriesIn, andThen, runVerdict}
-use Rattle.forms.specs.Steps.{formRead}
-use Rattle.forms.specs.declared.FormRead.the-variants as form
+use Rattle.runs.specs.Runs.{runOf, entriesIn, andThen, runVerdict}
+use Rattle.runs.specs.Steps.{formRead}
+use Rattle.runs.specs.declared.FormRead.the-variants as form
 
 -- what a record's answer tells of its verdict
 told-good : (v : ℕ) (i j : Item) (r : ItemRead) → r ≡ itemRead v j → r ≡ item.Good i → (v ≡ 0) × (i ≡ j)

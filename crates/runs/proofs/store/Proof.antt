@@ -1,15 +1,15 @@
 use lib.ListN.{length-take, length-drop}
-use Rattle.forms.proofs.Storing.{store-written}
+use Rattle.runs.proofs.Storing.{store-written}
 use native.Mathlib.Omega.{arith}
 use borrow.Author.Needs.{needs}
-use Rattle.forms.proofs.store.Statement.{statement}
-use Rattle.forms.proofs.store.Tie as tie
-use Rattle.forms.proofs.store.Reads as reads
-use Rattle.forms.proofs.store.Lts as lts
+use Rattle.runs.proofs.store.Statement.{statement}
+use Rattle.runs.proofs.store.Tie as tie
+use Rattle.runs.proofs.store.Reads as reads
+use Rattle.runs.proofs.store.Lts as lts
 use Rattle.blocks.proofs.clear.Reads as clear-reads
 use Rattle.blocks.proofs.narrow.Reads as narrow-reads
-use Rattle.forms.proofs.fill_items.Reads as fill-items-reads
-use Rattle.forms.proofs.put_count.Reads as put-count-reads
+use Rattle.runs.proofs.fill_items.Reads as fill-items-reads
+use Rattle.runs.proofs.put_count.Reads as put-count-reads
 
 narrow-requires : tie.Need-narrow-requires
 narrow-requires c κs = search needs

@@ -1,10 +1,10 @@
 use mathlib.Core.Path.{sym, ap, _∙_}
-use Rattle.forms.specs.Steps.{judgedForm}
+use Rattle.runs.specs.Steps.{judgedForm}
 use borrow.Author.Needs.{needs}
-use Rattle.forms.proofs.judged_form.Statement.{statement}
-use Rattle.forms.proofs.judged_form.Tie as tie
-use Rattle.forms.proofs.judged_form.Reads as reads
-use Rattle.forms.proofs.judged_form.Lts as lts
+use Rattle.runs.proofs.judged_form.Statement.{statement}
+use Rattle.runs.proofs.judged_form.Tie as tie
+use Rattle.runs.proofs.judged_form.Reads as reads
+use Rattle.runs.proofs.judged_form.Lts as lts
 use Rattle.answers.proofs.judged_of.Reads as judged-of-reads
 
 enum-told : tie.Need-enum-told

@@ -1,22 +1,19 @@
 -- The block that reading leaves, and the bytes that writing leaves.
-use Prim.Native.Nat.{ℕ, zero, _+_, _-_, _*_, _<_, _≤_}
+use Prim.Native.Nat.{ℕ, zero, _+_, _-_, _*_, _≤_}
 use mathlib.Core.List.{List, [], _∷_, _++_}
 use mathlib.Core.Path.{_≡_, refl, sym, ap, ap₂, _∙_}
 use native.Mathlib.Omega.{arith}
-use native.Mathlib.Nat.{mul-comm, mul-le-mul-left}
 use lib.ListN.{length, getD, take, drop, replicate, length-drop, length-replicate, getD-replicate, take-append-drop}
 use lib.Seq.{ext-getD, getD-drop, take-at}
 use borrow.Rule.Slice.PartMut.{putMid}
-use Rattle.blocks.specs.Blocks.{itemsOf, wordsOf, blockOf}
+use Rattle.blocks.specs.Blocks.{wordsOf, blockOf}
 use Rattle.blocks.specs.Steps.{Cleared}
-use Rattle.blocks.proofs.Words.{words-length, items-length}
+use Rattle.blocks.proofs.Words.{words-length}
 use Rattle.blocks.proofs.Moves.{part-eq, block-path}
 use Rattle.records.specs.Numbers.{over}
-use Rattle.records.specs.Records.{formMark, startRecord}
 use Rattle.records.proofs.Patch.{tail-part, mid-over, length-over}
-use Rattle.forms.specs.Runs.{runOf, entriesIn}
-use Rattle.forms.specs.Forms.{formOf}
-use Rattle.forms.proofs.Running.{length-entries, entries-shaped}
+use Rattle.runs.specs.Runs.{entriesIn}
+use Rattle.runs.proofs.Running.{length-entries, entries-shaped}
 
 -- words with zeros from f on
 zeros : (ws : List ℕ) (f : ℕ) → ((k : ℕ) → f ≤ k → getD ws k 0 ≡ 0) → drop f ws ≡ replicate (length ws - f) 0
@@ -49,18 +46,3 @@ store-written s n m from b out b1 y b3 two h e p q c =
     cleared b2 b3 f (omega arith) c
     ∙ ap₂ (λ (x : List ℕ) (k : ℕ). x ++ replicate (k - f) 0) (ap (take f) w ∙ take-at us (drop (length us) out) f lu) l2
     ∙ block-path (length out) es m (length out - f) (wordsOf es) (e ∙ sym le) refl (omega arith)
-
--- a form: its start, then its items
-pub form-written : (start kind s n m : ℕ) (ws b b1 y : List ℕ) → m ≡ n → b1 ≡ over (startRecord formMark start (m ∷ [])) b
-    → y ≡ over (runOf formMark kind (itemsOf s n ws)) (take (length b1 - 7) (drop 7 b1))
-    → putMid 7 (length b1 - 7) b1 y ≡ over (formOf start kind (itemsOf s n ws)) b
-unfolding formOf
-form-written start kind s n m ws b b1 y e p q =
-    mid-over (startRecord formMark start (m ∷ [])) (runOf formMark kind (itemsOf s n ws)) b b1 y 7 refl p q
-    ∙ ap (λ (k : ℕ). over (startRecord formMark start (k ∷ []) ++ runOf formMark kind (itemsOf s n ws)) b) (e ∙ sym (items-length s n ws))
-
--- the size of a form fits
-pub small-size : (s n : ℕ) → s ≤ 4 → n < 65536 → (8 * s + 5) * n ≤ 2424795
-small-size s n h l =
-    let k : 8 * s + 5 ≤ 37 = omega arith in
-    omega (arith, mul-le-mul-left n k, mul-comm n (8 * s + 5))

@@ -6,15 +6,15 @@ use native.Mathlib.Nat.{mul-zero}
 use Rattle.answers.specs.Answers.{Answer}
 use Rattle.blocks.proofs.Tests.{less-one}
 use Rattle.records.specs.Steps.{previous}
-use Rattle.forms.specs.Runs.{runVerdict}
-use Rattle.forms.specs.Steps.{formRead}
-use Rattle.forms.proofs.Turns.{judge-more, judge-bad, judge-fits, judge-end}
+use Rattle.runs.specs.Runs.{runVerdict}
+use Rattle.runs.specs.Steps.{formRead}
+use Rattle.runs.proofs.Turns.{judge-more, judge-bad, judge-fits, judge-end}
 use borrow.Author.Needs.{needs}
 use native.Mathlib.Omega.{arith}
-use Rattle.forms.proofs.judge_items.Statement.{statement}
-use Rattle.forms.proofs.judge_items.Tie as tie
-use Rattle.forms.proofs.judge_items.Reads as reads
-use Rattle.forms.proofs.judge_items.Lts as lts
+use Rattle.runs.proofs.judge_items.Statement.{statement}
+use Rattle.runs.proofs.judge_items.Tie as tie
+use Rattle.runs.proofs.judge_items.Reads as reads
+use Rattle.runs.proofs.judge_items.Lts as lts
 use Rattle.records.proofs.item_number.Reads as item-number-reads
 use Rattle.records.proofs.read_item.Reads as read-item-reads
 

@@ -21,8 +21,8 @@ use Rattle.records.specs.Steps.{ItemKind}
 use Rattle.records.proofs.Numbers.{length-bytes, length-words, word-fits}
 use Rattle.records.proofs.Accepted.{ItemAt, item-inv, item-zero, item-bytes, item-words, record-whole, rest-laid, entry-back}
 use Rattle.records.proofs.Bounded.{item-bound}
-use Rattle.forms.specs.Runs.{runOf, entriesIn, andThen, runVerdict}
-use Rattle.forms.proofs.Turns.{length-record}
+use Rattle.runs.specs.Runs.{runOf, entriesIn, andThen, runVerdict}
+use Rattle.runs.proofs.Turns.{length-record}
 
 -- sound, and the first may stand after the one before it
 abbrev pub sinceb : Option Entry → List Entry → Bool
