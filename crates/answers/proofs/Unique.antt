@@ -17,8 +17,10 @@ use Rattle.answers.specs.declared.Sized.{Sized}
 use Rattle.answers.specs.declared.Sized.the-variants as sized
 use Rattle.answers.specs.declared.Placed.{Placed}
 use Rattle.answers.specs.declared.Placed.the-variants as placed
+use Rattle.answers.specs.declared.Written.{Written}
+use Rattle.answers.specs.declared.Written.the-variants as written
 use Rattle.answers.specs.Answers.{Answer, given, refused, Outcome, outcome}
-use Rattle.answers.specs.Says.{numberOf, refusalOf, reasonOf, judgedSays, truthSays, foundSays, rangedSays, sizedSays, placedSays}
+use Rattle.answers.specs.Says.{numberOf, refusalOf, reasonOf, judgedSays, truthSays, foundSays, rangedSays, sizedSays, placedSays, writtenSays}
 use Rattle.answers.proofs.Numbers.{number-reason}
 
 abbrev answerOf : Outcome → Answer
@@ -113,3 +115,15 @@ placed-undo (placed.Refused f) = ap placed.Refused (refusal-back f)
 
 pub placed-only : (due : Outcome) (r s : Placed) (k l : List (List ℕ)) → outcome (placedSays r) k ≡ due → outcome (placedSays s) l ≡ due → (r ≡ s) × (k ≡ l)
 placed-only = only placedSays placedBack placed-undo
+
+abbrev writtenBack : Answer → Written
+writtenBack (given []) = written.Length 0
+writtenBack (given (n ∷ xs)) = written.Length n
+writtenBack (refused n p) = written.Refused (refusalOf n p)
+
+written-undo : (r : Written) → writtenBack (writtenSays r) ≡ r
+written-undo (written.Length n) = refl
+written-undo (written.Refused f) = ap written.Refused (refusal-back f)
+
+pub written-only : (due : Outcome) (r s : Written) (k l : List (List ℕ)) → outcome (writtenSays r) k ≡ due → outcome (writtenSays s) l ≡ due → (r ≡ s) × (k ≡ l)
+written-only = only writtenSays writtenBack written-undo

@@ -18,6 +18,8 @@ use Rattle.answers.specs.declared.Sized.{Sized}
 use Rattle.answers.specs.declared.Sized.the-variants as sized
 use Rattle.answers.specs.declared.Placed.{Placed}
 use Rattle.answers.specs.declared.Placed.the-variants as placed
+use Rattle.answers.specs.declared.Written.{Written}
+use Rattle.answers.specs.declared.Written.the-variants as written
 use Rattle.answers.specs.Answers.{Answer, given, refused}
 
 -- «no. | name»
@@ -70,6 +72,11 @@ sizedSays (sized.Refused f) = refusalSays f
 abbrev pub placedSays : Placed → Answer
 placedSays (placed.At s) = given (s ∷ [])
 placedSays (placed.Refused f) = refusalSays f
+
+-- «its length is returned»
+abbrev pub writtenSays : Written → Answer
+writtenSays (written.Length n) = given (n ∷ [])
+writtenSays (written.Refused f) = refusalSays f
 
 -- The other way, for code that has a number: the reason of a number of the table.
 abbrev pub reasonOf : ℕ → Reason

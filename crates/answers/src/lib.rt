@@ -67,6 +67,12 @@ pub enum Placed {
     Refused(Refusal),
 }
 
+// The length of the byte form that was written.
+pub enum Written {
+    Length(usize),
+    Refused(Refusal),
+}
+
 // The refusal with a number of the table.
 pub fn refusal_of(number: u8, place: usize) -> Refusal
     ensures { λ r. ⌜ r ≡ refusalOf number place ⌝ }

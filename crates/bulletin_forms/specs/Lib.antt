@@ -1,0 +1,3 @@
+pub mod Bulletins
+pub mod Calls
+pub mod Steps

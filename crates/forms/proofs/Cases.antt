@@ -1,0 +1,57 @@
+-- Cases H and I of 01, and each refusal, by computing the definitions.
+use Prim.Native.Nat.{ℕ}
+use mathlib.Core.List.{List, [], _∷_, _++_}
+use mathlib.Core.Path.{_≡_, refl}
+use lib.ListN.{take, drop, replicate}
+use Rattle.entries.specs.Entries.{entry}
+use Rattle.answers.specs.Answers.{outcome, given, refuse}
+use Rattle.blocks.specs.Blocks.{blockOf, verdict}
+use Rattle.records.specs.Check.{fletcher, checkOf}
+use Rattle.records.specs.Records.{bodyLength, headVerdict, startVerdict, itemVerdict}
+use Rattle.runs.specs.Runs.{runOf, entriesIn, runVerdict}
+use Rattle.forms.specs.Forms.{formOf, setForm, mapForm, formEntries, formVerdict}
+use Rattle.forms.specs.Calls.{readCall, writeCall, readSetCall, readMapCall, writeSetCall}
+
+abbrev caseH : List ℕ
+caseH = 0xC5 ∷ 0x3A ∷ 0x01 ∷ 0x00 ∷ 0x01 ∷ 0x04 ∷ 0x02 ∷ 0xC5 ∷ 0x3A ∷ 0x10 ∷ 0 ∷ 0 ∷ 0 ∷ 0 ∷ 0 ∷ 0 ∷ 0 ∷ 5 ∷ 0 ∷ 0 ∷ 0 ∷ 0 ∷ 0 ∷ 0 ∷ 0 ∷ 9 ∷ 0x47 ∷ 0x1E ∷ []
+
+abbrev caseI : List ℕ
+caseI = 0xC5 ∷ 0x3A ∷ 0x01 ∷ 0x00 ∷ 0x00 ∷ 0x03 ∷ 0x01 ∷ []
+
+h-read : readSetCall caseH (7 ∷ 7 ∷ 7 ∷ 7 ∷ 7 ∷ []) ≡ outcome (given []) ((1 ∷ 5 ∷ 9 ∷ 0 ∷ 0 ∷ []) ∷ [])
+unfolding readCall formVerdict formEntries runVerdict entriesIn startVerdict itemVerdict headVerdict bodyLength checkOf fletcher blockOf
+h-read = refl
+
+h-written : writeSetCall (1 ∷ 5 ∷ 9 ∷ []) (replicate 30 7) 1 ≡ outcome (given (28 ∷ [])) ((7 ∷ (caseH ++ (7 ∷ []))) ∷ [])
+unfolding writeCall formOf runOf verdict checkOf fletcher
+h-written = refl
+
+h-changed : readSetCall (take 27 caseH ++ (0x1F ∷ [])) (7 ∷ []) ≡ refuse 11 7 ((7 ∷ []) ∷ [])
+unfolding readCall formVerdict formEntries runVerdict entriesIn startVerdict itemVerdict headVerdict bodyLength checkOf fletcher
+h-changed = refl
+
+i-read : readSetCall caseI (7 ∷ []) ≡ outcome (given []) ((0 ∷ []) ∷ [])
+unfolding readCall formVerdict formEntries runVerdict entriesIn startVerdict itemVerdict headVerdict bodyLength checkOf fletcher blockOf
+i-read = refl
+
+i-written : writeSetCall (0 ∷ []) (replicate 7 7) 0 ≡ outcome (given (7 ∷ [])) (caseI ∷ [])
+unfolding writeCall formOf runOf verdict checkOf fletcher
+i-written = refl
+
+-- each refusal of reading a set: 8 before and inside a record, 9, 10, 13, then 1 and 5 of the output
+set-refusals :
+    readSetCall [] [] ∷ readSetCall (take 6 caseI) [] ∷ readSetCall (take 7 caseH) [] ∷ readSetCall (take 27 caseH) []
+    ∷ readSetCall (0xC5 ∷ 0x3B ∷ drop 2 caseH) [] ∷ readSetCall (mapForm []) [] ∷ readSetCall (caseH ++ (0 ∷ [])) [] ∷ readSetCall caseH [] ∷ readSetCall caseH (7 ∷ 7 ∷ []) ∷ []
+    ≡ refuse 8 0 ([] ∷ []) ∷ refuse 8 0 ([] ∷ []) ∷ refuse 8 7 ([] ∷ []) ∷ refuse 8 7 ([] ∷ [])
+    ∷ refuse 9 0 ([] ∷ []) ∷ refuse 10 0 ([] ∷ []) ∷ refuse 13 28 ([] ∷ []) ∷ refuse 1 0 ([] ∷ []) ∷ refuse 5 0 ((7 ∷ 7 ∷ []) ∷ []) ∷ []
+unfolding formOf runOf readCall formVerdict formEntries runVerdict entriesIn startVerdict itemVerdict headVerdict bodyLength checkOf fletcher blockOf
+set-refusals = refl
+
+-- 12 blames the later of two items: backwards, touching in a set, touching with the same value in a map; other values may touch
+contents :
+    readSetCall (setForm (entry 9 5 [] ∷ [])) [] ∷ readSetCall (setForm (entry 1 4 [] ∷ entry 5 6 [] ∷ [])) []
+    ∷ readMapCall (mapForm (entry 1 4 (2 ∷ []) ∷ entry 5 6 (2 ∷ []) ∷ [])) [] ∷ readMapCall (mapForm (entry 1 4 (2 ∷ []) ∷ entry 5 6 (3 ∷ []) ∷ [])) (replicate 8 9) ∷ []
+    ≡ refuse 12 7 ([] ∷ []) ∷ refuse 12 28 ([] ∷ [])
+    ∷ refuse 12 36 ([] ∷ []) ∷ outcome (given []) ((2 ∷ 1 ∷ 4 ∷ 2 ∷ 5 ∷ 6 ∷ 3 ∷ 0 ∷ []) ∷ []) ∷ []
+unfolding formOf runOf readCall formVerdict formEntries runVerdict entriesIn startVerdict itemVerdict headVerdict bodyLength checkOf fletcher blockOf
+contents = refl

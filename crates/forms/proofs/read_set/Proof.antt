@@ -1,0 +1,19 @@
+use Rattle.forms.proofs.Whole.{set-kinds}
+use borrow.Author.Needs.{needs}
+use Rattle.forms.proofs.read_set.Statement.{statement}
+use Rattle.forms.proofs.read_set.Tie as tie
+use Rattle.forms.proofs.read_set.Reads as reads
+use Rattle.forms.proofs.read_set.Lts as lts
+use Rattle.forms.proofs.read_form.Reads as read-form-reads
+
+read-form-requires : tie.Need-read-form-requires
+read-form-requires c κs = set-kinds
+
+same-length : tie.Need-same-length
+same-length c = search needs
+
+returns : tie.Need-returns
+returns c = search needs
+
+pub read-set-spec : {M : Type 1} → statement M
+read-set-spec = tie.close (tie.spec read-form-requires same-length returns)

@@ -1,0 +1,19 @@
+use Rattle.forms.proofs.Whole.{map-kinds}
+use borrow.Author.Needs.{needs}
+use Rattle.forms.proofs.write_map.Statement.{statement}
+use Rattle.forms.proofs.write_map.Tie as tie
+use Rattle.forms.proofs.write_map.Reads as reads
+use Rattle.forms.proofs.write_map.Lts as lts
+use Rattle.forms.proofs.write_form.Reads as write-form-reads
+
+write-form-requires : tie.Need-write-form-requires
+write-form-requires c κs = map-kinds
+
+same-length : tie.Need-same-length
+same-length c = search needs
+
+returns : tie.Need-returns
+returns c = search needs
+
+pub write-map-spec : {M : Type 1} → statement M
+write-map-spec = tie.close (tie.spec write-form-requires same-length returns)

@@ -1,0 +1,19 @@
+use Rattle.forms.proofs.Whole.{set-kinds}
+use borrow.Author.Needs.{needs}
+use Rattle.forms.proofs.write_set.Statement.{statement}
+use Rattle.forms.proofs.write_set.Tie as tie
+use Rattle.forms.proofs.write_set.Reads as reads
+use Rattle.forms.proofs.write_set.Lts as lts
+use Rattle.forms.proofs.write_form.Reads as write-form-reads
+
+write-form-requires : tie.Need-write-form-requires
+write-form-requires c κs = set-kinds
+
+same-length : tie.Need-same-length
+same-length c = search needs
+
+returns : tie.Need-returns
+returns c = search needs
+
+pub write-set-spec : {M : Type 1} → statement M
+write-set-spec = tie.close (tie.spec write-form-requires same-length returns)

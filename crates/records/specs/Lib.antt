@@ -1,0 +1,4 @@
+pub mod Numbers
+pub mod Check
+pub mod Records
+pub mod Steps
