@@ -1,6 +1,6 @@
 // What a call can answer: the fifteen refusals of the table, and the answers of the questions and the changes.
 ghost use mathlib.Core.Path.{_≡_};
-ghost use Rattle.answers.specs.Says.{refusalOf, judgedOf};
+ghost use Rattle.answers.specs.Says.{numberOf, refusalOf, judgedOf};
 
 // Why a call was refused. The paper's number of each is `numberOf` in specs/Says.
 pub enum Reason {
@@ -105,4 +105,27 @@ pub fn judged_of(number: u8, place: usize) -> Judged
         return Judged::Accepted;
     }
     Judged::Refused(refusal_of(number, place))
+}
+
+// The paper's number of a reason.
+pub fn number_of(reason: Reason) -> u8
+    ensures { λ r. ⌜ r ≡ numberOf reason ⌝ }
+{
+    match reason {
+        Reason::NoBlock => 1,
+        Reason::Count => 2,
+        Reason::Order => 3,
+        Reason::Backwards => 4,
+        Reason::Room => 5,
+        Reason::ZeroRun => 6,
+        Reason::NoGap => 7,
+        Reason::Short => 8,
+        Reason::Mark => 9,
+        Reason::Kind => 10,
+        Reason::Check => 11,
+        Reason::Content => 12,
+        Reason::Trailing => 13,
+        Reason::Overlap => 14,
+        Reason::NoSpace => 15,
+    }
 }
