@@ -1,0 +1,4 @@
+// Reads the byte form of a set from standard input and writes its ranges, or the refusal.
+fn main() {
+    shown::run();
+}

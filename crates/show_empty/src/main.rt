@@ -1,0 +1,4 @@
+// The program on the empty set.
+fn main() {
+    shown::run();
+}

@@ -1,0 +1,4 @@
+// The program on the form of a map.
+fn main() {
+    shown::run();
+}

@@ -1,0 +1,4 @@
+// The program on an empty input.
+fn main() {
+    shown::run();
+}
