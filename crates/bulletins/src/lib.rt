@@ -10,7 +10,7 @@ ghost use Rattle.answers.specs.Says.{judgedSays};
 ghost use Rattle.blocks.specs.Blocks.{entriesOf, blockOf};
 ghost use Rattle.sweeps.specs.Sweeps.{Inputs};
 ghost use Rattle.bulletins.specs.Calls.{at, input, noBlock, overlap, noRoom, applyRefusals, applyCall, foldRefusals, foldCall};
-ghost use Rattle.bulletins.specs.Steps.{FirstOf, Two, Writes};
+ghost use Rattle.bulletins.specs.Steps.{FirstOf, Two, Folds, Writes};
 use answers::Judged;
 use sweeps::Plan;
 
@@ -198,6 +198,31 @@ fn judge_fold(
     }
 }
 
+// 5 of the outputs of a fold at 4 and 5, of so many words, in turn.
+fn fold_rooms(
+    released1: &[u64],
+    withdrawn1: &[u64],
+    released2: &[u64],
+    withdrawn2: &[u64],
+    words4: usize,
+    words5: usize,
+) -> Finding
+    requires { ⌜ Folds (now released1) (now withdrawn1) (now released2) (now withdrawn2) words4 words5 ⌝ }
+    ensures { λ r. ⌜ FirstOf (at 4 (noRoom words4 (amended (entriesOf 2 (now (released1 .entry))) (entriesOf 2 (now (released2 .entry))) (entriesOf 2 (now (withdrawn2 .entry))))) ∷ at 5 (noRoom words5 (amended (entriesOf 2 (now (withdrawn1 .entry))) (entriesOf 2 (now (withdrawn2 .entry))) (entriesOf 2 (now (released2 .entry))))) ∷ []) r ⌝ }
+{
+    let full = no_room(released1, released2, withdrawn2, words4);
+    if full != 0 {
+        return Finding {
+            number: full,
+            place: 4,
+        };
+    }
+    Finding {
+        number: no_room(withdrawn1, withdrawn2, released2, words5),
+        place: 5,
+    }
+}
+
 // The first refusal of a fold to outputs at 4 and 5 of so many words: both rooms are known before anything is written.
 fn fold_refusal(
     released1: &[u64],
@@ -227,18 +252,7 @@ fn fold_refusal(
             place: 0,
         };
     }
-    let full = no_room(released1, released2, withdrawn2, words4);
-    if full != 0 {
-        return Finding {
-            number: full,
-            place: 4,
-        };
-    }
-    let full_too = no_room(withdrawn1, withdrawn2, released2, words5);
-    Finding {
-        number: full_too,
-        place: 5,
-    }
+    fold_rooms(released1, withdrawn1, released2, withdrawn2, words4, words5)
 }
 
 // Folds an earlier bulletin and a later one into one with the effect of both in turn. Refused, neither output is changed.
