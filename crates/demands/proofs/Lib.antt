@@ -1,3 +1,4 @@
 pub mod Table
 pub mod Accepting
 pub mod Sets
+pub mod Bulletins
