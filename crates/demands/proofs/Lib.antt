@@ -2,3 +2,4 @@ pub mod Table
 pub mod Accepting
 pub mod Sets
 pub mod Maps
+pub mod Bulletins

@@ -17,3 +17,4 @@ pub mod Limits
 pub mod Questions
 pub mod Windows
 pub mod Finding
+pub mod Bulletins

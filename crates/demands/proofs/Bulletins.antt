@@ -1,0 +1,269 @@
+-- DEMAND 3: bulletins. What the calls `applyCall` and `foldCall` leave, and the laws of folding, said of accepted calls and their words.
+-- «Applied to a list S it gives S without W, then joined with R.»
+use mathlib.Core.Path.{_≡_, refl, sym, _∙_, ap, ap₂, subst}
+use mathlib.Core.Bool.{Bool, true, false}
+use mathlib.Core.List.{List, [], _∷_}
+use Prim.Native.Nat.{ℕ, _≤_, _<_}
+use native.Mathlib.Omega.{arith}
+use lib.ListN.{length}
+use Rattle.entries.specs.Entries.{Entry}
+use Rattle.entries.specs.Build.{pick, andb}
+use Rattle.entries.specs.Sets.{member, intersection}
+use Rattle.entries.specs.Questions.{isEmpty}
+use Rattle.entries.specs.Bulletins.{amended}
+use Rattle.entries.proofs.Plain.{set-canonical}
+use Rattle.entries.proofs.Bulletins.{amend, Apart, apart-sym, amended-is, amended-amended, amended-apart, amended-swap, effect-released, effect-withdrawn}
+use Rattle.answers.specs.Answers.{given, Outcome, outcome}
+use Rattle.blocks.specs.Blocks.{setLimit, capacity, entriesOf, blockOf, verdict}
+use Rattle.blocks.proofs.Judging.{verdict-sound, room}
+use Rattle.blocks.proofs.Canonical.{Zeros, entries-stored, length-stored, sound-stored, plain-shaped}
+use Rattle.sets.proofs.Asking.{entries-plain}
+use Rattle.bulletins.specs.declared.Finding.{Finding}
+use Rattle.bulletins.specs.Calls.{inTurn, noBlock, overlap, noRoom, applyRefusals, applyCall, foldRefusals, foldCall}
+use Rattle.bulletins.specs.Steps.{Clear}
+use Rattle.bulletins.proofs.Amending.{some-words, room-fits}
+use Rattle.demands.proofs.Accepting.{Keeps, judged-keeps, judged-accepted, SetLeft}
+use Rattle.demands.proofs.Sets.{one-form, disjoint-means, means-disjoint}
+
+-- accepted, with the words of each output as they then are
+abbrev pub accepted : List (List ℕ) → Outcome
+accepted after = outcome (given []) after
+
+-- «A bulletin is two set blocks with no number in common, released R and withdrawn W, in that order.»
+pub record Bulletin (released withdrawn : List ℕ) : Type 0 where
+  pub released-sound : verdict 2 setLimit released ≡ 0
+  pub withdrawn-sound : verdict 2 setLimit withdrawn ≡ 0
+  pub apart : Apart (entriesOf 2 released) (entriesOf 2 withdrawn)
+
+-- REFUSED: nothing lent is changed
+turn-keeps : (fs : List Finding) (lent : List (List ℕ)) (after : List (List ℕ)) → Keeps lent (inTurn fs lent (accepted after))
+turn-keeps [] lent after = tt
+turn-keeps (f ∷ fs) lent after = judged-keeps (f .number) (f .place) lent (inTurn fs lent (accepted after)) (turn-keeps fs lent after)
+
+pub apply-keeps : (list released withdrawn out : List ℕ) → Keeps (out ∷ []) (applyCall list released withdrawn out)
+unfolding applyCall
+apply-keeps list released withdrawn out = turn-keeps (applyRefusals list released withdrawn (length out)) (out ∷ []) _
+
+pub fold-keeps : (r₁ w₁ r₂ w₂ outR outW : List ℕ) → Keeps (outR ∷ outW ∷ []) (foldCall r₁ w₁ r₂ w₂ outR outW)
+unfolding foldCall
+fold-keeps r₁ w₁ r₂ w₂ outR outW = turn-keeps (foldRefusals r₁ w₁ r₂ w₂ (length outR) (length outW)) (outR ∷ outW ∷ []) _
+
+-- ACCEPTED: no refusal applies, and then it is
+turn-accepted : (fs : List Finding) (lent : List (List ℕ)) (x : Outcome) (after : List (List ℕ)) → inTurn fs lent x ≡ accepted after → Clear fs × (x ≡ accepted after)
+turn-accepted [] lent x after e = (tt, e)
+turn-accepted (f ∷ fs) lent x after e =
+    let j = judged-accepted (f .number) (f .place) lent (inTurn fs lent x) [] after e in
+    let k = turn-accepted fs lent x after (j .1) in ((j .0, k .0), k .1)
+
+clear-turn : (fs : List Finding) (lent : List (List ℕ)) (x : Outcome) → Clear fs → inTurn fs lent x ≡ x
+clear-turn [] lent x c = refl
+clear-turn (f ∷ fs) lent x c = rw (c .0) (clear-turn fs lent x (c .1))
+
+overlap-apart : (r w : List Entry) → overlap r w ≡ 0 → Apart r w
+unfolding overlap
+overlap-apart r w e = disjoint-means r w (go (isEmpty (intersection r w)) e)
+  where
+    go : (t : Bool) → _≡_ {A = ℕ} (pick t 0 14) 0 → t ≡ true
+    go true e = refl
+    go false e = absurd (omega arith)
+
+apart-overlap : (r w : List Entry) → Apart r w → overlap r w ≡ 0
+unfolding overlap
+apart-overlap r w h = rw (means-disjoint r w h)
+
+-- the block of an amended list, in a block of L words that has room for it
+module _ (L : ℕ) (s r w : List Entry) where
+  amended-entries : entriesOf 2 (blockOf L (amended s r w)) ≡ amended s r w
+  amended-entries = entries-stored 2 (omega arith) L (amended s r w) (plain-shaped (amended s r w) (amended-is s r w .plain))
+
+  amended-left : noBlock L ≡ 0 → noRoom L (amended s r w) ≡ 0 → SetLeft L (λ x. amend (member s x) (member r x) (member w x)) (blockOf L (amended s r w))
+  amended-left b f =
+      let p = some-words L b in
+      let q = room-fits L (amended s r w) f in
+      let h = plain-shaped (amended s r w) (amended-is s r w .plain) in
+      record {
+        sound = sound-stored 2 (omega arith) L (amended s r w) h setLimit p q (amended-is s r w .sound);
+        long = length-stored 2 (omega arith) L (amended s r w) h (room 2 setLimit L (length (amended s r w)) p q);
+        members = λ x. ap (λ (l : List Entry). member l x) amended-entries ∙ amended-is s r w .members x;
+        stored-form = ap (blockOf L) (sym amended-entries);
+      }
+
+-- an accepted application
+record Applied (list released withdrawn out after : List ℕ) : Type 0 where
+  clear : Clear (applyRefusals list released withdrawn (length out))
+  words : after ≡ blockOf (length out) (amended (entriesOf 2 list) (entriesOf 2 released) (entriesOf 2 withdrawn))
+
+applied : (list released withdrawn out after : List ℕ) → applyCall list released withdrawn out ≡ accepted (after ∷ []) → Applied list released withdrawn out after
+unfolding applyCall
+applied list released withdrawn out after e =
+    let k = turn-accepted (applyRefusals list released withdrawn (length out)) (out ∷ []) _ (after ∷ []) e in record { clear = k .0; words = same _ (k .1) }
+  where
+    same : (l : List ℕ) → outcome (given []) (l ∷ []) ≡ accepted (after ∷ []) → after ≡ l
+    same l d = cc
+
+-- an accepted fold
+record Folded (r₁ w₁ r₂ w₂ outR outW R W : List ℕ) : Type 0 where
+  clear : Clear (foldRefusals r₁ w₁ r₂ w₂ (length outR) (length outW))
+  released : R ≡ blockOf (length outR) (amended (entriesOf 2 r₁) (entriesOf 2 r₂) (entriesOf 2 w₂))
+  withdrawn : W ≡ blockOf (length outW) (amended (entriesOf 2 w₁) (entriesOf 2 w₂) (entriesOf 2 r₂))
+
+folded : (r₁ w₁ r₂ w₂ outR outW R W : List ℕ) → foldCall r₁ w₁ r₂ w₂ outR outW ≡ accepted (R ∷ W ∷ []) → Folded r₁ w₁ r₂ w₂ outR outW R W
+unfolding foldCall
+folded r₁ w₁ r₂ w₂ outR outW R W e =
+    let k = turn-accepted (foldRefusals r₁ w₁ r₂ w₂ (length outR) (length outW)) (outR ∷ outW ∷ []) _ (R ∷ W ∷ []) e in record { clear = k .0; released = first _ _ (k .1); withdrawn = second _ _ (k .1) }
+  where
+    first : (l m : List ℕ) → outcome (given []) (l ∷ m ∷ []) ≡ accepted (R ∷ W ∷ []) → R ≡ l
+    first l m d = cc
+
+    second : (l m : List ℕ) → outcome (given []) (l ∷ m ∷ []) ≡ accepted (R ∷ W ∷ []) → W ≡ m
+    second l m d = cc
+
+-- APPLY, in the words of membership alone: a number is listed afterwards if it was listed and is not withdrawn, or if it is released
+pub apply-means : (list released withdrawn out after : List ℕ) → applyCall list released withdrawn out ≡ accepted (after ∷ [])
+    → SetLeft (length out) (λ x. amend (member (entriesOf 2 list) x) (member (entriesOf 2 released) x) (member (entriesOf 2 withdrawn) x)) after
+apply-means list released withdrawn out after e =
+    let a = applied list released withdrawn out after e in
+    rw (a .words) (amended-left (length out) (entriesOf 2 list) (entriesOf 2 released) (entriesOf 2 withdrawn) (a .clear .1 .1 .1 .0) (a .clear .1 .1 .1 .1 .1 .0))
+
+-- an accepted fold
+module _ (r₁ w₁ r₂ w₂ outR outW R W : List ℕ) (e : foldCall r₁ w₁ r₂ w₂ outR outW ≡ accepted (R ∷ W ∷ [])) where
+  f : Folded r₁ w₁ r₂ w₂ outR outW R W
+  f = folded r₁ w₁ r₂ w₂ outR outW R W e
+
+  -- FOLD, in the words of membership alone
+  pub fold-released : SetLeft (length outR) (λ x. amend (member (entriesOf 2 r₁) x) (member (entriesOf 2 r₂) x) (member (entriesOf 2 w₂) x)) R
+  unfolding f
+  fold-released = rw (f .released) (amended-left (length outR) (entriesOf 2 r₁) (entriesOf 2 r₂) (entriesOf 2 w₂) (f .clear .1 .1 .1 .1 .0) (f .clear .1 .1 .1 .1 .1 .1 .1 .1 .0))
+
+  pub fold-withdrawn : SetLeft (length outW) (λ x. amend (member (entriesOf 2 w₁) x) (member (entriesOf 2 w₂) x) (member (entriesOf 2 r₂) x)) W
+  unfolding f
+  fold-withdrawn = rw (f .withdrawn) (amended-left (length outW) (entriesOf 2 w₁) (entriesOf 2 w₂) (entriesOf 2 r₂) (f .clear .1 .1 .1 .1 .1 .0) (f .clear .1 .1 .1 .1 .1 .1 .1 .1 .1 .0))
+
+  entries-released : entriesOf 2 R ≡ amended (entriesOf 2 r₁) (entriesOf 2 r₂) (entriesOf 2 w₂)
+  entries-released = ap (entriesOf 2) (f .released) ∙ amended-entries (length outR) (entriesOf 2 r₁) (entriesOf 2 r₂) (entriesOf 2 w₂)
+
+  entries-withdrawn : entriesOf 2 W ≡ amended (entriesOf 2 w₁) (entriesOf 2 w₂) (entriesOf 2 r₂)
+  entries-withdrawn = ap (entriesOf 2) (f .withdrawn) ∙ amended-entries (length outW) (entriesOf 2 w₁) (entriesOf 2 w₂) (entriesOf 2 r₂)
+
+  folded-apart : Apart (entriesOf 2 R) (entriesOf 2 W)
+  folded-apart =
+      rw (entries-released, entries-withdrawn)
+      (amended-apart (entriesOf 2 r₁) (entriesOf 2 w₁) (entriesOf 2 r₂) (entriesOf 2 w₂) (overlap-apart (entriesOf 2 r₁) (entriesOf 2 w₁) (f .clear .1 .1 .1 .1 .1 .1 .0)) (overlap-apart (entriesOf 2 r₂) (entriesOf 2 w₂) (f .clear .1 .1 .1 .1 .1 .1 .1 .0)))
+
+  -- THE FOLD OF TWO BULLETINS IS A BULLETIN
+  pub fold-bulletin : Bulletin R W
+  fold-bulletin = record { released-sound = fold-released .sound; withdrawn-sound = fold-withdrawn .sound; apart = folded-apart }
+
+-- FOLDING, THEN APPLYING: where two bulletins are applied one after the other, their fold does the same at once, to the same words
+pub fold-applies : (list r₁ w₁ r₂ w₂ outR outW R W out₁ T out₂ U out : List ℕ)
+    → foldCall r₁ w₁ r₂ w₂ outR outW ≡ accepted (R ∷ W ∷ [])
+    → applyCall list r₁ w₁ out₁ ≡ accepted (T ∷ [])
+    → applyCall T r₂ w₂ out₂ ≡ accepted (U ∷ [])
+    → length out ≡ length out₂
+    → applyCall list R W out ≡ accepted (U ∷ [])
+unfolding applyCall
+fold-applies list r₁ w₁ r₂ w₂ outR outW R W out₁ T out₂ U out e p q l =
+    clear-turn (applyRefusals list R W (length out)) (out ∷ []) _ clears ∙ ap (λ (x : List ℕ). accepted (x ∷ [])) (ap₂ blockOf l same ∙ sym (second .words))
+  where
+    first : Applied list r₁ w₁ out₁ T
+    first = applied list r₁ w₁ out₁ T p
+
+    second : Applied T r₂ w₂ out₂ U
+    second = applied T r₂ w₂ out₂ U q
+
+    between : entriesOf 2 T ≡ amended (entriesOf 2 list) (entriesOf 2 r₁) (entriesOf 2 w₁)
+    between = ap (entriesOf 2) (first .words) ∙ amended-entries (length out₁) (entriesOf 2 list) (entriesOf 2 r₁) (entriesOf 2 w₁)
+
+    same : amended (entriesOf 2 list) (entriesOf 2 R) (entriesOf 2 W) ≡ amended (entriesOf 2 T) (entriesOf 2 r₂) (entriesOf 2 w₂)
+    same =
+        ap₂ (amended (entriesOf 2 list)) (entries-released r₁ w₁ r₂ w₂ outR outW R W e) (entries-withdrawn r₁ w₁ r₂ w₂ outR outW R W e)
+        ∙ amended-amended (entriesOf 2 list) (entriesOf 2 r₁) (entriesOf 2 w₁) (entriesOf 2 r₂) (entriesOf 2 w₂)
+        ∙ ap (λ (t : List Entry). amended t (entriesOf 2 r₂) (entriesOf 2 w₂)) (sym between)
+
+    bulletin : Bulletin R W
+    bulletin = fold-bulletin r₁ w₁ r₂ w₂ outR outW R W e
+
+    clears : Clear (applyRefusals list R W (length out))
+    clears = (
+      first .clear .0,
+      (
+        bulletin .released-sound,
+        (
+          bulletin .withdrawn-sound,
+          (
+            ap noBlock l ∙ second .clear .1 .1 .1 .0,
+            (
+              apart-overlap (entriesOf 2 R) (entriesOf 2 W) (bulletin .apart),
+              (
+                ap₂ noRoom l same ∙ second .clear .1 .1 .1 .1 .1 .0,
+                tt,
+              ),
+            ),
+          ),
+        ),
+      ),
+    )
+
+-- GROUPING: three bulletins fold to the same words either way
+pub fold-groups : (r₁ w₁ r₂ w₂ r₃ w₃ : List ℕ) (o₁ o₂ o₃ o₄ o₅ o₆ o₇ o₈ : List ℕ) (R₁₂ W₁₂ R W R₂₃ W₂₃ R′ W′ : List ℕ)
+    → foldCall r₁ w₁ r₂ w₂ o₁ o₂ ≡ accepted (R₁₂ ∷ W₁₂ ∷ [])
+    → foldCall R₁₂ W₁₂ r₃ w₃ o₃ o₄ ≡ accepted (R ∷ W ∷ [])
+    → foldCall r₂ w₂ r₃ w₃ o₅ o₆ ≡ accepted (R₂₃ ∷ W₂₃ ∷ [])
+    → foldCall r₁ w₁ R₂₃ W₂₃ o₇ o₈ ≡ accepted (R′ ∷ W′ ∷ [])
+    → length o₃ ≡ length o₇ → length o₄ ≡ length o₈
+    → (R ≡ R′) × (W ≡ W′)
+fold-groups r₁ w₁ r₂ w₂ r₃ w₃ o₁ o₂ o₃ o₄ o₅ o₆ o₇ o₈ R₁₂ W₁₂ R W R₂₃ W₂₃ R′ W′ a b c d l m =
+    let left = folded R₁₂ W₁₂ r₃ w₃ o₃ o₄ R W b in
+    let right = folded r₁ w₁ R₂₃ W₂₃ o₇ o₈ R′ W′ d in
+    (left .released ∙ ap₂ blockOf l released ∙ sym (right .released), left .withdrawn ∙ ap₂ blockOf m withdrawn ∙ sym (right .withdrawn))
+  where
+    released : amended (entriesOf 2 R₁₂) (entriesOf 2 r₃) (entriesOf 2 w₃) ≡ amended (entriesOf 2 r₁) (entriesOf 2 R₂₃) (entriesOf 2 W₂₃)
+    released =
+        ap (λ (t : List Entry). amended t (entriesOf 2 r₃) (entriesOf 2 w₃)) (entries-released r₁ w₁ r₂ w₂ o₁ o₂ R₁₂ W₁₂ a)
+        ∙ sym (amended-amended (entriesOf 2 r₁) (entriesOf 2 r₂) (entriesOf 2 w₂) (entriesOf 2 r₃) (entriesOf 2 w₃))
+        ∙ sym (ap₂ (amended (entriesOf 2 r₁)) (entries-released r₂ w₂ r₃ w₃ o₅ o₆ R₂₃ W₂₃ c) (entries-withdrawn r₂ w₂ r₃ w₃ o₅ o₆ R₂₃ W₂₃ c))
+
+    withdrawn : amended (entriesOf 2 W₁₂) (entriesOf 2 w₃) (entriesOf 2 r₃) ≡ amended (entriesOf 2 w₁) (entriesOf 2 W₂₃) (entriesOf 2 R₂₃)
+    withdrawn =
+        ap (λ (t : List Entry). amended t (entriesOf 2 w₃) (entriesOf 2 r₃)) (entries-withdrawn r₁ w₁ r₂ w₂ o₁ o₂ R₁₂ W₁₂ a)
+        ∙ sym (amended-amended (entriesOf 2 w₁) (entriesOf 2 w₂) (entriesOf 2 r₂) (entriesOf 2 w₃) (entriesOf 2 r₃))
+        ∙ sym (ap₂ (amended (entriesOf 2 w₁)) (entries-withdrawn r₂ w₂ r₃ w₃ o₅ o₆ R₂₃ W₂₃ c) (entries-released r₂ w₂ r₃ w₃ o₅ o₆ R₂₃ W₂₃ c))
+
+-- EITHER ORDER: «Two bulletins, neither of which releases a number that the other withdraws, fold in either order, if accepted, to the
+-- same words, into output blocks of the same lengths.»
+pub fold-either-order : (r₁ w₁ r₂ w₂ outR outW outR′ outW′ R W R′ W′ : List ℕ)
+    → Apart (entriesOf 2 r₁) (entriesOf 2 w₂) → Apart (entriesOf 2 r₂) (entriesOf 2 w₁)
+    → foldCall r₁ w₁ r₂ w₂ outR outW ≡ accepted (R ∷ W ∷ [])
+    → foldCall r₂ w₂ r₁ w₁ outR′ outW′ ≡ accepted (R′ ∷ W′ ∷ [])
+    → length outR ≡ length outR′ → length outW ≡ length outW′
+    → (R ≡ R′) × (W ≡ W′)
+fold-either-order r₁ w₁ r₂ w₂ outR outW outR′ outW′ R W R′ W′ p q a b l m =
+    let left = folded r₁ w₁ r₂ w₂ outR outW R W a in
+    let right = folded r₂ w₂ r₁ w₁ outR′ outW′ R′ W′ b in (
+      left .released ∙ ap₂ blockOf l (amended-swap (entriesOf 2 r₁) (entriesOf 2 w₁) (entriesOf 2 r₂) (entriesOf 2 w₂) p q) ∙ sym (right .released),
+      left .withdrawn
+          ∙ ap₂ blockOf m (amended-swap (entriesOf 2 w₁) (entriesOf 2 r₁) (entriesOf 2 w₂) (entriesOf 2 r₂) (apart-sym (entriesOf 2 r₂) (entriesOf 2 w₁) q) (apart-sym (entriesOf 2 r₁) (entriesOf 2 w₂) p))
+          ∙ sym (right .withdrawn),
+    )
+
+-- THE SAME EFFECT: two bulletins that do the same to every number, listed before or not, hold the same ranges
+module _ (r w r′ w′ : List ℕ) (b : Bulletin r w) (b′ : Bulletin r′ w′)
+    (h : (listed : Bool) (x : ℕ) → amend listed (member (entriesOf 2 r) x) (member (entriesOf 2 w) x) ≡ amend listed (member (entriesOf 2 r′) x) (member (entriesOf 2 w′) x)) where
+  pub same-effect : (entriesOf 2 r ≡ entriesOf 2 r′) × (entriesOf 2 w ≡ entriesOf 2 w′)
+  same-effect = (
+    set-canonical (entriesOf 2 r) (entriesOf 2 r′) (verdict-sound 2 setLimit r (b .released-sound) .sound) (verdict-sound 2 setLimit r′ (b′ .released-sound) .sound) (entries-plain r) (entries-plain r′) released,
+    set-canonical (entriesOf 2 w) (entriesOf 2 w′) (verdict-sound 2 setLimit w (b .withdrawn-sound) .sound) (verdict-sound 2 setLimit w′ (b′ .withdrawn-sound) .sound) (entries-plain w) (entries-plain w′) withdrawn,
+  )
+    where
+      released : (x : ℕ) → member (entriesOf 2 r) x ≡ member (entriesOf 2 r′) x
+      released = effect-released (entriesOf 2 r) (entriesOf 2 w) (entriesOf 2 r′) (entriesOf 2 w′) (b .apart) (b′ .apart) h
+
+      withdrawn : (x : ℕ) → member (entriesOf 2 w) x ≡ member (entriesOf 2 w′) x
+      withdrawn = effect-withdrawn (entriesOf 2 r) (entriesOf 2 w) (entriesOf 2 r′) (entriesOf 2 w′) (b .apart) (b′ .apart) h
+
+  -- and, in blocks of the same lengths with zeros after the stored form, the same words
+  pub same-effect-words : length r ≡ length r′ → length w ≡ length w′ → Zeros 2 r → Zeros 2 r′ → Zeros 2 w → Zeros 2 w′ → (r ≡ r′) × (w ≡ w′)
+  same-effect-words l m zr zr′ zw zw′ = (
+    one-form r r′ (b .released-sound) (b′ .released-sound) l zr zr′ (λ x. ap (λ (es : List Entry). member es x) (same-effect .0)),
+    one-form w w′ (b .withdrawn-sound) (b′ .withdrawn-sound) m zw zw′ (λ x. ap (λ (es : List Entry). member es x) (same-effect .1)),
+  )
