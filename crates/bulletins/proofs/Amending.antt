@@ -14,7 +14,7 @@ use Rattle.entries.specs.Questions.{isEmpty}
 use Rattle.entries.specs.Bulletins.{amended}
 use Rattle.entries.proofs.Values.{true≢false}
 use Rattle.entries.proofs.Bulletins.{amended-bound}
-use Rattle.blocks.specs.Blocks.{setLimit, capacity, entriesOf, blockOf, verdict}
+use Rattle.blocks.specs.Blocks.{setLimit, capacity, entriesOf, verdict}
 use Rattle.blocks.proofs.Judging.{verdict-sound, verdict-most, room}
 use Rattle.blocks.proofs.Words.{items-length}
 use Rattle.sweeps.specs.Sweeps.{Input, Inputs, result}

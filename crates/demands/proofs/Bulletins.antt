@@ -1,23 +1,25 @@
 -- DEMAND 3: bulletins. What the calls `applyCall` and `foldCall` leave, and the laws of folding, said of accepted calls and their words.
 -- «Applied to a list S it gives S without W, then joined with R.»
-use mathlib.Core.Path.{_≡_, refl, sym, _∙_, ap, ap₂, subst}
+use mathlib.Core.Path.{_≡_, refl, sym, _∙_, ap, ap₂}
 use mathlib.Core.Bool.{Bool, true, false}
 use mathlib.Core.List.{List, [], _∷_}
 use Prim.Native.Nat.{ℕ, _≤_, _<_}
 use native.Mathlib.Omega.{arith}
-use lib.ListN.{length}
+use native.Mathlib.Decide.{decLt}
+use lib.ListN.{length, getD}
 use Rattle.entries.specs.Entries.{Entry}
-use Rattle.entries.specs.Build.{pick, andb}
-use Rattle.entries.specs.Sets.{member, intersection}
+use Rattle.entries.specs.Build.{pick}
+use Rattle.entries.specs.Sets.{M, has, member, intersection}
 use Rattle.entries.specs.Questions.{isEmpty}
 use Rattle.entries.specs.Bulletins.{amended}
 use Rattle.entries.proofs.Plain.{set-canonical}
 use Rattle.entries.proofs.Bulletins.{amend, Apart, apart-sym, amended-is, amended-amended, amended-apart, amended-swap, effect-released, effect-withdrawn}
 use Rattle.answers.specs.Answers.{given, Outcome, outcome}
-use Rattle.blocks.specs.Blocks.{setLimit, capacity, entriesOf, blockOf, verdict}
+use Rattle.blocks.specs.Blocks.{setLimit, entriesOf, blockOf, verdict}
 use Rattle.blocks.proofs.Judging.{verdict-sound, room}
 use Rattle.blocks.proofs.Canonical.{Zeros, entries-stored, length-stored, sound-stored, plain-shaped}
 use Rattle.sets.proofs.Asking.{entries-plain}
+use Rattle.sweeps.proofs.Tables.{bounded}
 use Rattle.bulletins.specs.declared.Finding.{Finding}
 use Rattle.bulletins.specs.Calls.{inTurn, noBlock, overlap, noRoom, applyRefusals, applyCall, foldRefusals, foldCall}
 use Rattle.bulletins.specs.Steps.{Clear}
@@ -204,51 +206,152 @@ fold-applies list r₁ w₁ r₂ w₂ outR outW R W out₁ T out₂ U out e p q 
       ),
     )
 
--- GROUPING: three bulletins fold to the same words either way
+-- two accepted outcomes of one call leave the same words
+same-words : (o : Outcome) (a b c d : List ℕ) → o ≡ accepted (a ∷ b ∷ []) → o ≡ accepted (c ∷ d ∷ []) → (a ≡ c) × (b ≡ d)
+same-words o a b c d p q = let e : accepted (a ∷ b ∷ []) ≡ accepted (c ∷ d ∷ []) = sym p ∙ q in (first e, second e)
+  where
+    first : accepted (a ∷ b ∷ []) ≡ accepted (c ∷ d ∷ []) → a ≡ c
+    first e = cc
+
+    second : accepted (a ∷ b ∷ []) ≡ accepted (c ∷ d ∷ []) → b ≡ d
+    second e = cc
+
+-- a fold of two bulletins with these results, into outputs as long as those that had room for them
+fold-as : (r₁ w₁ r₂ w₂ outR outW outR′ outW′ R W : List ℕ) (rs ws : List Entry) → Bulletin r₁ w₁ → Bulletin r₂ w₂
+    → amended (entriesOf 2 r₁) (entriesOf 2 r₂) (entriesOf 2 w₂) ≡ rs → amended (entriesOf 2 w₁) (entriesOf 2 w₂) (entriesOf 2 r₂) ≡ ws
+    → noBlock (length outR) ≡ 0 → noBlock (length outW) ≡ 0 → noRoom (length outR) rs ≡ 0 → noRoom (length outW) ws ≡ 0
+    → R ≡ blockOf (length outR) rs → W ≡ blockOf (length outW) ws → length outR′ ≡ length outR → length outW′ ≡ length outW
+    → foldCall r₁ w₁ r₂ w₂ outR′ outW′ ≡ accepted (R ∷ W ∷ [])
+unfolding foldCall
+fold-as r₁ w₁ r₂ w₂ outR outW outR′ outW′ R W rs ws b c er ew nr nw fr fw pr pw l m =
+    clear-turn (foldRefusals r₁ w₁ r₂ w₂ (length outR′) (length outW′)) (outR′ ∷ outW′ ∷ []) _ clears
+    ∙ ap₂ (λ (x y : List ℕ). accepted (x ∷ y ∷ [])) (ap₂ blockOf l er ∙ sym pr) (ap₂ blockOf m ew ∙ sym pw)
+  where
+    clears : Clear (foldRefusals r₁ w₁ r₂ w₂ (length outR′) (length outW′))
+    clears = (
+      b .released-sound,
+      (
+        b .withdrawn-sound,
+        (
+          c .released-sound,
+          (
+            c .withdrawn-sound,
+            (
+              ap noBlock l ∙ nr,
+              (
+                ap noBlock m ∙ nw,
+                (
+                  apart-overlap (entriesOf 2 r₁) (entriesOf 2 w₁) (b .apart),
+                  (
+                    apart-overlap (entriesOf 2 r₂) (entriesOf 2 w₂) (c .apart),
+                    (
+                      ap₂ noRoom l er ∙ fr,
+                      (
+                        ap₂ noRoom m ew ∙ fw,
+                        tt,
+                      ),
+                    ),
+                  ),
+                ),
+              ),
+            ),
+          ),
+        ),
+      ),
+    )
+
+-- the inputs of an accepted fold are bulletins
+module _ (r₁ w₁ r₂ w₂ outR outW R W : List ℕ) (e : foldCall r₁ w₁ r₂ w₂ outR outW ≡ accepted (R ∷ W ∷ [])) where
+  g : Folded r₁ w₁ r₂ w₂ outR outW R W
+  g = folded r₁ w₁ r₂ w₂ outR outW R W e
+
+  pub earlier-bulletin : Bulletin r₁ w₁
+  earlier-bulletin = record { released-sound = g .clear .0; withdrawn-sound = g .clear .1 .0; apart = overlap-apart (entriesOf 2 r₁) (entriesOf 2 w₁) (g .clear .1 .1 .1 .1 .1 .1 .0) }
+
+  pub later-bulletin : Bulletin r₂ w₂
+  later-bulletin = record { released-sound = g .clear .1 .1 .0; withdrawn-sound = g .clear .1 .1 .1 .0; apart = overlap-apart (entriesOf 2 r₂) (entriesOf 2 w₂) (g .clear .1 .1 .1 .1 .1 .1 .1 .0) }
+
+-- GROUPING: where (1, 2), then 3, and (2, 3) fold, so does 1 with (2, 3), into outputs of the same lengths, to the same words
+pub fold-regroups : (r₁ w₁ r₂ w₂ r₃ w₃ : List ℕ) (o₁ o₂ o₃ o₄ o₅ o₆ o₇ o₈ : List ℕ) (R₁₂ W₁₂ R W R₂₃ W₂₃ : List ℕ)
+    → foldCall r₁ w₁ r₂ w₂ o₁ o₂ ≡ accepted (R₁₂ ∷ W₁₂ ∷ [])
+    → foldCall R₁₂ W₁₂ r₃ w₃ o₃ o₄ ≡ accepted (R ∷ W ∷ [])
+    → foldCall r₂ w₂ r₃ w₃ o₅ o₆ ≡ accepted (R₂₃ ∷ W₂₃ ∷ [])
+    → length o₇ ≡ length o₃ → length o₈ ≡ length o₄
+    → foldCall r₁ w₁ R₂₃ W₂₃ o₇ o₈ ≡ accepted (R ∷ W ∷ [])
+fold-regroups r₁ w₁ r₂ w₂ r₃ w₃ o₁ o₂ o₃ o₄ o₅ o₆ o₇ o₈ R₁₂ W₁₂ R W R₂₃ W₂₃ a b c l m =
+    let f = folded R₁₂ W₁₂ r₃ w₃ o₃ o₄ R W b in
+    fold-as r₁ w₁ R₂₃ W₂₃ o₃ o₄ o₇ o₈ R W _ _ (earlier-bulletin r₁ w₁ r₂ w₂ o₁ o₂ R₁₂ W₁₂ a) (fold-bulletin r₂ w₂ r₃ w₃ o₅ o₆ R₂₃ W₂₃ c) released withdrawn
+    (f .clear .1 .1 .1 .1 .0) (f .clear .1 .1 .1 .1 .1 .0) (f .clear .1 .1 .1 .1 .1 .1 .1 .1 .0) (f .clear .1 .1 .1 .1 .1 .1 .1 .1 .1 .0) (f .released) (f .withdrawn) l m
+  where
+    released : amended (entriesOf 2 r₁) (entriesOf 2 R₂₃) (entriesOf 2 W₂₃) ≡ amended (entriesOf 2 R₁₂) (entriesOf 2 r₃) (entriesOf 2 w₃)
+    released =
+        ap₂ (amended (entriesOf 2 r₁)) (entries-released r₂ w₂ r₃ w₃ o₅ o₆ R₂₃ W₂₃ c) (entries-withdrawn r₂ w₂ r₃ w₃ o₅ o₆ R₂₃ W₂₃ c)
+        ∙ amended-amended (entriesOf 2 r₁) (entriesOf 2 r₂) (entriesOf 2 w₂) (entriesOf 2 r₃) (entriesOf 2 w₃)
+        ∙ sym (ap (λ (t : List Entry). amended t (entriesOf 2 r₃) (entriesOf 2 w₃)) (entries-released r₁ w₁ r₂ w₂ o₁ o₂ R₁₂ W₁₂ a))
+
+    withdrawn : amended (entriesOf 2 w₁) (entriesOf 2 W₂₃) (entriesOf 2 R₂₃) ≡ amended (entriesOf 2 W₁₂) (entriesOf 2 w₃) (entriesOf 2 r₃)
+    withdrawn =
+        ap₂ (amended (entriesOf 2 w₁)) (entries-withdrawn r₂ w₂ r₃ w₃ o₅ o₆ R₂₃ W₂₃ c) (entries-released r₂ w₂ r₃ w₃ o₅ o₆ R₂₃ W₂₃ c)
+        ∙ amended-amended (entriesOf 2 w₁) (entriesOf 2 w₂) (entriesOf 2 r₂) (entriesOf 2 w₃) (entriesOf 2 r₃)
+        ∙ sym (ap (λ (t : List Entry). amended t (entriesOf 2 w₃) (entriesOf 2 r₃)) (entries-withdrawn r₁ w₁ r₂ w₂ o₁ o₂ R₁₂ W₁₂ a))
+
+-- three bulletins fold to the same words under either grouping
 pub fold-groups : (r₁ w₁ r₂ w₂ r₃ w₃ : List ℕ) (o₁ o₂ o₃ o₄ o₅ o₆ o₇ o₈ : List ℕ) (R₁₂ W₁₂ R W R₂₃ W₂₃ R′ W′ : List ℕ)
     → foldCall r₁ w₁ r₂ w₂ o₁ o₂ ≡ accepted (R₁₂ ∷ W₁₂ ∷ [])
     → foldCall R₁₂ W₁₂ r₃ w₃ o₃ o₄ ≡ accepted (R ∷ W ∷ [])
     → foldCall r₂ w₂ r₃ w₃ o₅ o₆ ≡ accepted (R₂₃ ∷ W₂₃ ∷ [])
     → foldCall r₁ w₁ R₂₃ W₂₃ o₇ o₈ ≡ accepted (R′ ∷ W′ ∷ [])
-    → length o₃ ≡ length o₇ → length o₄ ≡ length o₈
+    → length o₇ ≡ length o₃ → length o₈ ≡ length o₄
     → (R ≡ R′) × (W ≡ W′)
 fold-groups r₁ w₁ r₂ w₂ r₃ w₃ o₁ o₂ o₃ o₄ o₅ o₆ o₇ o₈ R₁₂ W₁₂ R W R₂₃ W₂₃ R′ W′ a b c d l m =
-    let left = folded R₁₂ W₁₂ r₃ w₃ o₃ o₄ R W b in
-    let right = folded r₁ w₁ R₂₃ W₂₃ o₇ o₈ R′ W′ d in
-    (left .released ∙ ap₂ blockOf l released ∙ sym (right .released), left .withdrawn ∙ ap₂ blockOf m withdrawn ∙ sym (right .withdrawn))
-  where
-    released : amended (entriesOf 2 R₁₂) (entriesOf 2 r₃) (entriesOf 2 w₃) ≡ amended (entriesOf 2 r₁) (entriesOf 2 R₂₃) (entriesOf 2 W₂₃)
-    released =
-        ap (λ (t : List Entry). amended t (entriesOf 2 r₃) (entriesOf 2 w₃)) (entries-released r₁ w₁ r₂ w₂ o₁ o₂ R₁₂ W₁₂ a)
-        ∙ sym (amended-amended (entriesOf 2 r₁) (entriesOf 2 r₂) (entriesOf 2 w₂) (entriesOf 2 r₃) (entriesOf 2 w₃))
-        ∙ sym (ap₂ (amended (entriesOf 2 r₁)) (entries-released r₂ w₂ r₃ w₃ o₅ o₆ R₂₃ W₂₃ c) (entries-withdrawn r₂ w₂ r₃ w₃ o₅ o₆ R₂₃ W₂₃ c))
+    same-words (foldCall r₁ w₁ R₂₃ W₂₃ o₇ o₈) R W R′ W′ (fold-regroups r₁ w₁ r₂ w₂ r₃ w₃ o₁ o₂ o₃ o₄ o₅ o₆ o₇ o₈ R₁₂ W₁₂ R W R₂₃ W₂₃ a b c l m) d
 
-    withdrawn : amended (entriesOf 2 W₁₂) (entriesOf 2 w₃) (entriesOf 2 r₃) ≡ amended (entriesOf 2 w₁) (entriesOf 2 W₂₃) (entriesOf 2 R₂₃)
-    withdrawn =
-        ap (λ (t : List Entry). amended t (entriesOf 2 w₃) (entriesOf 2 r₃)) (entries-withdrawn r₁ w₁ r₂ w₂ o₁ o₂ R₁₂ W₁₂ a)
-        ∙ sym (amended-amended (entriesOf 2 w₁) (entriesOf 2 w₂) (entriesOf 2 r₂) (entriesOf 2 w₃) (entriesOf 2 r₃))
-        ∙ sym (ap₂ (amended (entriesOf 2 w₁)) (entries-withdrawn r₂ w₂ r₃ w₃ o₅ o₆ R₂₃ W₂₃ c) (entries-released r₂ w₂ r₃ w₃ o₅ o₆ R₂₃ W₂₃ c))
+-- EITHER ORDER: of two bulletins, neither of which releases a number that the other withdraws, a fold that is accepted in one order
+-- is accepted in the other, into outputs of the same lengths, to the same words
+pub fold-other-order : (r₁ w₁ r₂ w₂ outR outW outR′ outW′ R W : List ℕ)
+    → Apart (entriesOf 2 r₁) (entriesOf 2 w₂) → Apart (entriesOf 2 r₂) (entriesOf 2 w₁)
+    → foldCall r₁ w₁ r₂ w₂ outR outW ≡ accepted (R ∷ W ∷ [])
+    → length outR′ ≡ length outR → length outW′ ≡ length outW
+    → foldCall r₂ w₂ r₁ w₁ outR′ outW′ ≡ accepted (R ∷ W ∷ [])
+fold-other-order r₁ w₁ r₂ w₂ outR outW outR′ outW′ R W p q a l m =
+    let f = folded r₁ w₁ r₂ w₂ outR outW R W a in
+    fold-as r₂ w₂ r₁ w₁ outR outW outR′ outW′ R W _ _ (later-bulletin r₁ w₁ r₂ w₂ outR outW R W a) (earlier-bulletin r₁ w₁ r₂ w₂ outR outW R W a)
+    (amended-swap (entriesOf 2 r₂) (entriesOf 2 w₂) (entriesOf 2 r₁) (entriesOf 2 w₁) q p)
+    (amended-swap (entriesOf 2 w₂) (entriesOf 2 r₂) (entriesOf 2 w₁) (entriesOf 2 r₁) (apart-sym (entriesOf 2 r₁) (entriesOf 2 w₂) p) (apart-sym (entriesOf 2 r₂) (entriesOf 2 w₁) q))
+    (f .clear .1 .1 .1 .1 .0) (f .clear .1 .1 .1 .1 .1 .0) (f .clear .1 .1 .1 .1 .1 .1 .1 .1 .0) (f .clear .1 .1 .1 .1 .1 .1 .1 .1 .1 .0) (f .released) (f .withdrawn) l m
 
--- EITHER ORDER: «Two bulletins, neither of which releases a number that the other withdraws, fold in either order, if accepted, to the
--- same words, into output blocks of the same lengths.»
+-- «Two bulletins, neither of which releases a number that the other withdraws, fold in either order, if accepted, to the same words,
+-- into output blocks of the same lengths.»
 pub fold-either-order : (r₁ w₁ r₂ w₂ outR outW outR′ outW′ R W R′ W′ : List ℕ)
     → Apart (entriesOf 2 r₁) (entriesOf 2 w₂) → Apart (entriesOf 2 r₂) (entriesOf 2 w₁)
     → foldCall r₁ w₁ r₂ w₂ outR outW ≡ accepted (R ∷ W ∷ [])
     → foldCall r₂ w₂ r₁ w₁ outR′ outW′ ≡ accepted (R′ ∷ W′ ∷ [])
-    → length outR ≡ length outR′ → length outW ≡ length outW′
+    → length outR′ ≡ length outR → length outW′ ≡ length outW
     → (R ≡ R′) × (W ≡ W′)
 fold-either-order r₁ w₁ r₂ w₂ outR outW outR′ outW′ R W R′ W′ p q a b l m =
-    let left = folded r₁ w₁ r₂ w₂ outR outW R W a in
-    let right = folded r₂ w₂ r₁ w₁ outR′ outW′ R′ W′ b in (
-      left .released ∙ ap₂ blockOf l (amended-swap (entriesOf 2 r₁) (entriesOf 2 w₁) (entriesOf 2 r₂) (entriesOf 2 w₂) p q) ∙ sym (right .released),
-      left .withdrawn
-          ∙ ap₂ blockOf m (amended-swap (entriesOf 2 w₁) (entriesOf 2 r₁) (entriesOf 2 w₂) (entriesOf 2 r₂) (apart-sym (entriesOf 2 r₂) (entriesOf 2 w₁) q) (apart-sym (entriesOf 2 r₁) (entriesOf 2 w₂) p))
-          ∙ sym (right .withdrawn),
-    )
+    same-words (foldCall r₂ w₂ r₁ w₁ outR′ outW′) R W R′ W′ (fold-other-order r₁ w₁ r₂ w₂ outR outW outR′ outW′ R W p q a l m) b
 
--- THE SAME EFFECT: two bulletins that do the same to every number, listed before or not, hold the same ranges
-module _ (r w r′ w′ : List ℕ) (b : Bulletin r w) (b′ : Bulletin r′ w′)
-    (h : (listed : Bool) (x : ℕ) → amend listed (member (entriesOf 2 r) x) (member (entriesOf 2 w) x) ≡ amend listed (member (entriesOf 2 r′) x) (member (entriesOf 2 w′) x)) where
+-- THE SAME EFFECT: two bulletins that do the same to every serial, listed before or not, hold the same ranges. A lent block's words are below 2^64.
+abbrev pub Lent : List ℕ → Type 0
+Lent w = (j : ℕ) → getD w j 0 < 18446744073709551616
+
+abbrev pub Effect : List ℕ → List ℕ → Bool → ℕ → Bool
+Effect released withdrawn listed x = amend listed (member (entriesOf 2 released) x) (member (entriesOf 2 withdrawn) x)
+
+module _ (r w r′ w′ : List ℕ) (b : Bulletin r w) (b′ : Bulletin r′ w′) (lr : Lent r) (lw : Lent w) (lr′ : Lent r′) (lw′ : Lent w′)
+    (h : (listed : Bool) (x : ℕ) → x ≤ M → Effect r w listed x ≡ Effect r′ w′ listed x) where
+  outside : (v : List ℕ) → Lent v → (x : ℕ) → 18446744073709551616 ≤ x → member (entriesOf 2 v) x ≡ false
+  outside v l x k = ap has (bounded 2 v l x k)
+
+  everywhere : (listed : Bool) (x : ℕ) → Effect r w listed x ≡ Effect r′ w′ listed x
+  everywhere listed x = go (decLt x 18446744073709551616)
+    where
+      go : Dec (x < 18446744073709551616) → Effect r w listed x ≡ Effect r′ w′ listed x
+      go (yes k) = h listed x (omega arith)
+      go (no k) =
+          let k : 18446744073709551616 ≤ x = omega arith in
+          ap₂ (amend listed) (outside r lr x k ∙ sym (outside r′ lr′ x k)) (outside w lw x k ∙ sym (outside w′ lw′ x k))
+
   pub same-effect : (entriesOf 2 r ≡ entriesOf 2 r′) × (entriesOf 2 w ≡ entriesOf 2 w′)
   same-effect = (
     set-canonical (entriesOf 2 r) (entriesOf 2 r′) (verdict-sound 2 setLimit r (b .released-sound) .sound) (verdict-sound 2 setLimit r′ (b′ .released-sound) .sound) (entries-plain r) (entries-plain r′) released,
@@ -256,10 +359,10 @@ module _ (r w r′ w′ : List ℕ) (b : Bulletin r w) (b′ : Bulletin r′ w�
   )
     where
       released : (x : ℕ) → member (entriesOf 2 r) x ≡ member (entriesOf 2 r′) x
-      released = effect-released (entriesOf 2 r) (entriesOf 2 w) (entriesOf 2 r′) (entriesOf 2 w′) (b .apart) (b′ .apart) h
+      released = effect-released (entriesOf 2 r) (entriesOf 2 w) (entriesOf 2 r′) (entriesOf 2 w′) (b .apart) (b′ .apart) everywhere
 
       withdrawn : (x : ℕ) → member (entriesOf 2 w) x ≡ member (entriesOf 2 w′) x
-      withdrawn = effect-withdrawn (entriesOf 2 r) (entriesOf 2 w) (entriesOf 2 r′) (entriesOf 2 w′) (b .apart) (b′ .apart) h
+      withdrawn = effect-withdrawn (entriesOf 2 r) (entriesOf 2 w) (entriesOf 2 r′) (entriesOf 2 w′) (b .apart) (b′ .apart) everywhere
 
   -- and, in blocks of the same lengths with zeros after the stored form, the same words
   pub same-effect-words : length r ≡ length r′ → length w ≡ length w′ → Zeros 2 r → Zeros 2 r′ → Zeros 2 w → Zeros 2 w′ → (r ≡ r′) × (w ≡ w′)

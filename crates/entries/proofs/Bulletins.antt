@@ -7,11 +7,11 @@ use native.Mathlib.Omega.{arith}
 use lib.ListN.{length}
 use Rattle.entries.specs.Entries.{Entry, Sound}
 use Rattle.entries.specs.Build.{andb}
-use Rattle.entries.specs.Sets.{Plain, member, orb, lessb, difference}
+use Rattle.entries.specs.Sets.{member, orb, lessb, difference}
 use Rattle.entries.specs.Bulletins.{amended}
 use Rattle.entries.proofs.Taut.{taut2, taut4, taut5}
 use Rattle.entries.proofs.Plain.{set-canonical}
-use Rattle.entries.proofs.Sets.{SetOf, set-unique, union-is, difference-is}
+use Rattle.entries.proofs.Sets.{SetOf, union-is, difference-is}
 use Rattle.entries.proofs.Limits.{union-bound, difference-bound}
 
 -- at one number: without w, then joined with r
