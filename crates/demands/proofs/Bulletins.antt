@@ -20,12 +20,12 @@ use Rattle.blocks.proofs.Judging.{verdict-sound, room}
 use Rattle.blocks.proofs.Canonical.{Zeros, entries-stored, length-stored, sound-stored, plain-shaped}
 use Rattle.sets.proofs.Asking.{entries-plain}
 use Rattle.sweeps.proofs.Tables.{bounded}
-use Rattle.bulletins.specs.declared.Finding.{Finding}
 use Rattle.bulletins.specs.Calls.{inTurn, noBlock, overlap, noRoom, applyRefusals, applyCall, foldRefusals, foldCall}
 use Rattle.bulletins.specs.Steps.{Clear}
 use Rattle.bulletins.proofs.Amending.{some-words, room-fits}
 use Rattle.demands.proofs.Accepting.{Keeps, judged-keeps, judged-accepted, SetLeft}
 use Rattle.demands.proofs.Sets.{one-form, disjoint-means, means-disjoint}
+use Rattle.bulletins.specs.declared.Finding.{Finding}
 
 -- accepted, with the words of each output as they then are
 abbrev pub accepted : List (List ℕ) → Outcome

@@ -2,11 +2,12 @@
 -- definitions by one statement. A wrong row would be reported by its index.
 use mathlib.Core.Path.{_≡_, refl}
 use mathlib.Core.Bool.{Bool, true, false}
-use mathlib.Core.List.{List, [], _∷_}
+use mathlib.Core.List.{List, [], _∷_, _++_}
 use Prim.Native.Nat.{ℕ, suc}
 use lib.Dec.{eqb}
+use lib.ListN.{take, replicate}
 use Rattle.entries.specs.Build.{pick, andb, sameWords, put}
-use Rattle.entries.specs.Sets.{M, difference, complement}
+use Rattle.entries.specs.Sets.{M, union, intersection, difference, complement}
 use Rattle.answers.specs.Answers.{Answer, given, refused, Outcome, outcome}
 use Rattle.blocks.specs.Blocks.{blockOf, verdict}
 use Rattle.edits.specs.Calls.{editCall}
@@ -14,6 +15,12 @@ use Rattle.sets.specs.Calls.{memberCall, sizeCall, leastNonMemberCall, insertCa
 use Rattle.fits.specs.Fits.{gaps, placeIn}
 use Rattle.fits.specs.Calls.{fitCall, reserveCall, firstFitCall, bestFitCall, reserveFirstCall, reserveBestCall}
 use Rattle.maps.specs.Calls.{assignCall}
+use Rattle.bulletins.specs.Calls.{noBlock, overlap, noRoom, applyCall, foldCall}
+use Rattle.records.specs.Check.{fletcher, checkOf}
+use Rattle.records.specs.Records.{bodyLength, headVerdict, startVerdict, itemVerdict}
+use Rattle.runs.specs.Runs.{runOf, entriesIn, runVerdict}
+use Rattle.forms.specs.Forms.{formOf, formEntries, formVerdict}
+use Rattle.forms.specs.Calls.{readCall, writeCall, readSetCall, writeSetCall}
 
 pub record Case : Type 0 where
   pub got : Outcome
@@ -56,6 +63,13 @@ answer xs = outcome (given xs) []
 abbrev F : List ℕ
 F = 3 ∷ 0 ∷ 3 ∷ 8 ∷ 9 ∷ 12 ∷ M ∷ []
 
+-- the bytes of cases H and I
+abbrev H : List ℕ
+H = 0xC5 ∷ 0x3A ∷ 0x01 ∷ 0x00 ∷ 0x01 ∷ 0x04 ∷ 0x02 ∷ 0xC5 ∷ 0x3A ∷ 0x10 ∷ 0 ∷ 0 ∷ 0 ∷ 0 ∷ 0 ∷ 0 ∷ 0 ∷ 5 ∷ 0 ∷ 0 ∷ 0 ∷ 0 ∷ 0 ∷ 0 ∷ 0 ∷ 9 ∷ 0x47 ∷ 0x1E ∷ []
+
+abbrev I : List ℕ
+I = 0xC5 ∷ 0x3A ∷ 0x01 ∷ 0x00 ∷ 0x00 ∷ 0x03 ∷ 0x01 ∷ []
+
 abbrev table : List Case
 table =
     -- A: empty, insert 5..9
@@ -87,6 +101,21 @@ table =
     -- G: {0..9 is 1}: assign 2 to 3..5 gives three entries; then assign 1 to 3..5 gives {0..9 is 1}
     ∷ case (assignCall (1 ∷ 0 ∷ 9 ∷ 1 ∷ 0 ∷ 0 ∷ 0 ∷ 0 ∷ 0 ∷ 0 ∷ []) 3 5 2) (accepted (3 ∷ 0 ∷ 2 ∷ 1 ∷ 3 ∷ 5 ∷ 2 ∷ 6 ∷ 9 ∷ 1 ∷ []))
     ∷ case (assignCall (3 ∷ 0 ∷ 2 ∷ 1 ∷ 3 ∷ 5 ∷ 2 ∷ 6 ∷ 9 ∷ 1 ∷ []) 3 5 1) (accepted (1 ∷ 0 ∷ 9 ∷ 1 ∷ 0 ∷ 0 ∷ 0 ∷ 0 ∷ 0 ∷ 0 ∷ []))
+    -- H: {5..9}, read and written; with its last byte 1F refused 11 at 7
+    ∷ case (readSetCall H (7 ∷ 7 ∷ 7 ∷ 7 ∷ 7 ∷ [])) (accepted (1 ∷ 5 ∷ 9 ∷ 0 ∷ 0 ∷ []))
+    ∷ case (writeSetCall (1 ∷ 5 ∷ 9 ∷ []) (replicate 30 7) 1) (outcome (given (28 ∷ [])) ((7 ∷ (H ++ (7 ∷ []))) ∷ []))
+    ∷ case (readSetCall (take 27 H ++ (0x1F ∷ [])) (7 ∷ 7 ∷ 7 ∷ [])) (refusing 11 7 (7 ∷ 7 ∷ 7 ∷ []))
+    -- I: the empty set, read and written
+    ∷ case (readSetCall I (7 ∷ [])) (accepted (0 ∷ []))
+    ∷ case (writeSetCall (0 ∷ []) (replicate 7 7) 0) (outcome (given (7 ∷ [])) (I ∷ []))
+    -- J: earlier releases 1..4; later releases 9..9 and withdraws 3..3
+    ∷ case (foldCall (1 ∷ 1 ∷ 4 ∷ []) (0 ∷ []) (1 ∷ 9 ∷ 9 ∷ []) (1 ∷ 3 ∷ 3 ∷ []) (7 ∷ 7 ∷ 7 ∷ 7 ∷ 7 ∷ 7 ∷ 7 ∷ 7 ∷ []) (7 ∷ 7 ∷ 7 ∷ 7 ∷ []))
+    (outcome (given []) ((3 ∷ 1 ∷ 2 ∷ 4 ∷ 4 ∷ 9 ∷ 9 ∷ 0 ∷ []) ∷ (1 ∷ 3 ∷ 3 ∷ 0 ∷ []) ∷ []))
+    -- the later bulletin of J applied to 1..4; one that releases and withdraws 4; no room for what is withdrawn changes neither block
+    ∷ case (applyCall (1 ∷ 1 ∷ 4 ∷ []) (1 ∷ 9 ∷ 9 ∷ []) (1 ∷ 3 ∷ 3 ∷ []) (7 ∷ 7 ∷ 7 ∷ 7 ∷ 7 ∷ 7 ∷ 7 ∷ [])) (accepted (3 ∷ 1 ∷ 2 ∷ 4 ∷ 4 ∷ 9 ∷ 9 ∷ []))
+    ∷ case (applyCall (0 ∷ []) (1 ∷ 1 ∷ 4 ∷ []) (1 ∷ 4 ∷ 9 ∷ []) (7 ∷ 7 ∷ [])) (refusing 14 0 (7 ∷ 7 ∷ []))
+    ∷ case (foldCall (1 ∷ 1 ∷ 4 ∷ []) (0 ∷ []) (1 ∷ 9 ∷ 9 ∷ []) (1 ∷ 3 ∷ 3 ∷ []) (7 ∷ 7 ∷ 7 ∷ 7 ∷ 7 ∷ 7 ∷ 7 ∷ []) (7 ∷ 7 ∷ []))
+    (outcome (refused 5 5) ((7 ∷ 7 ∷ 7 ∷ 7 ∷ 7 ∷ 7 ∷ 7 ∷ []) ∷ (7 ∷ 7 ∷ []) ∷ []))
     -- K: words 1, 9, 5
     ∷ case (memberCall (1 ∷ 9 ∷ 5 ∷ []) 7) (outcome (refused 3 0) [])
     ∷ case (insertCall (1 ∷ 9 ∷ 5 ∷ []) 1 2) (refusing 3 0 (1 ∷ 9 ∷ 5 ∷ []))
@@ -96,5 +125,5 @@ table =
     ∷ []
 
 pub worked : wrong 0 table ≡ []
-unfolding editCall verdict put blockOf memberCall sizeCall leastNonMemberCall complementCall complement difference fitCall reserveCall placeIn gaps
+unfolding editCall verdict put blockOf memberCall sizeCall leastNonMemberCall complementCall complement union intersection difference fitCall reserveCall placeIn gaps noBlock overlap noRoom applyCall foldCall readCall writeCall formOf formVerdict formEntries runOf runVerdict entriesIn startVerdict itemVerdict headVerdict bodyLength checkOf fletcher
 worked = refl

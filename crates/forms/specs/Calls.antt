@@ -1,12 +1,13 @@
 -- What the calls of this crate answer and leave.
 use Prim.Native.Nat.{ℕ, _-_}
 use mathlib.Core.List.{List, [], _∷_}
-use lib.Dec.{ltb, eqb}
+use lib.Dec.{ltb}
 use lib.ListN.{length}
 use Rattle.entries.specs.Entries.{Entry}
 use Rattle.entries.specs.Build.{pick}
 use Rattle.answers.specs.Answers.{Answer, given, refused, Outcome, outcome, refuse, judged}
-use Rattle.blocks.specs.Blocks.{setLimit, mapLimit, capacity, entriesOf, blockOf, verdict}
+use Rattle.blocks.specs.Blocks.{setLimit, mapLimit, entriesOf, verdict}
+use Rattle.blocks.specs.Calls.{stored, writable}
 use Rattle.records.specs.Numbers.{patch}
 use Rattle.forms.specs.Forms.{formOf, formEntries, formVerdict}
 
@@ -17,10 +18,7 @@ accepted (refused v p) lent x = refuse v p lent
 
 -- the entries into the output: «After the last record: .. then 1 for each output block, then 5 for each.»
 abbrev pub readInto : ℕ → ℕ → List Entry → List ℕ → Outcome
-readInto s limit es out =
-    pick (eqb (length out) 0) (refuse 1 0 (out ∷ []))
-    (pick (ltb (capacity s limit (length out)) (length es)) (refuse 5 0 (out ∷ []))
-    (outcome (given []) (blockOf (length out) es ∷ [])))
+readInto s limit es out = writable 0 out (stored 0 s limit out es)
 
 unfoldable pub readCall : ℕ → ℕ → ℕ → ℕ → List ℕ → List ℕ → Outcome
 readCall start kind s limit b out = accepted (formVerdict start kind s limit b) (out ∷ []) (readInto s limit (formEntries s b) out)
