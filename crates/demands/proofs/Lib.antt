@@ -3,3 +3,4 @@ pub mod Accepting
 pub mod Sets
 pub mod Maps
 pub mod Bulletins
+pub mod Bytes
