@@ -11,7 +11,7 @@ use Rattle.entries.specs.Sets.{M, union, intersection, difference, complement}
 use Rattle.answers.specs.Answers.{Answer, given, refused, Outcome, outcome}
 use Rattle.blocks.specs.Blocks.{blockOf, verdict}
 use Rattle.edits.specs.Calls.{editCall}
-use Rattle.sets.specs.Calls.{memberCall, sizeCall, leastNonMemberCall, insertCall, removeCall, complementCall}
+use Rattle.sets.specs.Calls.{memberCall, sizeCall, leastNonMemberCall, insertCall, removeCall, unionCall, complementCall}
 use Rattle.fits.specs.Fits.{gaps, placeIn}
 use Rattle.fits.specs.Calls.{fitCall, reserveCall, firstFitCall, bestFitCall, reserveFirstCall, reserveBestCall}
 use Rattle.maps.specs.Calls.{assignCall}
@@ -119,11 +119,24 @@ table =
     -- K: words 1, 9, 5
     ∷ case (memberCall (1 ∷ 9 ∷ 5 ∷ []) 7) (outcome (refused 3 0) [])
     ∷ case (insertCall (1 ∷ 9 ∷ 5 ∷ []) 1 2) (refusing 3 0 (1 ∷ 9 ∷ 5 ∷ []))
+    -- blocks that are not sound: no words; a count above the capacity of one word, of three, and M in every word; M as a high that is not last
+    ∷ case (memberCall [] 7) (outcome (refused 1 0) [])
+    ∷ case (memberCall (0 ∷ []) 7) (answer (0 ∷ []))
+    ∷ case (memberCall (1 ∷ []) 7) (outcome (refused 2 0) [])
+    ∷ case (memberCall (2 ∷ 1 ∷ 2 ∷ []) 7) (outcome (refused 2 0) [])
+    ∷ case (memberCall (M ∷ M ∷ M ∷ []) 7) (outcome (refused 2 0) [])
+    ∷ case (memberCall (2 ∷ 0 ∷ M ∷ 5 ∷ 6 ∷ []) 7) (outcome (refused 3 0) [])
+    -- at 0 and at M: insert 0..M into anything; remove M..M from {0..M}; complements of {0..0} and {M..M}; {0..5} and {6..M} are one range
+    ∷ case (insertCall (2 ∷ 3 ∷ 4 ∷ 8 ∷ M ∷ []) 0 M) (accepted (1 ∷ 0 ∷ M ∷ 0 ∷ 0 ∷ []))
+    ∷ case (removeCall (1 ∷ 0 ∷ M ∷ []) M M) (accepted (1 ∷ 0 ∷ 18446744073709551614 ∷ []))
+    ∷ case (complementCall (1 ∷ 0 ∷ 0 ∷ []) (7 ∷ 7 ∷ 7 ∷ [])) (accepted (1 ∷ 1 ∷ M ∷ []))
+    ∷ case (complementCall (1 ∷ M ∷ M ∷ []) (7 ∷ 7 ∷ 7 ∷ [])) (accepted (1 ∷ 0 ∷ 18446744073709551614 ∷ []))
+    ∷ case (unionCall (1 ∷ 0 ∷ 5 ∷ []) (1 ∷ 6 ∷ M ∷ []) (7 ∷ 7 ∷ 7 ∷ [])) (accepted (1 ∷ 0 ∷ M ∷ []))
     -- L: three words holding {5..9}
     ∷ case (insertCall (1 ∷ 5 ∷ 9 ∷ []) 11 11) (refusing 5 0 (1 ∷ 5 ∷ 9 ∷ []))
     ∷ case (insertCall (1 ∷ 5 ∷ 9 ∷ []) 10 10) (accepted (1 ∷ 5 ∷ 10 ∷ []))
     ∷ []
 
 pub worked : wrong 0 table ≡ []
-unfolding editCall verdict put blockOf memberCall sizeCall leastNonMemberCall complementCall complement union intersection difference fitCall reserveCall placeIn gaps noBlock overlap noRoom applyCall foldCall readCall writeCall formOf formVerdict formEntries runOf runVerdict entriesIn startVerdict itemVerdict headVerdict bodyLength checkOf fletcher
+unfolding editCall verdict put blockOf memberCall sizeCall leastNonMemberCall unionCall complementCall complement union intersection difference fitCall reserveCall placeIn gaps noBlock overlap noRoom applyCall foldCall readCall writeCall formOf formVerdict formEntries runOf runVerdict entriesIn startVerdict itemVerdict headVerdict bodyLength checkOf fletcher
 worked = refl
