@@ -12,6 +12,7 @@ pub const SET_LIMIT: usize = 4095;
 
 pub const MAP_LIMIT: usize = 2730;
 
+// The capacity of a block of len words, of which there is at least one.
 pub fn room_for(s: usize, limit: usize, len: usize) -> usize
     requires { ⌜ (2 ≤ s) × (0 < len) ⌝ }
     ensures { λ r. ⌜ r ≡ capacity s limit len ⌝ }
@@ -20,18 +21,21 @@ pub fn room_for(s: usize, limit: usize, len: usize) -> usize
     if c < limit { c } else { limit }
 }
 
+// A word as a count or a place: the same number.
 pub fn wide(x: u64) -> usize
     ensures { λ r. ⌜ r ≡ x ⌝ }
 {
     x as usize
 }
 
+// A count or a place as a word: the same number.
 pub fn narrow(x: usize) -> u64
     ensures { λ r. ⌜ r ≡ x ⌝ }
 {
     x as u64
 }
 
+// The word at place k.
 pub fn word(block: &[u64], k: usize) -> u64
     requires { ⌜ k < length (now block) ⌝ }
     ensures { λ r. ⌜ r ≡ getD (now (block .entry)) k 0 ⌝ }

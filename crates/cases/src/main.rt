@@ -4,6 +4,7 @@ use answers::Refusal;
 use answers::Truth;
 use answers::Written;
 
+// The refusal, to the end of the line.
 fn refused(f: Refusal) {
     let reason = f.reason;
     let place = f.place;
@@ -14,6 +15,7 @@ fn refused(f: Refusal) {
     io::write_all(1, b"\n");
 }
 
+// A change, and how it was answered.
 fn judged(name: &[u8], answer: Judged) {
     io::write_all(1, name);
     match answer {
@@ -24,6 +26,7 @@ fn judged(name: &[u8], answer: Judged) {
     }
 }
 
+// A question, and its answer.
 fn truth(name: &[u8], answer: Truth) {
     io::write_all(1, name);
     match answer {
@@ -37,7 +40,7 @@ fn truth(name: &[u8], answer: Truth) {
     }
 }
 
-// N: a block of no words, as an input, changed in place, and as an output. The words lent here are cut to none.
+// N: a block of no words as an input. The words lent here are cut to none.
 fn no_input(words: &[u64], out: &mut [u64]) {
     truth(b"N member: ", sets::member(&words[0..0], 5));
     judged(
@@ -46,6 +49,7 @@ fn no_input(words: &[u64], out: &mut [u64]) {
     );
 }
 
+// The same of a block changed in place, and of an output.
 fn no_block(words: &[u64], block: &mut [u64]) {
     judged(b"N make empty: ", sets::make_empty(&mut block[0..0]));
     judged(b"N insert: ", sets::insert(&mut block[0..0], 1, 2));
@@ -71,6 +75,7 @@ fn range_check(name: &[u8], low: u64, high: u64) {
     }
 }
 
+// A byte as a number.
 fn wide(x: u8) -> u64 {
     x as u64
 }
@@ -84,6 +89,7 @@ fn published(name: &[u8], text: &[u8]) {
     }
 }
 
+// The cases in the order of the file stdout.
 fn main() {
     let empty = [0u64; 1];
     let mut block = [0u64; 1];

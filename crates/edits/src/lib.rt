@@ -14,6 +14,7 @@ ghost use Rattle.blocks.specs.Calls.{stored};
 ghost use Rattle.edits.specs.Calls.{editCall};
 ghost use Rattle.edits.specs.Steps.{cutEnd, cutStart, update, CutOk, PlaceOk, SideOk, EditOk, roomSays};
 
+// The high end of an entry, brought below lo.
 fn below(high: u64, lo: u64) -> u64
     ensures { λ r. ⌜ r ≡ min high (lo - 1) ⌝ }
 {
@@ -138,6 +139,7 @@ fn left_of(block: &[u64], new: &[u64], s: usize, n: usize) -> Side
     Side { at: i, end: a }
 }
 
+// The new entry joins the entry that begins right after it or within it, if that has the same value.
 fn right_of(block: &[u64], new: &[u64], s: usize, n: usize) -> Side
     requires { ⌜ SideOk (now block) (now new) s n ⌝ }
     ensures { λ r. ⌜ JoinsRight zero-item (itemsOf s n (drop 1 (now (block .entry)))) (r .at) (r .end) (getD (now (new .entry)) 1 0) (take (s - 2) (drop 2 (now (new .entry)))) ⌝ }
@@ -160,6 +162,7 @@ fn right_of(block: &[u64], new: &[u64], s: usize, n: usize) -> Side
     Side { at: j, end: b }
 }
 
+// Gives the new entry other ends.
 fn set_ends(new: &mut [u64], lo: u64, hi: u64)
     requires { ⌜ 2 ≤ length (now new) ⌝ }
     ensures { λ _. ⌜ now (new .exit) ≡ lo ∷ hi ∷ drop 2 (now (new .entry)) ⌝ }

@@ -10,6 +10,7 @@ ghost use Rattle.runs.specs.Runs.{entriesIn};
 ghost use Rattle.host.specs.Calls.{memberOfFormCall};
 use runs::FormRead;
 
+// Whether x is in low..high.
 fn between(low: u64, x: u64, high: u64) -> bool
     ensures { λ r. ⌜ r ≡ andb (leb low x) (leb x high) ⌝ }
 {
