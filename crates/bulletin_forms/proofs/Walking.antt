@@ -4,10 +4,9 @@ use mathlib.Core.List.{List, [], _∷_}
 use mathlib.Core.Bool.{true, false}
 use mathlib.Core.Path.{_≡_, refl, sym, subst, ap, ap₂, _∙_}
 use native.Mathlib.Omega.{arith}
-use lib.ListN.{getD, drop}
-use lib.Seq.{drop-drop, getD-drop}
+use lib.ListN.{drop}
+use lib.Seq.{drop-drop}
 use Rattle.entries.specs.Entries.{Entry, entry, Sound}
-use Rattle.blocks.specs.Blocks.{itemsOf}
 use Rattle.records.specs.Numbers.{num8}
 use Rattle.records.proofs.Numbers.{num8-drop}
 use Rattle.runs.specs.Runs.{entriesIn}
@@ -77,17 +76,10 @@ module _ {E F : ℕ → ℕ → List Entry} {d : ℕ} {lo hi lo′ hi′ : ℕ �
       found x y z w p q r o h k =
           cross-found e f (E (left - 1) (i + d)) (F (others - 1) (j + d)) (omega arith) (omega arith) ∙ sym (l .same ∙ ap₂ crossb seen seen-too)
 
--- ranges in bytes, and in words
+-- ranges in bytes
 pub in-bytes : (b : List ℕ) → View (λ n p. entriesIn 2 n (drop p b)) 21 (λ p. num8 b (p + 3)) (λ p. num8 b (p + 11))
 unfolding entriesIn
 in-bytes b = record {
   none = λ p. refl;
   more = λ n p. ap₂ _∷_ (ap₂ (λ (x y : ℕ). entry x y []) (num8-drop b p 3) (num8-drop b p 11)) (ap (entriesIn 2 n) (drop-drop 21 p b));
-}
-
-pub in-words : (w : List ℕ) → View (λ n p. itemsOf 2 n (drop p w)) 2 (λ p. getD w p 0) (λ p. getD w (p + 1) 0)
-in-words w = record {
-  none = λ p. refl;
-  more = λ n p. let z : p + 0 ≡ p = omega arith in
-      ap₂ _∷_ (ap₂ (λ (x y : ℕ). entry x y []) (getD-drop p w 0 0 ∙ ap (λ (k : ℕ). getD w k 0) z) (getD-drop p w 1 0)) (ap (itemsOf 2 n) (drop-drop 2 p w));
 }

@@ -16,6 +16,10 @@ use answers::Judged;
 use answers::Written;
 use records::CountsRead;
 use runs::FormRead;
+use sweeps::Plan;
+
+// The table of the sweep that keeps the numbers of both sets: bit a + 2b.
+const IN_BOTH: u8 = 136;
 
 // Whether the n ranges whose records begin at place p share a number with the m whose records begin at place q.
 fn share_records(bytes: &[u8], p: usize, n: usize, q: usize, m: usize) -> bool
@@ -50,27 +54,14 @@ fn share_number(a: &[u64], b: &[u64]) -> bool
     requires { ⌜ SoundBlock 2 setLimit (now a) × SoundBlock 2 setLimit (now b) ⌝ }
     ensures { λ r. ⌜ r ≡ shareb (entriesOf 2 (now (a .entry))) (entriesOf 2 (now (b .entry))) ⌝ }
 {
-    let mut i: usize = 1;
-    let mut left = blocks::wide(blocks::word(a, 0));
-    let mut j: usize = 1;
-    let mut others = blocks::wide(blocks::word(b, 0));
-    while 0 < left {
-        if others == 0 {
-            return false;
-        }
-        if blocks::word(a, i + 1) < blocks::word(b, j) {
-            i += 2;
-            left -= 1;
-            continue;
-        }
-        if blocks::word(b, j + 1) < blocks::word(a, i) {
-            j += 2;
-            others -= 1;
-            continue;
-        }
-        return true;
-    }
-    false
+    let plan = Plan {
+        table: IN_BOTH,
+        a: 2,
+        b: 2,
+        c: 2,
+        out: 2,
+    };
+    operations::any_of_two(a, b, plan)
 }
 
 // The verdict on the bytes as a whole bulletin; if they are one, the place where its withdrawn ranges begin.
