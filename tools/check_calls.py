@@ -1,6 +1,6 @@
 #!/usr/bin/env python3
-"""Holds docs/CALLS.md against the tree: every public function of a public crate has one row, its signature is the source's, and
-every definition, law, edit and test that a row names exists. Prints what is wrong and ends with status 1, or says how many rows
+"""Holds docs/CALLS.md against the tree: every public function of a public crate has one row and no requires, its signature is the
+source's, and every definition, law, edit and test that a row names exists. Prints what is wrong and ends with status 1, or says how many rows
 were held."""
 import os
 import re
@@ -33,6 +33,17 @@ def signatures(crate):
     return found
 
 
+def asking(crate):
+    """The public functions of a crate that ask something of their caller."""
+    found = []
+    folder = os.path.join(ROOT, "crates", crate, "src")
+    for name in sorted(os.listdir(folder)):
+        for m in re.finditer(r'^pub (?:extern "C" )?fn (\w+).*?\n\{', read("crates", crate, "src", name), re.M | re.S):
+            if re.search(r"^\s+requires\b", m.group(0), re.M):
+                found.append(m.group(1))
+    return found
+
+
 def defines(path, name):
     """Whether an antt file declares a public name."""
     pattern = r"^\s*(?:abbrev |unfoldable )?pub (?:record |data )?" + re.escape(name) + r"(?=[\s:(])"
@@ -49,6 +60,8 @@ def main():
     for crate in public_crates(text):
         part = text.split(f"## `{crate}`", 1)[1].split("\n## ", 1)[0]
         due = signatures(crate)
+        for name in asking(crate):
+            wrong.append(f"{crate}::{name}: a call that a user is given has a requires")
         for line in part.splitlines():
             if not line.startswith("| `"):
                 continue

@@ -19,6 +19,7 @@ readTwo r w released withdrawn =
     (pick (ltb (capacity 2 setLimit (length withdrawn)) (length w)) (refuse 5 1 (released ∷ withdrawn ∷ []))
     (outcome (given []) (blockOf (length released) r ∷ blockOf (length withdrawn) w ∷ [])))))
 
+-- «Reading is asked for a set, a map or a bulletin, over the whole slice.»
 unfoldable pub readBulletinCall : List ℕ → List ℕ → List ℕ → Outcome
 readBulletinCall b released withdrawn =
     accepted (bulletinVerdict b) (released ∷ withdrawn ∷ []) (readTwo (releasedIn b) (withdrawnIn b) released withdrawn)

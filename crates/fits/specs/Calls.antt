@@ -26,6 +26,7 @@ asked fit w a b k lent next =
 abbrev pub answered : ℕ → Outcome
 answered s = outcome (given (s ∷ [])) []
 
+-- «Each comes as a question»
 unfoldable pub fitCall : (ℕ → ℕ → ℕ → List Entry → Option ℕ) → List ℕ → ℕ → ℕ → ℕ → Outcome
 fitCall fit w a b k = asked fit w a b k [] answered
 
@@ -38,14 +39,18 @@ answering s (outcome (refused n p) lent) = outcome (refused n p) lent
 unfoldable pub reserveCall : (ℕ → ℕ → ℕ → List Entry → Option ℕ) → List ℕ → ℕ → ℕ → ℕ → Outcome
 reserveCall fit w a b k = asked fit w a b k (w ∷ []) (λ s. answering s (editCall 2 setLimit w s (s + k - 1) (some [])))
 
+-- «First fit», as a question
 abbrev pub firstFitCall : List ℕ → ℕ → ℕ → ℕ → Outcome
 firstFitCall = fitCall firstFit
 
+-- «Best fit», as a question
 abbrev pub bestFitCall : List ℕ → ℕ → ℕ → ℕ → Outcome
 bestFitCall = fitCall bestFit
 
+-- «First fit», «as a reservation, which inserts s to s+k-1 and returns s»
 abbrev pub reserveFirstCall : List ℕ → ℕ → ℕ → ℕ → Outcome
 reserveFirstCall = reserveCall firstFit
 
+-- «Best fit», as a reservation
 abbrev pub reserveBestCall : List ℕ → ℕ → ℕ → ℕ → Outcome
 reserveBestCall = reserveCall bestFit

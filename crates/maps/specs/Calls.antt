@@ -25,6 +25,7 @@ lookUpCall w x = judged (verdict 3 mapLimit w) 0 [] (outcome (worth (valueAt (en
 abbrev pub assignCall : List ℕ → ℕ → ℕ → ℕ → Outcome
 assignCall w a b v = editCall 3 mapLimit w a b (some (v ∷ []))
 
+-- «Erase a..b»
 abbrev pub eraseCall : List ℕ → ℕ → ℕ → Outcome
 eraseCall w a b = editCall 3 mapLimit w a b none
 
@@ -32,9 +33,11 @@ eraseCall w a b = editCall 3 mapLimit w a b none
 unfoldable pub overlayCall : List ℕ → List ℕ → List ℕ → Outcome
 overlayCall upper lower o = fromTwo mapLayout mapLayout mapLayout overlay upper lower o
 
+-- «restriction of a map to a set (map first)»
 unfoldable pub restrictionCall : List ℕ → List ℕ → List ℕ → Outcome
 restrictionCall map set o = fromTwo mapLayout setLayout mapLayout restriction map set o
 
+-- «the set of numbers that have a value»
 unfoldable pub domainCall : List ℕ → List ℕ → Outcome
 domainCall map o = fromOne mapLayout setLayout domain map o
 
@@ -42,6 +45,7 @@ domainCall map o = fromOne mapLayout setLayout domain map o
 abbrev pub mapWindowCall : List ℕ → ℕ → ℕ → List ℕ
 mapWindowCall w a b = windowCall 3 mapLimit w a b
 
+-- «a companion question on the same inputs gives the refusal, or says that there is none»
 abbrev pub mapWindowRefusalCall : List ℕ → ℕ → ℕ → Outcome
 mapWindowRefusalCall w a b = windowRefusalCall 3 mapLimit w a b
 
@@ -58,5 +62,6 @@ abbrev pub accepted : Outcome → List ℕ → List ℕ
 accepted (outcome (given xs) lent) part = part
 accepted (outcome (refused n p) lent) part = []
 
+-- «Two maps, site over factory, and a number x: the answer is the three words of the deciding entry»
 unfoldable pub siteOverFactoryCall : List ℕ → List ℕ → ℕ → List ℕ
 siteOverFactoryCall site factory x = accepted (siteRefusalCall site factory) (deciding site factory x)

@@ -33,6 +33,7 @@ abbrev pub ends : Option Entry → Answer
 ends (some e) = given (e .low ∷ e .high ∷ [])
 ends none = given []
 
+-- the low and the high of that range
 unfoldable pub rangeAtCall : List ℕ → ℕ → Outcome
 rangeAtCall w i = asked w (λ es. ends (rangeAt es i))
 
@@ -48,6 +49,7 @@ leastMemberCall w x = asked w (λ es. optional (leastMember es x))
 abbrev pub nonMember : List Entry → ℕ → Option ℕ
 nonMember es x = pick (leb (leastFree es x) M) (some (leastFree es x)) none
 
+-- asked of a set block
 unfoldable pub leastNonMemberCall : List ℕ → ℕ → Outcome
 leastNonMemberCall w x = asked w (λ es. optional (nonMember es x))
 
@@ -55,6 +57,7 @@ leastNonMemberCall w x = asked w (λ es. optional (nonMember es x))
 abbrev pub setWindowCall : List ℕ → ℕ → ℕ → List ℕ
 setWindowCall w a b = windowCall 2 setLimit w a b
 
+-- «a companion question on the same inputs gives the refusal, or says that there is none»
 abbrev pub setWindowRefusalCall : List ℕ → ℕ → ℕ → Outcome
 setWindowRefusalCall w a b = windowRefusalCall 2 setLimit w a b
 
@@ -62,6 +65,7 @@ setWindowRefusalCall w a b = windowRefusalCall 2 setLimit w a b
 abbrev pub insertCall : List ℕ → ℕ → ℕ → Outcome
 insertCall w a b = editCall 2 setLimit w a b (some [])
 
+-- «remove a..b in place»
 abbrev pub removeCall : List ℕ → ℕ → ℕ → Outcome
 removeCall w a b = editCall 2 setLimit w a b none
 
@@ -87,14 +91,18 @@ disjointCall w v = askedTwo w v (λ es fs. truth (isEmpty (intersection es fs)))
 unfoldable pub unionCall : List ℕ → List ℕ → List ℕ → Outcome
 unionCall w v o = fromTwo setLayout setLayout setLayout union w v o
 
+-- «intersection»: the numbers of both
 unfoldable pub intersectionCall : List ℕ → List ℕ → List ℕ → Outcome
 intersectionCall w v o = fromTwo setLayout setLayout setLayout intersection w v o
 
+-- «difference»: the numbers of the first that are not in the second
 unfoldable pub differenceCall : List ℕ → List ℕ → List ℕ → Outcome
 differenceCall w v o = fromTwo setLayout setLayout setLayout difference w v o
 
+-- «symmetric difference»: the numbers of exactly one
 unfoldable pub symmetricDifferenceCall : List ℕ → List ℕ → List ℕ → Outcome
 symmetricDifferenceCall w v o = fromTwo setLayout setLayout setLayout symmetricDifference w v o
 
+-- «complement within 0..M»
 unfoldable pub complementCall : List ℕ → List ℕ → Outcome
 complementCall w o = fromOne setLayout setLayout complement w o
