@@ -5,20 +5,19 @@
    range. Words behind the items are not read in an input; an accepted call that writes a block makes them 0, to the block's end.
    A set block of L words has room for (L-1)/2 ranges, 4,095 at the most; a map block for (L-1)/3 entries, 2,730 at the most.
 
-   STATUS. Every call returns 0 if it was accepted, else 16 plus the number of the refusal (the constants below). A refused call
-   changes no word or byte lent to it. Only wimblorque_member returns its answer, 1 or 0, in the status itself.
-
-   ANSWER. Every call but wimblorque_member takes a wimblorque_answer, last, and always writes all of it:
+   ANSWERS. Every call but wimblorque_member returns a wimblorque_answer:
+     status   0 if the call was accepted, else 16 plus the number of the refusal (the constants below). A refused call changes no word
+              or byte lent to it.
      place    of a refusal: the position of the block that is refused, counted from 0 as this header lists the call's blocks (inputs
               first, then outputs); for bytes, where the refused record begins; 0 for the other refusals. Accepted: 0.
      count    how many values the call answers, 0 to 3. Refused: 0. A question that finds nothing answers 0 values.
-     first, second, third    the values; 0 where count says that there are fewer.
+     first, second, third    the values; 0 where there are fewer.
    A part of a block is answered as its offset, in words from the block's start, and its length, in words.
 
    WHAT IS ASKED OF THE CALLER is C's own and nothing else: a pointer is aligned for its type and valid for the length given with it
-   (with length 0 any address but NULL), and what a call writes - outputs, a block changed in place, the answer - overlaps nothing else that is
-   passed to it. Inputs may be the same block. Any words and any bytes at all may stand in what is lent: nothing has to be checked
-   beforehand, and no call writes or reads outside what it was lent, allocates, or keeps anything. */
+   (with length 0 any address but NULL), and what a call writes, an output or a block changed in place, overlaps nothing else that
+   is passed to it. Inputs may be the same block. Any words and any bytes at all may stand in what is lent: nothing has to be
+   checked beforehand, and no call reads or writes outside what it was lent, allocates, or keeps anything. */
 #ifndef WIMBLORQUE_H
 #define WIMBLORQUE_H
 
@@ -50,6 +49,7 @@ enum {
 };
 
 typedef struct wimblorque_answer {
+    uint64_t status;
     uint64_t place;
     uint64_t count;
     uint64_t first;
@@ -60,134 +60,134 @@ typedef struct wimblorque_answer {
 /* ---- Sets: questions. They change nothing. Refused if the block is not sound: 1, 2, 3. ---- */
 
 /* Is x a member? One value, 1 or 0. */
-uint64_t wimblorque_set_member(const uint64_t *block, size_t words, uint64_t x, wimblorque_answer *answer);
+wimblorque_answer wimblorque_set_member(const uint64_t *block, size_t words, uint64_t x);
 
 /* The range at index i, counted from 0. Two values, its low and its high; none if there are not that many. */
-uint64_t wimblorque_set_range_at(const uint64_t *block, size_t words, uint64_t i, wimblorque_answer *answer);
+wimblorque_answer wimblorque_set_range_at(const uint64_t *block, size_t words, uint64_t i);
 
 /* The size. One value, the number of members less one; none for the empty set. */
-uint64_t wimblorque_set_size(const uint64_t *block, size_t words, wimblorque_answer *answer);
+wimblorque_answer wimblorque_set_size(const uint64_t *block, size_t words);
 
 /* The least member at or above x. One value, or none. */
-uint64_t wimblorque_set_least_member(const uint64_t *block, size_t words, uint64_t x, wimblorque_answer *answer);
+wimblorque_answer wimblorque_set_least_member(const uint64_t *block, size_t words, uint64_t x);
 
 /* The least number at or above x that is not a member. One value, or none. */
-uint64_t wimblorque_set_least_non_member(const uint64_t *block, size_t words, uint64_t x, wimblorque_answer *answer);
+wimblorque_answer wimblorque_set_least_non_member(const uint64_t *block, size_t words, uint64_t x);
 
 /* The part of the block with the ranges that share a number with a..b, unclipped. Two values, offset and length; the length is 0 if
    there are none. Refused also with 4. */
-uint64_t wimblorque_set_window(const uint64_t *block, size_t words, uint64_t a, uint64_t b, wimblorque_answer *answer);
+wimblorque_answer wimblorque_set_window(const uint64_t *block, size_t words, uint64_t a, uint64_t b);
 
 /* Of two sets: have they the same members; is every member of the first one of the second; have they no number in common?
    One value, 1 or 0. Blocks: one 0, two 1. */
-uint64_t wimblorque_set_equal(const uint64_t *one, size_t one_words, const uint64_t *two, size_t two_words, wimblorque_answer *answer);
-uint64_t wimblorque_set_within(const uint64_t *one, size_t one_words, const uint64_t *two, size_t two_words, wimblorque_answer *answer);
-uint64_t wimblorque_set_disjoint(const uint64_t *one, size_t one_words, const uint64_t *two, size_t two_words, wimblorque_answer *answer);
+wimblorque_answer wimblorque_set_equal(const uint64_t *one, size_t one_words, const uint64_t *two, size_t two_words);
+wimblorque_answer wimblorque_set_within(const uint64_t *one, size_t one_words, const uint64_t *two, size_t two_words);
+wimblorque_answer wimblorque_set_disjoint(const uint64_t *one, size_t one_words, const uint64_t *two, size_t two_words);
 
 /* ---- Sets: changes in place. No values. ---- */
 
 /* Makes the block the empty set, or the empty map, whatever stood in it. Refused only with 1. */
-uint64_t wimblorque_set_make_empty(uint64_t *block, size_t words, wimblorque_answer *answer);
+wimblorque_answer wimblorque_set_make_empty(uint64_t *block, size_t words);
 
 /* Makes every number of a..b a member. Refused with 1, 2, 3, then 4, then 5. */
-uint64_t wimblorque_set_insert(uint64_t *block, size_t words, uint64_t a, uint64_t b, wimblorque_answer *answer);
+wimblorque_answer wimblorque_set_insert(uint64_t *block, size_t words, uint64_t a, uint64_t b);
 
 /* Makes no number of a..b a member. Refused with 1, 2, 3, then 4, then 5. */
-uint64_t wimblorque_set_remove(uint64_t *block, size_t words, uint64_t a, uint64_t b, wimblorque_answer *answer);
+wimblorque_answer wimblorque_set_remove(uint64_t *block, size_t words, uint64_t a, uint64_t b);
 
 /* ---- Sets: into a separate output. No values. The output's old words are not judged.
    Refused with 1, 2, 3 of each input in turn, then 1 of the output, then 5. Blocks: one 0, two 1, out 2; the complement's: set 0,
    out 1. ---- */
 
 /* The numbers of either. */
-uint64_t wimblorque_set_union(const uint64_t *one, size_t one_words, const uint64_t *two, size_t two_words, uint64_t *out,
-                              size_t out_words, wimblorque_answer *answer);
+wimblorque_answer wimblorque_set_union(const uint64_t *one, size_t one_words, const uint64_t *two, size_t two_words, uint64_t *out,
+                                       size_t out_words);
 
 /* The numbers of both. */
-uint64_t wimblorque_set_intersection(const uint64_t *one, size_t one_words, const uint64_t *two, size_t two_words, uint64_t *out,
-                                     size_t out_words, wimblorque_answer *answer);
+wimblorque_answer wimblorque_set_intersection(const uint64_t *one, size_t one_words, const uint64_t *two, size_t two_words,
+                                              uint64_t *out, size_t out_words);
 
 /* The numbers of the first that are not in the second. */
-uint64_t wimblorque_set_difference(const uint64_t *one, size_t one_words, const uint64_t *two, size_t two_words, uint64_t *out,
-                                   size_t out_words, wimblorque_answer *answer);
+wimblorque_answer wimblorque_set_difference(const uint64_t *one, size_t one_words, const uint64_t *two, size_t two_words,
+                                            uint64_t *out, size_t out_words);
 
 /* The numbers of exactly one. */
-uint64_t wimblorque_set_symmetric_difference(const uint64_t *one, size_t one_words, const uint64_t *two, size_t two_words,
-                                             uint64_t *out, size_t out_words, wimblorque_answer *answer);
+wimblorque_answer wimblorque_set_symmetric_difference(const uint64_t *one, size_t one_words, const uint64_t *two, size_t two_words,
+                                                      uint64_t *out, size_t out_words);
 
 /* The numbers from 0 to 2^64 - 1 that are not in the set. */
-uint64_t wimblorque_set_complement(const uint64_t *set, size_t words, uint64_t *out, size_t out_words, wimblorque_answer *answer);
+wimblorque_answer wimblorque_set_complement(const uint64_t *set, size_t words, uint64_t *out, size_t out_words);
 
 /* ---- Sets: room for a run of k numbers of the window a..b that are not members.
    Refused with 1, 2, 3, then 4, then 6, then 7; a reservation then also with 5, for the place that was chosen. ---- */
 
 /* The least start of such a run. One value. Changes nothing. */
-uint64_t wimblorque_set_first_fit(const uint64_t *block, size_t words, uint64_t a, uint64_t b, uint64_t k, wimblorque_answer *answer);
+wimblorque_answer wimblorque_set_first_fit(const uint64_t *block, size_t words, uint64_t a, uint64_t b, uint64_t k);
 
 /* The low end of the shortest gap of at least k numbers, the lowest such gap on a tie. One value. Changes nothing. */
-uint64_t wimblorque_set_best_fit(const uint64_t *block, size_t words, uint64_t a, uint64_t b, uint64_t k, wimblorque_answer *answer);
+wimblorque_answer wimblorque_set_best_fit(const uint64_t *block, size_t words, uint64_t a, uint64_t b, uint64_t k);
 
 /* The same places, with the k numbers from there on made members. One value, the place. */
-uint64_t wimblorque_set_reserve_first(uint64_t *block, size_t words, uint64_t a, uint64_t b, uint64_t k, wimblorque_answer *answer);
-uint64_t wimblorque_set_reserve_best(uint64_t *block, size_t words, uint64_t a, uint64_t b, uint64_t k, wimblorque_answer *answer);
+wimblorque_answer wimblorque_set_reserve_first(uint64_t *block, size_t words, uint64_t a, uint64_t b, uint64_t k);
+wimblorque_answer wimblorque_set_reserve_best(uint64_t *block, size_t words, uint64_t a, uint64_t b, uint64_t k);
 
 /* ---- Maps ---- */
 
 /* The value of x. One value, any word at all, or none if x has no value. Changes nothing. Refused with 1, 2, 3. */
-uint64_t wimblorque_map_look_up(const uint64_t *block, size_t words, uint64_t x, wimblorque_answer *answer);
+wimblorque_answer wimblorque_map_look_up(const uint64_t *block, size_t words, uint64_t x);
 
 /* Gives every number of a..b the value v, replacing what was there. No values. Refused with 1, 2, 3, then 4, then 5. */
-uint64_t wimblorque_map_assign(uint64_t *block, size_t words, uint64_t a, uint64_t b, uint64_t v, wimblorque_answer *answer);
+wimblorque_answer wimblorque_map_assign(uint64_t *block, size_t words, uint64_t a, uint64_t b, uint64_t v);
 
 /* Leaves no number of a..b a value. No values. Refused with 1, 2, 3, then 4, then 5. */
-uint64_t wimblorque_map_erase(uint64_t *block, size_t words, uint64_t a, uint64_t b, wimblorque_answer *answer);
+wimblorque_answer wimblorque_map_erase(uint64_t *block, size_t words, uint64_t a, uint64_t b);
 
 /* The part of the block with the entries that share a number with a..b, unclipped, as wimblorque_set_window. */
-uint64_t wimblorque_map_window(const uint64_t *block, size_t words, uint64_t a, uint64_t b, wimblorque_answer *answer);
+wimblorque_answer wimblorque_map_window(const uint64_t *block, size_t words, uint64_t a, uint64_t b);
 
 /* The entry that decides x: the site map's if x has a value there, else the factory map's. Three values: the offset and the length, 3,
    of its part, and the position of the map that holds it, 0 the site, 1 the factory. All three are 0 if x has no value in either.
    Changes nothing. Both maps are judged whatever x is: refused with 1, 2, 3 of each in turn. Blocks: site 0, factory 1. */
-uint64_t wimblorque_map_site_over_factory(const uint64_t *site, size_t site_words, const uint64_t *factory, size_t factory_words,
-                                          uint64_t x, wimblorque_answer *answer);
+wimblorque_answer wimblorque_map_site_over_factory(const uint64_t *site, size_t site_words, const uint64_t *factory,
+                                                   size_t factory_words, uint64_t x);
 
 /* Into out, as for sets. The upper map's value where it has one, else the lower's. Blocks: upper 0, lower 1, out 2. */
-uint64_t wimblorque_map_overlay(const uint64_t *upper, size_t upper_words, const uint64_t *lower, size_t lower_words, uint64_t *out,
-                                size_t out_words, wimblorque_answer *answer);
+wimblorque_answer wimblorque_map_overlay(const uint64_t *upper, size_t upper_words, const uint64_t *lower, size_t lower_words,
+                                         uint64_t *out, size_t out_words);
 
 /* The map's values at the set's numbers, into a map block. Blocks: map 0, set 1, out 2. */
-uint64_t wimblorque_map_restriction(const uint64_t *map, size_t map_words, const uint64_t *set, size_t set_words, uint64_t *out,
-                                    size_t out_words, wimblorque_answer *answer);
+wimblorque_answer wimblorque_map_restriction(const uint64_t *map, size_t map_words, const uint64_t *set, size_t set_words,
+                                             uint64_t *out, size_t out_words);
 
 /* The set of the numbers that have a value, into a set block. Blocks: map 0, out 1. */
-uint64_t wimblorque_map_domain(const uint64_t *map, size_t map_words, uint64_t *out, size_t out_words, wimblorque_answer *answer);
+wimblorque_answer wimblorque_map_domain(const uint64_t *map, size_t map_words, uint64_t *out, size_t out_words);
 
 /* ---- Bulletins: a released and a withdrawn set, in that order, with no number in common. No values. ---- */
 
 /* The list without the withdrawn, then joined with the released numbers, into out. Refused with 1, 2, 3 of each input in turn, then 1
    of the output, then 14, then 5. Blocks: list 0, released 1, withdrawn 2, out 3. */
-uint64_t wimblorque_bulletin_apply(const uint64_t *list, size_t list_words, const uint64_t *released, size_t released_words,
-                                   const uint64_t *withdrawn, size_t withdrawn_words, uint64_t *out, size_t out_words,
-                                   wimblorque_answer *answer);
+wimblorque_answer wimblorque_bulletin_apply(const uint64_t *list, size_t list_words, const uint64_t *released,
+                                            size_t released_words, const uint64_t *withdrawn, size_t withdrawn_words, uint64_t *out,
+                                            size_t out_words);
 
 /* One bulletin with the effect of the first and then the second, into released and withdrawn. Refused with 1, 2, 3 of each input in
    turn, then 1 of each output, then 14 of the first and of the second, then 5 of each output.
    Blocks: released1 0, withdrawn1 1, released2 2, withdrawn2 3, released 4, withdrawn 5. */
-uint64_t wimblorque_bulletin_fold(const uint64_t *released1, size_t released1_words, const uint64_t *withdrawn1,
-                                  size_t withdrawn1_words, const uint64_t *released2, size_t released2_words,
-                                  const uint64_t *withdrawn2, size_t withdrawn2_words, uint64_t *released, size_t released_words,
-                                  uint64_t *withdrawn, size_t withdrawn_words, wimblorque_answer *answer);
+wimblorque_answer wimblorque_bulletin_fold(const uint64_t *released1, size_t released1_words, const uint64_t *withdrawn1,
+                                           size_t withdrawn1_words, const uint64_t *released2, size_t released2_words,
+                                           const uint64_t *withdrawn2, size_t withdrawn2_words, uint64_t *released,
+                                           size_t released_words, uint64_t *withdrawn, size_t withdrawn_words);
 
 /* ---- The byte form: reading. The whole buffer is the form. Refused with 8 to 12 of the first record that is wrong, then 13, for a
    bulletin then 14, then 1 of each output, then 5 of each output; the outputs are counted from 0. No values. ---- */
 
-uint64_t wimblorque_set_read(const uint8_t *bytes, size_t length, uint64_t *out, size_t out_words, wimblorque_answer *answer);
-uint64_t wimblorque_map_read(const uint8_t *bytes, size_t length, uint64_t *out, size_t out_words, wimblorque_answer *answer);
-uint64_t wimblorque_bulletin_read(const uint8_t *bytes, size_t length, uint64_t *released, size_t released_words,
-                                  uint64_t *withdrawn, size_t withdrawn_words, wimblorque_answer *answer);
+wimblorque_answer wimblorque_set_read(const uint8_t *bytes, size_t length, uint64_t *out, size_t out_words);
+wimblorque_answer wimblorque_map_read(const uint8_t *bytes, size_t length, uint64_t *out, size_t out_words);
+wimblorque_answer wimblorque_bulletin_read(const uint8_t *bytes, size_t length, uint64_t *released, size_t released_words,
+                                           uint64_t *withdrawn, size_t withdrawn_words);
 
 /* Judges the byte form of a set and stores nothing. One value, the number of its ranges. Refused with 8 to 13. */
-uint64_t wimblorque_set_judge_form(const uint8_t *bytes, size_t length, wimblorque_answer *answer);
+wimblorque_answer wimblorque_set_judge_form(const uint8_t *bytes, size_t length);
 
 /* Is x a member of the set whose byte form is in the buffer? Returns 1 or 0, or 16 plus the refusal, 8 to 13. The whole form is judged
    before 1 or 0 is given: a damaged list never answers 1 or 0. Changes nothing. */
@@ -196,10 +196,10 @@ uint64_t wimblorque_member(const uint8_t *bytes, size_t length, uint64_t x);
 /* ---- The byte form: writing, into the bytes from place p on. One value, the length that was written; every other byte stays. Refused
    with 1, 2, 3 of each block in turn, for a bulletin then 14, then 15 if p is above the length or the rest is too short. ---- */
 
-uint64_t wimblorque_set_write(const uint64_t *block, size_t words, uint8_t *bytes, size_t length, size_t p, wimblorque_answer *answer);
-uint64_t wimblorque_map_write(const uint64_t *block, size_t words, uint8_t *bytes, size_t length, size_t p, wimblorque_answer *answer);
-uint64_t wimblorque_bulletin_write(const uint64_t *released, size_t released_words, const uint64_t *withdrawn, size_t withdrawn_words,
-                                   uint8_t *bytes, size_t length, size_t p, wimblorque_answer *answer);
+wimblorque_answer wimblorque_set_write(const uint64_t *block, size_t words, uint8_t *bytes, size_t length, size_t p);
+wimblorque_answer wimblorque_map_write(const uint64_t *block, size_t words, uint8_t *bytes, size_t length, size_t p);
+wimblorque_answer wimblorque_bulletin_write(const uint64_t *released, size_t released_words, const uint64_t *withdrawn,
+                                            size_t withdrawn_words, uint8_t *bytes, size_t length, size_t p);
 
 #ifdef __cplusplus
 }
