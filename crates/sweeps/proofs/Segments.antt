@@ -23,6 +23,11 @@ use Rattle.sweeps.specs.declared.Run.{Run}
 use Rattle.sweeps.specs.declared.Segment.{Segment}
 use Rattle.sweeps.proofs.Runs.{point-as, in-here}
 
+-- a choice between the same is no choice
+pub pick-same : {A : Type 0} (t : Bool) (x : A) → x ≡ pick t x x
+pick-same true x = refl
+pick-same false x = refl
+
 -- words as a value, by the words an item has
 module _ (s : ℕ) (v : Words) (w : List ℕ) (p : ℕ) where
   pub words-two : s ≡ 2 → valueOf s v ≡ take (s - 2) (drop p w)

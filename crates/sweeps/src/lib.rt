@@ -391,6 +391,45 @@ fn set_segment_at(
     }
 }
 
+// The same while the third set is at its end: only two runs are looked at. Only the contract names c.
+fn pair_segment_at(
+    a: &[u64],
+    b: &[u64],
+    c: &[u64],
+    table: u8,
+    at: Places,
+    sides: Sides,
+    ends: Places,
+    x: u64,
+) -> Segment
+    requires { ⌜ Inputs 2 2 2 (now a) (now b) (now c) ⌝ }
+    requires { ⌜ PointsAt (setPlan table) (now a) (now b) (now c) x at sides ends ⌝ }
+    requires { ⌜ at .c ≡ ends .c ⌝ }
+    ensures { λ r. ⌜ SegmentAt (setPlan table) (now (a .entry)) (now (b .entry)) (now (c .entry)) x ends r × (r .at .c ≡ ends .c) ⌝ }
+{
+    let i = flip(a, 2, at.a, sides.a, ends.a, x);
+    let j = flip(b, 2, at.b, sides.b, ends.b, x);
+    let e = least(i.last, j.last);
+    let kept = accepted(table, sides.a, sides.b, sides.c);
+    let next = Places {
+        a: moved(i.last == e, i.next, at.a),
+        b: moved(j.last == e, j.next, at.b),
+        c: at.c,
+    };
+    let then = Sides {
+        a: turned(i.last == e, i.then, sides.a),
+        b: turned(j.last == e, j.then, sides.b),
+        c: sides.c,
+    };
+    Segment {
+        last: e,
+        inside: kept,
+        value: nothing(),
+        at: next,
+        sides: then,
+    }
+}
+
 // Whether two values of an output of s words an item are the same.
 fn same_value(s: usize, u: Words, v: Words) -> bool
     requires { ⌜ (2 ≤ s) × (s ≤ 4) ⌝ }
@@ -533,21 +572,22 @@ fn sweep_any(
     n
 }
 
-// The sweep for sets: the same loop with nothing left to choose, more than twice as fast.
-fn sweep_sets(
+// The sweep for sets, from the three cursors at 0: the same loop with nothing left to choose, more than twice as fast.
+fn sweep_three(
     a: &[u64],
     b: &[u64],
     c: &[u64],
     table: u8,
+    first: Starts,
     stop: usize,
     keep: bool,
     o: &mut [u64],
 ) -> usize
     requires { ⌜ Inputs 2 2 2 (now a) (now b) (now c) ⌝ }
+    requires { ⌜ PointsAt (setPlan table) (now a) (now b) (now c) 0 (first .at) (first .sides) (first .ends) ⌝ }
     requires { ⌜ 1 + 2 * pick keep (length (resultOf (setPlan table) (now a) (now b) (now c))) 0 ≤ length (now o) ⌝ }
     ensures { λ r. ⌜ Stopped keep 2 stop (resultOf (setPlan table) (now (a .entry)) (now (b .entry)) (now (c .entry))) r (now (o .exit)) ⌝ }
 {
-    let first = begin(a, b, c, set_plan(table));
     let ends = first.ends;
     let mut at = first.at;
     let mut sides = first.sides;
@@ -570,6 +610,68 @@ fn sweep_sets(
         sides = s.sides;
     }
     n
+}
+
+// The same where there is nothing in the third set: two sets in two thirds of the time.
+fn sweep_pair(
+    a: &[u64],
+    b: &[u64],
+    c: &[u64],
+    table: u8,
+    first: Starts,
+    stop: usize,
+    keep: bool,
+    o: &mut [u64],
+) -> usize
+    requires { ⌜ Inputs 2 2 2 (now a) (now b) (now c) ⌝ }
+    requires { ⌜ PointsAt (setPlan table) (now a) (now b) (now c) 0 (first .at) (first .sides) (first .ends) ⌝ }
+    requires { ⌜ first .at .c ≡ first .ends .c ⌝ }
+    requires { ⌜ 1 + 2 * pick keep (length (resultOf (setPlan table) (now a) (now b) (now c))) 0 ≤ length (now o) ⌝ }
+    ensures { λ r. ⌜ Stopped keep 2 stop (resultOf (setPlan table) (now (a .entry)) (now (b .entry)) (now (c .entry))) r (now (o .exit)) ⌝ }
+{
+    let ends = first.ends;
+    let mut at = first.at;
+    let mut sides = first.sides;
+    let mut x: u64 = 0;
+    let mut was = false;
+    let mut before = nothing();
+    let mut n: usize = 0;
+    while n < stop {
+        let s = pair_segment_at(a, b, c, table, at, sides, ends, x);
+        let v = s.value;
+        let join = joins(2, s.inside, was, before, v);
+        n = add(o, 2, n, keep, s.inside, join, x, s.last, v);
+        if s.last == M {
+            return n;
+        }
+        x = s.last + 1;
+        was = s.inside;
+        before = v;
+        at = s.at;
+        sides = s.sides;
+    }
+    n
+}
+
+// The sweep for sets: `sweep` says what it gives.
+fn sweep_sets(
+    a: &[u64],
+    b: &[u64],
+    c: &[u64],
+    table: u8,
+    stop: usize,
+    keep: bool,
+    o: &mut [u64],
+) -> usize
+    requires { ⌜ Inputs 2 2 2 (now a) (now b) (now c) ⌝ }
+    requires { ⌜ 1 + 2 * pick keep (length (resultOf (setPlan table) (now a) (now b) (now c))) 0 ≤ length (now o) ⌝ }
+    ensures { λ r. ⌜ Stopped keep 2 stop (resultOf (setPlan table) (now (a .entry)) (now (b .entry)) (now (c .entry))) r (now (o .exit)) ⌝ }
+{
+    let first = begin(a, b, c, set_plan(table));
+    if first.at.c == first.ends.c {
+        return sweep_pair(a, b, c, table, first, stop, keep, o);
+    }
+    sweep_three(a, b, c, table, first, stop, keep, o)
 }
 
 // The plan of a table for sets.

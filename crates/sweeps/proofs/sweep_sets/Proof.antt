@@ -1,113 +1,52 @@
 use denote.Ref.{now}
-use mathlib.Core.Path.{_≡_, refl, sym, _∙_, subst}
-use Prim.Native.Nat.{_≤_, _-_}
-use lib.ListN.{length}
+use mathlib.Core.Path.{sym, subst}
 use Rattle.sweeps.specs.Sweeps.{Inputs}
-use Rattle.sweeps.specs.Cursors.{setPlan, PointsAt}
+use Rattle.sweeps.specs.Cursors.{PointsAt}
 use Rattle.sweeps.specs.declared.Plan.{Plan}
-use Rattle.sweeps.proofs.Growing.{begins-one}
-use Rattle.sweeps.proofs.Standing.{Standing, standing-zero, stopped-early, standing-room, standing-next, stopped-end}
-use borrow.Author.Needs.{needs}
 use native.Mathlib.Omega.{arith}
+use borrow.Author.Needs.{needs}
 use Rattle.sweeps.proofs.sweep_sets.Statement.{statement}
 use Rattle.sweeps.proofs.sweep_sets.Tie as tie
 use Rattle.sweeps.proofs.sweep_sets.Reads as reads
 use Rattle.sweeps.proofs.sweep_sets.Lts as lts
-use Rattle.sweeps.proofs.add.Reads as add-reads
 use Rattle.sweeps.proofs.begin.Reads as begin-reads
-use Rattle.sweeps.proofs.joins.Reads as joins-reads
-use Rattle.sweeps.proofs.nothing.Reads as nothing-reads
 use Rattle.sweeps.proofs.set_plan.Reads as set-plan-reads
-use Rattle.sweeps.proofs.set_segment_at.Reads as set-segment-at-reads
+use Rattle.sweeps.proofs.sweep_pair.Reads as sweep-pair-reads
+use Rattle.sweeps.proofs.sweep_three.Reads as sweep-three-reads
 
-abbrev Inv-loop : tie.InvT-loop
-Inv-loop a b c table stop keep o₀ ends at₀ sides₀ x₀ was₀ before₀ n₀ o at sides x was before n =
-    Standing (setPlan table) a b c keep x at sides ends was before n o × (n ≤ stop) × (length o ≡ length o₀)
-
-abbrev μ-loop : tie.MeasureT-loop
-μ-loop a b c table stop keep o₀ ends at₀ sides₀ x₀ was₀ before₀ n₀ o at sides x was before n = 18446744073709551616 - x
-
-set-plan-requires : tie.Need-set-plan-requires Inv-loop μ-loop
+set-plan-requires : tie.Need-set-plan-requires
 set-plan-requires c κs = search needs
 
-begin-requires : tie.Need-begin-requires Inv-loop μ-loop
-begin-requires c κs =
-    let a = c .before .before .before .before .before in
-    subst (λ (p : Plan). Inputs (p .a) (p .b) (p .c) (now (a .args .a)) (now (a .args .b)) (now (a .args .c))) (sym (c .set-plan .ensures)) (a .pre .0)
+begin-requires : tie.Need-begin-requires
+begin-requires c κs = let a = c .before .before .before .before .before in subst (λ (p : Plan). Inputs (p .a) (p .b) (p .c) (now (a .args .a)) (now (a .args .b)) (now (a .args .c))) (sym (c .set-plan .ensures)) (a .pre .0)
 
-nothing-requires : tie.Need-nothing-requires Inv-loop μ-loop
-nothing-requires c κs = search needs
+sweep-pair-requires : tie.Need-sweep-pair-requires
+sweep-pair-requires c κs = let a = c .before .before .before .before .before .before .before .before .before in (a .pre .0, (subst (λ (p : Plan). PointsAt p (now (a .args .a)) (now (a .args .b)) (now (a .args .c)) 0 (c .before .before .before .begin .result .at) (c .before .before .before .begin .result .sides) (c .before .before .before .begin .result .ends)) (c .before .before .before .before .set-plan .ensures) (c .before .before .before .begin .ensures), (c .before .if1 .taken, a .pre .1)))
 
-loop-holds : tie.Need-loop-holds Inv-loop μ-loop
-loop-holds c =
-    let a = c .before .before .before .before .before .before .before .before .before .before in (
-      standing-zero (setPlan (a .args .table)) (now (a .args .a)) (now (a .args .b)) (now (a .args .c)) (a .args .keep) _ _ _ _ _
-          (subst (λ (p : Plan). PointsAt p (now (a .args .a)) (now (a .args .b)) (now (a .args .c)) 0 (c .before .before .before .before .begin .result .at) (c .before .before .before .before .begin .result .sides) (c .before .before .before .before .begin .result .ends)) (c .before .before .before .before .before .set-plan .ensures) (c .before .before .before .before .begin .ensures)),
-      omega arith,
-      refl,
-    )
-
-set-segment-at-requires : tie.Need-set-segment-at-requires Inv-loop μ-loop
-set-segment-at-requires c κs = search needs
-
-joins-requires : tie.Need-joins-requires Inv-loop μ-loop
-joins-requires c κs = search needs
-
-add-requires : tie.Need-add-requires Inv-loop μ-loop
-add-requires c κs =
-    let a = c .before .before .before .before .before .before .before .before .before .before .before .before .before .before .before .before in
-    let l = c .before .before .before .before .before .loop in
-    standing-room (l .inv .0) (c .before .before .before .set-segment-at .ensures) (c .before .joins .ensures) (length (l .o)) (omega arith) (omega arith) (omega (arith, a .pre .1, l .inv .2)) (omega (arith, c .before .before .before .before .loop-test .taken))
-
-same-length : tie.Need-same-length Inv-loop μ-loop
+same-length : tie.Need-same-length
 same-length c = search needs
 
-returns : tie.Need-returns Inv-loop μ-loop
-returns c =
-    let a = c .before .before .before .before .before .before .before .before .before .before .before .before .before .before .before .before .before .before .before .before .before in
-    let l = c .before .before .before .before .before .before .before .before .before .before .loop in
-    stopped-end (l .inv .0) (c .before .before .before .before .before .before .before .before .set-segment-at .ensures) (c .before .before .before .before .before .before .joins .ensures) (c .before .before .before .before .add .last .0) (c .before .before .before .before .add .ensures) (a .args .stop) (c .before .before .before .before .before .before .before .before .before .loop-test .taken) (c .if1 .taken)
+returns : tie.Need-returns
+returns c = search needs
 
-add-x : tie.Need-add-x Inv-loop μ-loop
-add-x c = search needs
+sweep-three-requires : tie.Need-sweep-three-requires
+sweep-three-requires c κs = let a = c .before .before .before .before .before .before .before .before .before in (a .pre .0, (subst (λ (p : Plan). PointsAt p (now (a .args .a)) (now (a .args .b)) (now (a .args .c)) 0 (c .before .before .before .begin .result .at) (c .before .before .before .begin .result .sides) (c .before .before .before .begin .result .ends)) (c .before .before .before .before .set-plan .ensures) (c .before .before .before .begin .ensures), a .pre .1))
 
-loop-less : tie.Need-loop-less Inv-loop μ-loop
-loop-less c = search needs
-
-loop-again : tie.Need-loop-again Inv-loop μ-loop
-loop-again c =
-    let l = c .before .before .before .before .before .before .before .before .before .before .before .before .before .loop in (
-      standing-next (l .inv .0) (c .before .before .before .before .before .before .before .before .before .before .before .set-segment-at .ensures) (c .before .before .before .before .before .before .before .before .before .joins .ensures) (c .before .before .before .before .before .before .before .add .last .0) (c .before .before .before .before .before .before .before .add .ensures) (c .before .before .before .if1 .left),
-      omega (arith, c .before .before .before .before .before .before .before .before .before .before .before .before .loop-test .taken, c .before .before .before .before .before .before .before .add .ensures .0, begins-one (c .before .before .before .before .before .before .before .before .before .before .before .set-segment-at .result .inside) (c .before .before .before .before .before .before .before .before .before .joins .result)),
-      c .before .before .before .before .before .before .before .add .kept .0 ∙ l .inv .2,
-    )
-
-same-length-2 : tie.Need-same-length-2 Inv-loop μ-loop
+same-length-2 : tie.Need-same-length-2
 same-length-2 c = search needs
 
-returns-2 : tie.Need-returns-2 Inv-loop μ-loop
-returns-2 c =
-    let a = c .before .before .before .before .before .before .before .before .before .before .before .before in
-    let l = c .before .loop in
-    stopped-early (l .inv .0) (a .args .stop) (l .inv .1) (c .loop-test .left)
+returns-2 : tie.Need-returns-2
+returns-2 c = search needs
 
 pub sweep-sets-spec : {M : Type 1} → statement M
 sweep-sets-spec =
     tie.close
     (tie.spec
-    Inv-loop
-    μ-loop
     set-plan-requires
     begin-requires
-    nothing-requires
-    loop-holds
-    set-segment-at-requires
-    joins-requires
-    add-requires
+    sweep-pair-requires
     same-length
     returns
-    add-x
-    loop-less
-    loop-again
+    sweep-three-requires
     same-length-2
     returns-2)
