@@ -10,8 +10,8 @@
 enum { PROVED, PLAIN, ICL, CONTENDERS };
 enum { SIZES = 4, ROUNDS = 41, MEASURES = 14 };
 
-/* The inputs of a size are as many as make about 16,000 ranges. The contenders go through all of them in each round, so that no branch
-   predictor learns one small input by heart. */
+/* The inputs of a size are as many as make about 16,000 ranges. The contenders go through all of them in each round, so that no
+   branch predictor learns one small input by heart. */
 static const size_t sizes[SIZES] = {10, 100, 1000, 4000};
 static const size_t inputs_of[SIZES] = {1600, 160, 16, 4};
 static const char *const shapes[SHAPES] = {"random", "regular"};
@@ -68,30 +68,34 @@ static int by_size(const void *a, const void *b) {
     return (x > y) - (x < y);
 }
 
-/* Times one measure: the contenders in turn, another one first in each round. */
-static void time_measure(const measure *m, job *jobs, size_t count, timing *result) {
-    static double rounds[CONTENDERS][ROUNDS];
+/* The times of one measure, of one size and contender, in every round. */
+static double rounds[SIZES][CONTENDERS][ROUNDS];
+
+/* Times one measure: in each round every size, and for each size the contenders in turn, forwards and backwards by turns, so that
+   none always finds the caches as another one left them, and a slow while of the machine is one for all sizes. */
+static void time_measure(const measure *m, job *const *jobs, timing (*result)[MEASURES][CONTENDERS], size_t index) {
     for (int r = 0; r < ROUNDS; r++) {
-        for (int k = 0; k < CONTENDERS; k++) {
-            int who = (r + k) % CONTENDERS;
-            if (who != ICL || m->icl) {
-                rounds[who][r] = time_once(m, jobs, count, who);
+        for (int s = 0; s < SIZES; s++) {
+            for (int k = 0; k < CONTENDERS; k++) {
+                int who = r % 2 == 0 ? k : CONTENDERS - 1 - k;
+                rounds[s][who][r] = who == ICL && !m->icl ? 0 : time_once(m, jobs[s], inputs_of[s], who);
             }
         }
     }
-    for (int who = 0; who < CONTENDERS; who++) {
-        if (who != ICL || m->icl) {
-            qsort(rounds[who], ROUNDS, sizeof(double), by_size);
-            result[who] = (timing){rounds[who][0], rounds[who][ROUNDS / 2]};
+    for (int s = 0; s < SIZES; s++) {
+        for (int who = 0; who < CONTENDERS; who++) {
+            qsort(rounds[s][who], ROUNDS, sizeof(double), by_size);
+            result[s][index][who] = (timing){rounds[s][who][0], rounds[s][who][ROUNDS / 2]};
         }
     }
 }
 
-/* Makes the inputs of a size and shape, checks them with every contender, and times every measure. */
-static void time_size(int shape, int size) {
+/* The inputs of a size and shape, which every contender was given once and answered alike. */
+static job *checked_jobs(int shape, int size) {
     size_t count = inputs_of[size];
     job *jobs = malloc(count * sizeof *jobs);
     if (!jobs) {
+        fputs("bench: no memory\n", stderr);
         exit(1);
     }
     for (size_t i = 0; i < count; i++) {
@@ -99,13 +103,24 @@ static void time_size(int shape, int size) {
         check_job(&jobs[i]);
     }
     check_damaged(&jobs[0]);
+    return jobs;
+}
+
+/* Times every measure on inputs of a shape. */
+static void time_shape(int shape) {
+    job *jobs[SIZES];
+    for (int s = 0; s < SIZES; s++) {
+        jobs[s] = checked_jobs(shape, s);
+    }
     for (size_t i = 0; i < measure_count; i++) {
-        time_measure(&measures[i], jobs, count, timings[shape][size][i]);
+        time_measure(&measures[i], jobs, timings[shape], i);
     }
-    for (size_t i = 0; i < count; i++) {
-        free_job(&jobs[i]);
+    for (int s = 0; s < SIZES; s++) {
+        for (size_t i = 0; i < inputs_of[s]; i++) {
+            free_job(&jobs[s][i]);
+        }
+        free(jobs[s]);
     }
-    free(jobs);
 }
 
 /* A time with its unit, in three places. */
@@ -170,9 +185,7 @@ int main(int argc, char **argv) {
         return 2;
     }
     for (int shape = 0; shape < SHAPES; shape++) {
-        for (int size = 0; size < SIZES; size++) {
-            time_size(shape, size);
-        }
+        time_shape(shape);
         printf("%s ranges, time per call, the least of %d rounds\n", shapes[shape], ROUNDS);
         printf("%-21s%7s%12s%12s%12s%14s%12s%8s\n", "", "ranges", "proved", "plain C", "Boost.ICL", "proved/plain", "ICL/proved",
                "growth");
