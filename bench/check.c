@@ -1,0 +1,150 @@
+/* Before anything is timed: the proved library, the plain C and Boost.ICL give the same result words on the inputs that are timed, and
+   the first two give the same refusals, and change nothing, on damaged ones. */
+#include <stdio.h>
+#include <stdlib.h>
+#include <string.h>
+
+#include "bench.h"
+
+/* All that a call leaves: its answer, and every word and byte of the results. */
+typedef struct outcome {
+    wimblorque_answer answer;
+    uint8_t *results;
+} outcome;
+
+/* Prepares the results as before a call: the first set in place, or words that a call has to write over. */
+static void prepare(const measure *m, job *t) {
+    memset(t->results, 0xA5, t->results_size);
+    if (m->in_place) {
+        memcpy(t->out.words, t->one.words, t->one.length * sizeof(uint64_t));
+    }
+}
+
+static outcome outcome_of(const measure *m, const library *lib, job *t) {
+    outcome o = {.results = malloc(t->results_size)};
+    prepare(m, t);
+    o.answer = m->call(lib, t);
+    if (!o.results) {
+        exit(1);
+    }
+    memcpy(o.results, t->results, t->results_size);
+    return o;
+}
+
+static void disagree(const measure *m, const job *t, const char *who, const char *what) {
+    fprintf(stderr, "bench: %s, %zu ranges: %s and the proved library differ on %s; nothing is measured\n", m->name, t->ranges, who,
+            what);
+    exit(1);
+}
+
+/* The proved library's outcome, which the plain C's equals. */
+static outcome agreed(const measure *m, job *t, const char *what) {
+    outcome proved = outcome_of(m, &proved_library, t), plain = outcome_of(m, &plain_library, t);
+    if (memcmp(&proved.answer, &plain.answer, sizeof proved.answer) != 0 ||
+        memcmp(proved.results, plain.results, t->results_size) != 0) {
+        disagree(m, t, "the plain C", what);
+    }
+    if (proved.answer.status != 0) {
+        prepare(m, t);
+        if (memcmp(t->results, proved.results, t->results_size) != 0) {
+            disagree(m, t, "a refused call", "what was there before");
+        }
+    }
+    free(plain.results);
+    return proved;
+}
+
+/* Whether Boost.ICL gives the words that stand in the job's results, or the value that was answered. */
+static bool icl_agrees(const measure *m, job *t, const outcome *proved) {
+    uint64_t found = 0;
+    memcpy(t->results, proved->results, t->results_size);
+    icl_prepare(t->icl, m->in_place);
+    m->icl(t->icl);
+    bool sets = m->icl != icl_member && m->icl != icl_overlay, second = m->icl == icl_fold;
+    uint64_t spare[8];
+    block none = {spare, 1};
+    icl_results(t->icl, sets ? t->out : none, second ? t->out2 : none, m->icl == icl_overlay ? t->merged : none, &found);
+    return memcmp(t->results, proved->results, t->results_size) == 0 && (m->icl != icl_member || found == proved->answer.first);
+}
+
+void check_job(job *t) {
+    for (size_t i = 0; i < measure_count; i++) {
+        outcome proved = agreed(&measures[i], t, "the inputs");
+        if (proved.answer.status != 0) {
+            disagree(&measures[i], t, "an accepted call", "the inputs");
+        }
+        if (measures[i].icl && !icl_agrees(&measures[i], t, &proved)) {
+            disagree(&measures[i], t, "Boost.ICL", "the inputs");
+        }
+        free(proved.results);
+    }
+}
+
+/* Damages an input block: no words, a count that is too large, ends that are not in order, a range that touches or meets the next. */
+static void damage_block(block *b, unsigned how) {
+    switch (how) {
+    case 0: b->length = 0; break;
+    case 1: b->words[0] = UINT64_MAX; break;
+    case 2: b->words[0] = (b->length - 1) / 2 + 1; break;
+    case 3: b->words[1] = b->words[2] + 1; break;
+    case 4: b->words[2] = b->words[b->words[0] > 1 ? 3 : 2] - 1; break;
+    case 5: b->words[2] = UINT64_MAX; break;
+    }
+}
+
+/* Damages an argument, an output or the bytes. */
+static void damage_other(job *t, unsigned how) {
+    switch (how) {
+    case 0: t->insert[1] = t->insert[0] - 1, t->removal[1] = t->removal[0] - 1; break;
+    case 1: t->out.length = 0, t->merged.length = 0; break;
+    case 2: t->out2.length = 0; break;
+    case 3: t->out.length = 3, t->merged.length = 4; break;
+    case 4: t->out2.length = 1; break;
+    case 5: t->one.length = t->out.length = 1 + 2 * t->ranges; break;
+    case 6: t->form_length--; break;
+    case 7: t->form_length++; break;
+    case 8: t->form_length = 2; break;
+    case 9: t->bytes_length = t->form_length - 1; break;
+    case 10: memcpy(t->withdrawn2.words, t->released2.words, t->released2.length * 8); break;
+    case 11: memcpy(t->withdrawn1.words, t->released1.words, t->released1.length * 8); break;
+    case 12: t->insert[0] = 0, t->removal[0] = 0; break;
+    case 13: t->insert[1] = UINT64_MAX, t->removal[1] = UINT64_MAX; break;
+    case 14: t->insert[1] = t->removal[0] - 1; break;
+    case 15: t->one.words[0] = 0, t->form[4] = 0; break;
+    case 16: t->removal[0]++, t->removal[1]--; break;
+    }
+}
+
+enum { BLOCKS = 9, BLOCK_DAMAGES = 6, OTHER_DAMAGES = 17, BYTES = 7 + 21 + 21 };
+
+/* Damage number k of a job: to each block in each way, then to the rest, then to each byte of the first records. */
+static void damage(job *t, unsigned k) {
+    block *blocks[] = {&t->one,       &t->two,        &t->version, &t->released1, &t->withdrawn1,
+                       &t->released2, &t->withdrawn2, &t->upper,   &t->lower};
+    if (k < BLOCKS * BLOCK_DAMAGES) {
+        damage_block(blocks[k / BLOCK_DAMAGES], k % BLOCK_DAMAGES);
+    } else if (k < BLOCKS * BLOCK_DAMAGES + OTHER_DAMAGES) {
+        damage_other(t, k - BLOCKS * BLOCK_DAMAGES);
+    } else {
+        t->form[k - BLOCKS * BLOCK_DAMAGES - OTHER_DAMAGES] ^= 1;
+    }
+}
+
+void check_damaged(job *t) {
+    uint8_t *inputs = malloc(t->inputs_size);
+    if (!inputs) {
+        exit(1);
+    }
+    memcpy(inputs, t->inputs, t->inputs_size);
+    for (unsigned k = 0; k < BLOCKS * BLOCK_DAMAGES + OTHER_DAMAGES + BYTES; k++) {
+        job damaged = *t;
+        damage(&damaged, k);
+        for (size_t i = 0; i < measure_count; i++) {
+            char what[32];
+            snprintf(what, sizeof what, "damage %u", k);
+            free(agreed(&measures[i], &damaged, what).results);
+        }
+        memcpy(t->inputs, inputs, t->inputs_size);
+    }
+    free(inputs);
+}

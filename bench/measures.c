@@ -1,0 +1,79 @@
+/* The measured calls, each on one job. */
+#include "bench.h"
+
+#define OF(b) (b).words, (b).length
+
+/* The range at index 0: all of its cost is the judge's. */
+static wimblorque_answer judge(const library *lib, job *t) {
+    return lib->set_range_at(OF(t->one), 0);
+}
+
+static wimblorque_answer member(const library *lib, job *t) {
+    return lib->set_member(OF(t->one), t->x);
+}
+
+static wimblorque_answer insert(const library *lib, job *t) {
+    return lib->set_insert(OF(t->out), t->insert[0], t->insert[1]);
+}
+
+static wimblorque_answer removal(const library *lib, job *t) {
+    return lib->set_remove(OF(t->out), t->removal[0], t->removal[1]);
+}
+
+static wimblorque_answer either(const library *lib, job *t) {
+    return lib->set_union(OF(t->one), OF(t->two), OF(t->out));
+}
+
+static wimblorque_answer both(const library *lib, job *t) {
+    return lib->set_intersection(OF(t->one), OF(t->two), OF(t->out));
+}
+
+static wimblorque_answer difference(const library *lib, job *t) {
+    return lib->set_difference(OF(t->one), OF(t->two), OF(t->out));
+}
+
+static wimblorque_answer symmetric_difference(const library *lib, job *t) {
+    return lib->set_symmetric_difference(OF(t->one), OF(t->version), OF(t->out));
+}
+
+static wimblorque_answer complement(const library *lib, job *t) {
+    return lib->set_complement(OF(t->one), OF(t->out));
+}
+
+static wimblorque_answer apply(const library *lib, job *t) {
+    return lib->bulletin_apply(OF(t->one), OF(t->released2), OF(t->withdrawn2), OF(t->out));
+}
+
+static wimblorque_answer fold(const library *lib, job *t) {
+    return lib->bulletin_fold(OF(t->released1), OF(t->withdrawn1), OF(t->released2), OF(t->withdrawn2), OF(t->out), OF(t->out2));
+}
+
+static wimblorque_answer overlay(const library *lib, job *t) {
+    return lib->map_overlay(OF(t->upper), OF(t->lower), OF(t->merged));
+}
+
+static wimblorque_answer reading(const library *lib, job *t) {
+    return lib->set_read(t->form, t->form_length, OF(t->out));
+}
+
+static wimblorque_answer writing(const library *lib, job *t) {
+    return lib->set_write(OF(t->one), t->bytes, t->bytes_length, 0);
+}
+
+const measure measures[] = {
+    {"judge", judge, NULL, false, false},
+    {"member", member, icl_member, false, false},
+    {"insert", insert, icl_insert, true, false},
+    {"remove", removal, icl_remove, true, false},
+    {"union", either, icl_union, false, true},
+    {"intersection", both, icl_intersection, false, true},
+    {"difference", difference, icl_difference, false, true},
+    {"symmetric difference", symmetric_difference, icl_symmetric_difference, false, true},
+    {"complement", complement, icl_complement, false, true},
+    {"apply", apply, icl_apply, false, true},
+    {"fold", fold, icl_fold, false, true},
+    {"overlay", overlay, icl_overlay, false, true},
+    {"read", reading, NULL, false, true},
+    {"write", writing, NULL, false, true},
+};
+const size_t measure_count = sizeof measures / sizeof *measures;

@@ -1,0 +1,19 @@
+/* The proved library, as a table of calls. */
+#include "library.h"
+
+const library proved_library = {
+    .set_range_at = wimblorque_set_range_at,
+    .set_member = wimblorque_set_member,
+    .set_insert = wimblorque_set_insert,
+    .set_remove = wimblorque_set_remove,
+    .set_union = wimblorque_set_union,
+    .set_intersection = wimblorque_set_intersection,
+    .set_difference = wimblorque_set_difference,
+    .set_symmetric_difference = wimblorque_set_symmetric_difference,
+    .set_complement = wimblorque_set_complement,
+    .bulletin_apply = wimblorque_bulletin_apply,
+    .bulletin_fold = wimblorque_bulletin_fold,
+    .map_overlay = wimblorque_map_overlay,
+    .set_read = wimblorque_set_read,
+    .set_write = wimblorque_set_write,
+};
