@@ -1,10 +1,14 @@
--- What a C host is answered.
+-- What a C host is answered where the library's own call hands back a part, or a form's count.
 use mathlib.Core.Bool.{Bool, true, false}
-use mathlib.Core.List.{List}
+use mathlib.Core.List.{List, [], _∷_}
 use Prim.Native.Nat.{ℕ, _+_}
-use Rattle.entries.specs.Sets.{member}
-use Rattle.answers.specs.Answers.{Answer, given, refused}
-use Rattle.blocks.specs.Blocks.{setLimit}
+use Rattle.entries.specs.Entries.{valueAt}
+use Rattle.entries.specs.Build.{pick}
+use Rattle.entries.specs.Sets.{member, has}
+use Rattle.answers.specs.Answers.{Answer, given, refused, Outcome, outcome, judged}
+use Rattle.blocks.specs.Blocks.{setLimit, mapLimit, entriesOf, verdict}
+use Rattle.searches.specs.Calls.{entryPlace}
+use Rattle.records.specs.Numbers.{num2}
 use Rattle.forms.specs.Forms.{formVerdict, formEntries}
 
 -- «The answer is one number: 1 member, 0 not, 16 plus the refusal number if reading refuses (8 to 13; no block is needed).»
@@ -17,3 +21,25 @@ asNumber (refused number place) t = 16 + number
 -- before 1 or 0 is given.»
 unfoldable pub memberOfFormCall : List ℕ → ℕ → ℕ
 memberOfFormCall bytes x = asNumber (formVerdict 0x01 0x10 2 setLimit bytes) (member (formEntries 2 bytes) x)
+
+-- the count of a form that is accepted
+abbrev pub counted : Answer → ℕ → Outcome
+counted (given xs) n = outcome (given (n ∷ [])) []
+counted (refused number place) n = outcome (refused number place) []
+
+-- the byte form of a set judged, with no block: its count
+unfoldable pub judgeFormCall : List ℕ → Outcome
+judgeFormCall bytes = counted (formVerdict 0x01 0x10 2 setLimit bytes) (num2 bytes 3)
+
+-- «the three words of the deciding entry, as a part of whichever map holds it»: the part's offset, its length, and the position of that
+-- map; «else an empty part»
+abbrev pub decidingAt : List ℕ → List ℕ → ℕ → List ℕ
+decidingAt site factory x =
+    pick (has (valueAt (entriesOf 3 site) x)) (entryPlace 3 site x ∷ 3 ∷ 0 ∷ [])
+    (pick (has (valueAt (entriesOf 3 factory) x)) (entryPlace 3 factory x ∷ 3 ∷ 1 ∷ []) (0 ∷ 0 ∷ 0 ∷ []))
+
+-- «Two maps, site over factory, and a number x» (`part-of-deciding` in proofs/Parts: this is the part that is handed back)
+unfoldable pub siteOverFactoryAtCall : List ℕ → List ℕ → ℕ → Outcome
+siteOverFactoryAtCall site factory x =
+    judged (verdict 3 mapLimit site) 0 []
+    (judged (verdict 3 mapLimit factory) 1 [] (outcome (given (decidingAt site factory x)) []))

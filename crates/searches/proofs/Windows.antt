@@ -1,7 +1,7 @@
 -- The window of a block, from the two searches; and the words that it holds.
 use mathlib.Core.Path.{_≡_, refl, sym, _∙_, ap, ap₂}
 use mathlib.Core.Bool.{Bool, true, false}
-use mathlib.Core.List.{List, []}
+use mathlib.Core.List.{List, [], _∷_}
 use Prim.Native.Nat.{ℕ, zero, suc, _+_, _*_, _-_, _≤_, _<_}
 use native.Mathlib.Omega.{arith}
 use native.Mathlib.Nat.{mul-add, mul-le-mul-left}
@@ -13,14 +13,15 @@ use Rattle.entries.specs.Entries.{Entry}
 use Rattle.entries.specs.Build.{pick}
 use Rattle.entries.specs.Questions.{meeting, whollyBelow}
 use Rattle.entries.proofs.Windows.{Passed, Begun, below-take, meeting-part, in-order}
+use Rattle.answers.specs.Answers.{Outcome, outcome, given, refused, judged}
 use Rattle.blocks.specs.Blocks.{entriesOf, itemsOf, wordsOf, verdict}
 use Rattle.blocks.specs.Steps.{FirstFrom, zero-item}
 use Rattle.blocks.proofs.Finding.{entries-count, held}
 use Rattle.blocks.proofs.Finding.{passed, begun}
 use Rattle.blocks.proofs.Judging.{verdict-most, verdict-sound}
 use Rattle.blocks.proofs.Words.{items-drop, items-take, write-back}
-use Rattle.searches.specs.Calls.{windowPart, windowVerdict, windowCall}
-use Rattle.searches.specs.Steps.{Judged}
+use Rattle.searches.specs.Calls.{windowPlace, windowLength, windowPart, windowVerdict, windowCall, windowAtCall}
+use Rattle.searches.specs.Steps.{Judged, PartOf}
 
 -- the two ends of the part, in words
 pub record Spanned (s i j : ℕ) (w : List ℕ) : Type 0 where
@@ -62,11 +63,14 @@ module _ (s limit : ℕ) (w : List ℕ) (a b : ℕ) (g : Judged s limit w a b) (
   span : s * (j - i) ≡ s * j + 1 - (s * i + 1)
   span = let k : (j - i) + i ≡ j = omega (arith, ordered) in omega (arith, mul-add s (j - i) i, ap (λ (x : ℕ). s * x) k)
 
-  -- what the code hands back
-  pub part-is : take (s * j + 1 - (s * i + 1)) (drop (s * i + 1) w) ≡ windowPart s w a b
+  -- where it stands
+  pub part-is : PartOf s w a b (record { place = s * i + 1; length = s * j + 1 - (s * i + 1) })
   part-is =
-      let k : s * i + 1 ≡ 1 + s * i = omega arith in
-      sym (ap₂ (λ (x y : ℕ). take (s * x) (drop (1 + s * y) w)) meeting-count below-count ∙ ap₂ (λ (x y : ℕ). take x (drop y w)) span (sym k))
+      record {
+        place = let k : s * i + 1 ≡ 1 + s * i = omega arith in k ∙ sym (ap (λ (x : ℕ). 1 + s * x) below-count);
+        words = sym (ap (λ (x : ℕ). s * x) meeting-count ∙ span);
+        held = omega (arith, inside, mul-le-mul-left {m = i} {n = j} s ordered);
+      }
 
   -- these are the words of the ranges that meet the window
   pub words-are : windowPart s w a b ≡ wordsOf (meeting a b (entriesOf s w))
@@ -119,3 +123,17 @@ window-most s limit w a b = go (eqb (verdict s limit w) 0) (ltb b a) (verdict-mo
     go true true h = omega arith
     go true false h = omega arith
     go false u h = omega arith
+
+-- the part that an outcome with an offset and a length names, none where it is refused
+abbrev pub partOf : Outcome → List ℕ → List ℕ
+partOf (outcome (given xs) lent) w = take (getD xs 1 0) (drop (getD xs 0 0) w)
+partOf (outcome (refused v p) lent) w = []
+
+-- the offset and the length name the window that is handed back
+pub part-of-window : (s limit : ℕ) (w : List ℕ) (a b : ℕ) → partOf (windowAtCall s limit w a b) w ≡ windowCall s limit w a b
+unfolding windowAtCall windowCall
+part-of-window s limit w a b = go (windowVerdict s limit w a b)
+  where
+    go : (v : ℕ) → partOf (judged v 0 [] (outcome (given (windowPlace s w a ∷ windowLength s w a b ∷ [])) [])) w ≡ pick (eqb v 0) (windowPart s w a b) []
+    go zero = refl
+    go (suc v) = rw (ne-eqb (suc v) 0 (λ z. omega arith))

@@ -10,11 +10,18 @@ use Rattle.entries.specs.Questions.{meeting, whollyBelow}
 use Rattle.answers.specs.Answers.{Outcome, outcome, given, refuse, judged}
 use Rattle.blocks.specs.Blocks.{entriesOf, verdict}
 
+-- where the part of a window begins in the block, and how many words it takes
+abbrev pub windowPlace : ℕ → List ℕ → ℕ → ℕ
+windowPlace s w a = 1 + s * length (whollyBelow a (entriesOf s w))
+
+abbrev pub windowLength : ℕ → List ℕ → ℕ → ℕ → ℕ
+windowLength s w a b = s * length (meeting a b (entriesOf s w))
+
 -- «Window a..b: all ranges that share a number with a..b, unclipped, handed back as that part of the caller's own block»: behind
 -- the count and the ranges wholly below a, as many words as the ranges that meet a..b take. (`window-words` in proofs/Windows: these
 -- are exactly the words of those ranges, in order.) «If there are none, an empty part.»
 abbrev pub windowPart : ℕ → List ℕ → ℕ → ℕ → List ℕ
-windowPart s w a b = take (s * length (meeting a b (entriesOf s w))) (drop (1 + s * length (whollyBelow a (entriesOf s w))) w)
+windowPart s w a b = take (windowLength s w a b) (drop (windowPlace s w a) w)
 
 -- by 1, 2, 3 of the block, then 4
 unfoldable pub windowVerdict : ℕ → ℕ → List ℕ → ℕ → ℕ → ℕ
@@ -27,6 +34,10 @@ windowCall s limit w a b = pick (eqb (windowVerdict s limit w a b) 0) (windowPar
 -- «a companion question on the same inputs gives the refusal, or says that there is none»
 abbrev pub windowRefusalCall : ℕ → ℕ → List ℕ → ℕ → ℕ → Outcome
 windowRefusalCall s limit w a b = judged (windowVerdict s limit w a b) 0 [] (outcome (given []) [])
+
+-- The same part, for a host that is handed no slice: its offset in the block and its length. (`part-of-window` in proofs/Windows.)
+unfoldable pub windowAtCall : ℕ → ℕ → List ℕ → ℕ → ℕ → Outcome
+windowAtCall s limit w a b = judged (windowVerdict s limit w a b) 0 [] (outcome (given (windowPlace s w a ∷ windowLength s w a b ∷ [])) [])
 
 -- the place of the entry that holds x: behind the count and the entries wholly below x; 0 where there is none
 unfoldable pub entryPlace : ℕ → List ℕ → ℕ → ℕ

@@ -4,7 +4,13 @@ ghost use Prim.Native.Nat.{_≤_, _<_};
 ghost use lib.ListN.{length, getD};
 ghost use Rattle.blocks.specs.Blocks.{SoundBlock};
 ghost use Rattle.searches.specs.Calls.{windowPart, windowVerdict, windowCall, entryPlace};
-ghost use Rattle.searches.specs.Steps.{Judged};
+ghost use Rattle.searches.specs.Steps.{Judged, PartOf};
+
+// A part of a block: where it begins, and its words.
+pub struct Part {
+    pub place: usize,
+    pub length: usize,
+}
 
 // The number of items of a block.
 pub fn count_of(block: &[u64]) -> usize
@@ -46,16 +52,30 @@ pub fn window_verdict(block: &[u64], s: usize, limit: usize, a: u64, b: u64) -> 
     0
 }
 
-// The part of a sound block with the items that share a number with a..b.
-fn part(block: &[u64], s: usize, limit: usize, a: u64, b: u64) -> &[u64]
+// Where in a sound block the items that share a number with a..b stand, and how many words they take.
+pub fn part_at(block: &[u64], s: usize, limit: usize, a: u64, b: u64) -> Part
     requires { ⌜ Judged s limit (now block) a b ⌝ }
-    ensures { λ r. ⌜ now r ≡ windowPart s (now (block .entry)) a b ⌝ }
+    ensures { λ r. ⌜ PartOf s (now (block .entry)) a b r ⌝ }
 {
     let n = count_of(block);
     let i = blocks::first_from(block, s, 2, n, a);
     let j = blocks::first_past(block, s, 1, n, b);
     let from = s * i + 1;
     let to = s * j + 1;
+    Part {
+        place: from,
+        length: to - from,
+    }
+}
+
+// The part of a sound block with the items that share a number with a..b.
+fn meeting(block: &[u64], s: usize, limit: usize, a: u64, b: u64) -> &[u64]
+    requires { ⌜ Judged s limit (now block) a b ⌝ }
+    ensures { λ r. ⌜ now r ≡ windowPart s (now (block .entry)) a b ⌝ }
+{
+    let p = part_at(block, s, limit, a, b);
+    let from = p.place;
+    let to = p.place + p.length;
     &block[from..to]
 }
 
@@ -67,5 +87,5 @@ pub fn window(block: &[u64], s: usize, limit: usize, a: u64, b: u64) -> &[u64]
     if window_verdict(block, s, limit, a, b) != 0 {
         return &block[0..0];
     }
-    part(block, s, limit, a, b)
+    meeting(block, s, limit, a, b)
 }

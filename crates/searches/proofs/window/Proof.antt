@@ -7,7 +7,7 @@ use Rattle.searches.proofs.window.Statement.{statement}
 use Rattle.searches.proofs.window.Tie as tie
 use Rattle.searches.proofs.window.Reads as reads
 use Rattle.searches.proofs.window.Lts as lts
-use Rattle.searches.proofs.part.Reads as part-reads
+use Rattle.searches.proofs.meeting.Reads as meeting-reads
 use Rattle.searches.proofs.window_verdict.Reads as window-verdict-reads
 
 window-verdict-requires : tie.Need-window-verdict-requires
@@ -25,11 +25,11 @@ part-result-end c = search needs
 returns : tie.Need-returns
 returns c = call-empty _ _ _ _ _ (λ z. c .before .if1 .taken (c .before .before .window-verdict .ensures ∙ z))
 
-part-requires : tie.Need-part-requires
-part-requires c κs = let a = c .before .before .before in judged-window (a .args .s) (a .args .limit) (now (a .args .block)) (a .args .a) (a .args .b) (a .pre) (sym (c .before .window-verdict .ensures) ∙ c .if1 .left)
+meeting-requires : tie.Need-meeting-requires
+meeting-requires c κs = let a = c .before .before .before in judged-window (a .args .s) (a .args .limit) (now (a .args .block)) (a .args .a) (a .args .b) (a .pre) (sym (c .before .window-verdict .ensures) ∙ c .if1 .left)
 
 returns-2 : tie.Need-returns-2
-returns-2 c = c .part .ensures ∙ call-part _ _ _ _ _ (sym (c .before .before .window-verdict .ensures) ∙ c .before .if1 .left)
+returns-2 c = c .meeting .ensures ∙ call-part _ _ _ _ _ (sym (c .before .before .window-verdict .ensures) ∙ c .before .if1 .left)
 
 pub window-spec : {M : Type 1} → statement M
 window-spec =
@@ -40,5 +40,5 @@ window-spec =
     part-result-start
     part-result-end
     returns
-    part-requires
+    meeting-requires
     returns-2)

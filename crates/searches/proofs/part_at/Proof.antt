@@ -1,13 +1,12 @@
 use Rattle.searches.proofs.Windows.{spanned, part-is}
 use denote.Ref.{now}
 use Rattle.blocks.proofs.Finding.{held}
-use Rattle.searches.proofs.Windows.{part-is}
 use native.Mathlib.Omega.{arith}
 use borrow.Author.Needs.{needs}
-use Rattle.searches.proofs.part.Statement.{statement}
-use Rattle.searches.proofs.part.Tie as tie
-use Rattle.searches.proofs.part.Reads as reads
-use Rattle.searches.proofs.part.Lts as lts
+use Rattle.searches.proofs.part_at.Statement.{statement}
+use Rattle.searches.proofs.part_at.Tie as tie
+use Rattle.searches.proofs.part_at.Reads as reads
+use Rattle.searches.proofs.part_at.Lts as lts
 use Rattle.blocks.proofs.first_from.Reads as first-from-reads
 use Rattle.blocks.proofs.first_past.Reads as first-past-reads
 use Rattle.searches.proofs.count_of.Reads as count-of-reads
@@ -33,23 +32,14 @@ mul-to c = let a = c .before .before .before .before in record { fits = omega (a
 add-to : tie.Need-add-to
 add-to c = let a = c .before .before .before .before in record { fits = omega (arith, spanned (a .args .s) (a .args .limit) (now (a .args .block)) (a .args .a) (a .args .b) (a .pre) (c .before .before .count-of .result) (c .before .first-from .result) (c .first-past .result) (c .before .before .count-of .ensures) (c .before .first-from .ensures) (c .first-past .ensures)) }
 
-mul-result : tie.Need-mul-result
-mul-result c = let a = c .before .before .before .before in record { fits = omega (arith, spanned (a .args .s) (a .args .limit) (now (a .args .block)) (a .args .a) (a .args .b) (a .pre) (c .before .before .count-of .result) (c .before .first-from .result) (c .first-past .result) (c .before .before .count-of .ensures) (c .before .first-from .ensures) (c .first-past .ensures)) }
-
-sub-result : tie.Need-sub-result
-sub-result c = let a = c .before .before .before .before in omega (arith, spanned (a .args .s) (a .args .limit) (now (a .args .block)) (a .args .a) (a .args .b) (a .pre) (c .before .before .count-of .result) (c .before .first-from .result) (c .first-past .result) (c .before .before .count-of .ensures) (c .before .first-from .ensures) (c .first-past .ensures))
-
-part-result-start : tie.Need-part-result-start
-part-result-start c = let a = c .before .before .before .before in omega (arith, spanned (a .args .s) (a .args .limit) (now (a .args .block)) (a .args .a) (a .args .b) (a .pre) (c .before .before .count-of .result) (c .before .first-from .result) (c .first-past .result) (c .before .before .count-of .ensures) (c .before .first-from .ensures) (c .first-past .ensures))
-
-part-result-end : tie.Need-part-result-end
-part-result-end c = let a = c .before .before .before .before in omega (arith, spanned (a .args .s) (a .args .limit) (now (a .args .block)) (a .args .a) (a .args .b) (a .pre) (c .before .before .count-of .result) (c .before .first-from .result) (c .first-past .result) (c .before .before .count-of .ensures) (c .before .first-from .ensures) (c .first-past .ensures))
+sub-t11 : tie.Need-sub-t11
+sub-t11 c = let a = c .before .before .before .before in omega (arith, spanned (a .args .s) (a .args .limit) (now (a .args .block)) (a .args .a) (a .args .b) (a .pre) (c .before .before .count-of .result) (c .before .first-from .result) (c .first-past .result) (c .before .before .count-of .ensures) (c .before .first-from .ensures) (c .first-past .ensures))
 
 returns : tie.Need-returns
-returns c = let a = c .before .before .before .before .before in part-is (a .args .s) (a .args .limit) (now (a .args .block)) (a .args .a) (a .args .b) (a .pre) (c .before .before .before .count-of .result) (c .before .before .first-from .result) (c .before .first-past .result) (c .before .before .before .count-of .ensures) (c .before .before .first-from .ensures) (c .before .first-past .ensures)
+returns c = let a = c .before .before .before .before in part-is (a .args .s) (a .args .limit) (now (a .args .block)) (a .args .a) (a .args .b) (a .pre) (c .before .before .count-of .result) (c .before .first-from .result) (c .first-past .result) (c .before .before .count-of .ensures) (c .before .first-from .ensures) (c .first-past .ensures)
 
-pub part-spec : {M : Type 1} → statement M
-part-spec =
+pub part-at-spec : {M : Type 1} → statement M
+part-at-spec =
     tie.close
     (tie.spec
     count-of-requires
@@ -59,8 +49,5 @@ part-spec =
     add-from
     mul-to
     add-to
-    mul-result
-    sub-result
-    part-result-start
-    part-result-end
+    sub-t11
     returns)

@@ -1,0 +1,25 @@
+use Rattle.host.proofs.Parts.{told-as}
+use native.Mathlib.Omega.{arith}
+use borrow.Author.Needs.{needs}
+use Rattle.host.proofs.wimblorque_set_difference.Statement.{statement}
+use Rattle.host.proofs.wimblorque_set_difference.Tie as tie
+use Rattle.host.proofs.wimblorque_set_difference.Reads as reads
+use Rattle.host.proofs.wimblorque_set_difference.Lts as lts
+use Rattle.host.proofs.tell_judged.Reads as tell-judged-reads
+use Rattle.sets.proofs.difference.Reads as difference-reads
+
+difference-requires : tie.Need-difference-requires
+difference-requires c κs = search needs
+
+tell-judged-requires : tie.Need-tell-judged-requires
+tell-judged-requires c κs = search needs
+
+same-length : tie.Need-same-length
+same-length c = search needs
+
+returns : tie.Need-returns
+returns c = told-as (c .tell-judged .ensures) (c .before .before .before .difference .ensures)
+
+pub wimblorque-set-difference-spec : {M : Type 1} → statement M
+wimblorque-set-difference-spec =
+    tie.close (tie.spec difference-requires tell-judged-requires same-length returns)
