@@ -35,8 +35,18 @@ def some_k(rng, items, a, b):
     return shapes.clipped(rng.choice([1, 2, 3] + found * 2) + rng.choice([-1, 0, 0, 0, 1]))
 
 
+def some_range(rng, items, points):
+    """a and b at or next to the points, or within one item; seldom backwards."""
+    wide = [item for item in items if item[1] - item[0] > 1]
+    if wide and rng.random() < 0.12:
+        low, high = rng.choice(wide)[:2]
+        return sorted((rng.randint(low + 1, high - 1), rng.randint(low + 1, high - 1)))
+    a, b = shapes.near(rng, points), shapes.near(rng, points)
+    return (b, a) if a > b and rng.random() < 0.93 else (a, b)
+
+
 def some_args(name, rng, lists):
-    """Arguments at or next to the ends of the inputs' items; seldom backwards."""
+    """Arguments, mostly at or next to the ends of the inputs' items."""
     style = ARGS_OF.get(name, "")
     points = shapes.points_of(*lists) + [shapes.number(rng)]
     if style == "x":
@@ -45,9 +55,7 @@ def some_args(name, rng, lists):
         return [rng.choice([0, 1, len(lists[0]) // 2, max(1, len(lists[0])) - 1, len(lists[0]), shapes.number(rng)])]
     if not style.startswith("ab"):
         return []
-    a, b = shapes.near(rng, points), shapes.near(rng, points)
-    if a > b and rng.random() < 0.93:
-        a, b = b, a
+    a, b = some_range(rng, lists[0], points)
     if style == "abk":
         return [a, b, some_k(rng, lists[0], a, b)]
     values = [item[2] for items in lists for item in items if len(item) == MAP] + [shapes.number(rng)]

@@ -20,9 +20,9 @@ import model
 import refusals
 import wire
 
-CASES = 36000
+CASES = 60000
 SEED = "1"
-PAIR_TIMES, SINGLE_TIMES, LIMIT_TIMES = 5, 5, 6
+PAIR_TIMES, SINGLE_TIMES, LIMIT_TIMES = 5, 5, 10
 AT_LEAST = {"call": 100, "refusal": 5, "pair": PAIR_TIMES}
 BATCH = 500
 KEPT = "build/differential-mismatch.json"

@@ -1,0 +1,62 @@
+#!/bin/sh
+# Makes the proved library for C programs of this machine, target/staticlib/libhost.a and what is made from it, and prints the file to
+# link:
+#   tools/native.sh            on x86-64 the archive that 'rt staticlib' makes, elsewhere an object for this machine
+#   tools/native.sh MACHINE    an object for that machine (x86_64 or aarch64), on any machine
+# 'rt staticlib' makes x86-64 code on every machine: the kit's compiler gets it from a module. For an object the module is kept: rt is
+# given a kit of links to its own, whose compiler is a script that copies the module and then calls the kit's. The kit's compiler makes
+# the object from the module, with the same optimisation. Nothing is made again while the crates and the kit are unchanged.
+set -eu
+cd "$(dirname "$0")/.."
+. tools/kit.sh
+here=$(uname -m)
+machine=${1:-$here}
+archive=target/staticlib/libhost.a
+module=build/host.bc
+object=build/host_$machine.o
+mkdir -p build
+
+# Links everything in a folder but one name from another folder.
+links() { # FROM TO BUT
+    mkdir -p "$2"
+    for each in "$1"/*; do
+        [ "${each##*/}" = "$3" ] || ln -sfn "$each" "$2/${each##*/}"
+    done
+}
+
+# Makes the kit of links, with a compiler that keeps the module.
+kit_of_links() {
+    rm -rf build/kit
+    links "$kit" build/kit on
+    links "$own" "build/kit/on/$here" toolchain
+    links "$tools" "build/kit/on/$here/toolchain" bin
+    links "$tools/bin" "build/kit/on/$here/toolchain/bin" clang
+    compiler=build/kit/on/$here/toolchain/bin/clang
+    printf '#!/bin/sh\n[ ! -f module.bc ] || cp module.bc "%s" || exit 1\nexec "%s" "$@"\n' "$PWD/$module" "$tools/bin/clang" >"$compiler"
+    chmod +x "$compiler"
+}
+
+# What the archive and the module are made from, in one number.
+stamp() {
+    { cat "$kit/KIT-ID" && find crates.txt crates -type f -exec sha256sum {} + | sort; } | sha256sum
+}
+
+# Proves the library and makes FILE, by rt in the kit that is given (none: its own), if it was not made of the same crates before.
+made() { # FILE [KIT]
+    [ -f "$1" ] && [ -f "$archive" ] && [ "$(cat "$1.stamp" 2>/dev/null)" = "$(stamp)" ] && return 0
+    rm -f "$1" "$1.stamp"
+    ${2:+env RATTLE_HOME="$2"} rt staticlib host >build/staticlib.log 2>&1 || { cat build/staticlib.log >&2; exit 1; }
+    [ -f "$1" ] || { echo "native.sh: '$1' was not made" >&2; exit 1; }
+    stamp >"$1.stamp"
+}
+
+if [ $# -eq 0 ] && [ "$here" = x86_64 ]; then
+    made "$archive"
+    echo "$archive"
+    exit 0
+fi
+kit_of_links
+made "$module" "$PWD/build/kit"
+"$tools/bin/clang" "--target=$machine-unknown-linux-gnu" -O3 -fPIC -ffunction-sections -fdata-sections -mllvm -trap-unreachable \
+    -mllvm -no-trap-after-noreturn -Wno-override-module -c -x ir "$module" -o "$object" 2>build/native.log || { cat build/native.log >&2; exit 1; }
+echo "$object"
