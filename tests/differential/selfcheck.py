@@ -212,7 +212,8 @@ def check_forms(rng, line, one, entries):
         expect(name + " bytes around", (form[0], form[-1]), (0, 0))
         expect(name + " read", written(name + "_read", [form[1:-1], [5] * 60]), zeros(block, 60))
     form = bytearray(model.set_form([tuple(run) for run in line.runs(one)]))
-    form[rng.randrange(len(form))] = rng.choice([0, 255, rng.randrange(256)])
+    form[rng.randrange(len(form))] = rng.choice([0, 255, form[0], rng.randrange(256)])
+    form = rng.choice([form, form, form[:-1], form + b"\0", form + model.record(model.RANGE, (0, 0), 8)])
     count, rest = divmod(len(form) - 7, 21)
     items = [tuple(int.from_bytes(form[10 + 21 * i + 8 * j : 18 + 21 * i + 8 * j], "big") for j in (0, 1)) for i in range(count)]
     accepted = rest == 0 and model.set_form(items) == form and model.sound_items(items)
