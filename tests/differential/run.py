@@ -100,15 +100,16 @@ class Tally:
 
 
 def run_batch(driver, seed, batch, tally):
-    """Runs some jobs; the number of mismatches, at most 1 of which is printed."""
+    """Runs some jobs; true if all agree. The first that does not is printed."""
     cases = [case_of(job, seed) for job in batch]
     outcomes = [model.run(case.name, case.lent, case.args) for case in cases]
     for job, outcome in zip(batch, outcomes):
         tally.count(job, outcome)
-    wrong = list(wire.mismatches(driver, cases, outcomes))
-    if wrong:
-        wire.report(*wrong[0], KEPT)
-    return len(wrong)
+    for wrong in wire.mismatches(driver, cases, outcomes):
+        wire.report(*wrong, KEPT)
+        print(f"differential: the library differs from the model; seed {seed}")
+        return False
+    return True
 
 
 def run_all(driver, seed, chosen, seconds, tally):
@@ -118,9 +119,7 @@ def run_all(driver, seed, chosen, seconds, tally):
         if not chosen:
             chosen = [("random", NAMES[i % len(NAMES)], (), 10**9 + extra + i) for i in range(BATCH)]
             extra += BATCH
-        wrong = run_batch(driver, seed, chosen[:BATCH], tally)
-        if wrong:
-            print(f"differential: {wrong} of a batch of {len(chosen[:BATCH])} cases differ (the first is above); seed {seed}")
+        if not run_batch(driver, seed, chosen[:BATCH], tally):
             return False
         chosen = chosen[BATCH:]
     return True
@@ -131,11 +130,11 @@ def replay(driver, file):
     with open(file, encoding="ascii") as kept:
         case = wire.case_of(kept.read())
     outcome = model.run(case.name, case.lent, case.args)
-    wrong = list(wire.mismatches(driver, [case], [outcome]))
-    for each in wrong:
-        wire.report(*each, KEPT)
-    print("differential: the case differs" if wrong else "differential: the case agrees")
-    return not wrong
+    for wrong in wire.mismatches(driver, [case], [outcome]):
+        wire.report(*wrong, file)
+        return False
+    print(f"differential: the case in {file} agrees")
+    return True
 
 
 def options():

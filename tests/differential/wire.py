@@ -91,28 +91,24 @@ def decoded(case, data):
 class Driver:
     """The C program that runs the calls."""
 
-    def __init__(self, command, seconds=120):
+    def __init__(self, command):
         self.command = command
-        self.seconds = seconds
 
-    def raw(self, cases):
-        """What the program writes for the cases; short if it ended in one of them or took too long."""
+    def raw(self, cases, seconds):
+        """What the program writes for the cases; short if it ended in one of them, nothing if it took too long."""
         try:
-            done = subprocess.run(self.command, input=b"".join(map(encoded, cases)), stdout=subprocess.PIPE, timeout=self.seconds)
+            data = b"".join(map(encoded, cases))
+            return subprocess.run(self.command, input=data, stdout=subprocess.PIPE, timeout=seconds, check=False).stdout
         except subprocess.TimeoutExpired:
             return b""
-        return done.stdout
 
     def outcomes(self, cases):
-        """The outcome of each case, as bytes; after a case in which the program ended, each is run by itself."""
-        data = self.raw(cases)
-        if len(data) != sum(map(outcome_size, cases)):
-            return [self.raw([case]) for case in cases] if len(cases) > 1 else [data]
-        pieces, at = [], 0
+        """The outcome of each case, as bytes. If the program ends in one of them, each is run by itself as it is asked for."""
+        data, at = self.raw(cases, 120), 0
+        whole = len(data) == sum(map(outcome_size, cases))
         for case in cases:
-            pieces.append(data[at : at + outcome_size(case)])
+            yield data[at : at + outcome_size(case)] if whole else self.raw([case], 20)
             at += outcome_size(case)
-        return pieces
 
 
 def mismatches(driver, cases, outcomes):
