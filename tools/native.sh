@@ -5,7 +5,10 @@
 #   tools/native.sh MACHINE    an object for that machine (x86_64 or aarch64), on any machine
 # 'rt staticlib' makes x86-64 code on every machine: the kit's compiler gets it from a module. For an object the module is kept: rt is
 # given a kit of links to its own, whose compiler is a script that copies the module and then calls the kit's. The kit's compiler makes
-# the object from the module, with the same optimisation. Nothing is made again while the crates and the kit are unchanged.
+# the object from the module, with the same optimisation. In the module each exported function takes the address of its answer as its
+# first argument and returns it, which is C's way of returning a large struct on x86-64 only; before it is compiled, that argument is
+# marked as such an address, so that the function is called as C calls it on either machine. Nothing else in it is changed, and nothing
+# is made again while the crates and the kit are unchanged.
 set -eu
 cd "$(dirname "$0")/.."
 . tools/kit.sh
@@ -50,6 +53,11 @@ made() { # FILE [KIT]
     stamp >"$1.stamp"
 }
 
+# The kit's compiler; what it says is shown only if it fails.
+compile() { # WORDS...
+    "$tools/bin/clang" "$@" 2>build/native.log || { cat build/native.log >&2; exit 1; }
+}
+
 if [ $# -eq 0 ] && [ "$here" = x86_64 ]; then
     made "$archive"
     echo "$archive"
@@ -57,6 +65,17 @@ if [ $# -eq 0 ] && [ "$here" = x86_64 ]; then
 fi
 kit_of_links
 made "$module" "$PWD/build/kit"
-"$tools/bin/clang" "--target=$machine-unknown-linux-gnu" -O3 -fPIC -ffunction-sections -fdata-sections -mllvm -trap-unreachable \
-    -mllvm -no-trap-after-noreturn -Wno-override-module -c -x ir "$module" -o "$object" 2>build/native.log || { cat build/native.log >&2; exit 1; }
+# The module as text, with the answers' addresses marked, and then the object.
+compile --target=x86_64-unknown-linux-gnu -S -emit-llvm -Xclang -disable-llvm-passes -x ir "$module" -o build/host_plain.ll
+sed '/^define noundef ptr @wimblorque_/,/^}/ {
+    s/^define noundef ptr \(@[a-z_]*\)(ptr noundef %a0/define void \1(ptr noundef sret([48 x i8]) align 8 %a0/
+    s/^  ret ptr %a0$/  ret void/
+}' build/host_plain.ll >build/host.ll
+returned=$(grep -c '^wimblorque_answer wimblorque_' include/wimblorque.h)
+[ "$(grep -c '^define void @wimblorque_.* sret(' build/host.ll)" = "$returned" ] || {
+    echo "native.sh: the module's functions do not return their answers as they did" >&2
+    exit 1
+}
+compile "--target=$machine-unknown-linux-gnu" -O3 -fPIC -ffunction-sections -fdata-sections -mllvm -trap-unreachable \
+    -mllvm -no-trap-after-noreturn -Wno-override-module -c -x ir build/host.ll -o "$object"
 echo "$object"
