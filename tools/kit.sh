@@ -12,3 +12,10 @@ run_x86_64() {
     # shellcheck disable=SC2086
     ${emulator:+"$emulator"} "$loader" --library-path "$tools/lib" "$@"
 }
+
+# Makes an x86-64 program of a C file and the C host's library, on either machine: the file, the program.
+link_x86_64() {
+    "$tools/bin/clang" --target=x86_64-unknown-linux-gnu -O2 -fPIC -ffreestanding -isystem "$(cc -print-file-name=include)" -Iinclude \
+        -c "$1" -o "$2.o"
+    "$own/bin/rattle-link" --target x86_64-unknown-linux-gnu --toolchain "$tools" -o "$2" "$2.o" target/staticlib/libhost.a >/dev/null 2>&1
+}

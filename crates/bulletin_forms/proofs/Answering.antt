@@ -29,7 +29,8 @@ use Rattle.runs.specs.declared.FormRead.{FormRead}
 use Rattle.runs.specs.declared.FormRead.the-variants as form
 use Rattle.runs.proofs.Running.{length-entries, length-run}
 use Rattle.forms.proofs.Answering.{told-refused, told-good, says-refused, verdict-bound}
-use Rattle.bulletin_forms.specs.Bulletins.{bulletinForm, withdrawnAt, releasedIn, withdrawnIn, shareb, bulletinVerdict}
+use Rattle.entries.specs.Bulletins.{shareb}
+use Rattle.bulletin_forms.specs.Bulletins.{bulletinForm, withdrawnAt, releasedIn, withdrawnIn, bulletinVerdict}
 use Rattle.bulletin_forms.specs.Calls.{readTwo, readBulletinCall, writeBulletinCall}
 use Rattle.bulletin_forms.proofs.Verdicts.{released-kind, bulletin-bare}
 use Rattle.bulletin_forms.proofs.Whole.{Parts, parts, size}

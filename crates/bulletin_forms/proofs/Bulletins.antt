@@ -23,7 +23,8 @@ use Rattle.forms.specs.Calls.{writtenAt}
 use Rattle.runs.proofs.Running.{Fit, length-entries, entries-shaped, entries-fit, bytes-drop}
 use Rattle.forms.proofs.Outcomes.{accepted-inv, judged-inv, written-at, block-entries, block-verdict}
 use Rattle.blocks.proofs.Judging.{sound-true}
-use Rattle.bulletin_forms.specs.Bulletins.{bulletinForm, withdrawnAt, releasedIn, withdrawnIn, shareb, bulletinVerdict}
+use Rattle.entries.specs.Bulletins.{shareb}
+use Rattle.bulletin_forms.specs.Bulletins.{bulletinForm, withdrawnAt, releasedIn, withdrawnIn, bulletinVerdict}
 use Rattle.bulletin_forms.specs.Calls.{readTwo, readBulletinCall, writeBulletinCall}
 use Rattle.bulletin_forms.proofs.Sharing.{Common, inside, some-member}
 use Rattle.bulletin_forms.proofs.Verdicts.{bulletin-bare}

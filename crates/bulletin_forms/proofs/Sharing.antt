@@ -13,7 +13,7 @@ use Rattle.entries.specs.Build.{andb}
 use Rattle.entries.specs.Sets.{has, orb, member, intersection}
 use Rattle.entries.proofs.Values.{true≢false, and-true}
 use Rattle.entries.proofs.Sets.{set-unique, intersection-is}
-use Rattle.bulletin_forms.specs.Bulletins.{shareb}
+use Rattle.entries.specs.Bulletins.{shareb}
 
 -- pair by pair
 abbrev pub meetb : Entry → Entry → Bool

@@ -28,7 +28,8 @@ use Rattle.runs.specs.declared.FormRead.the-variants as form
 use Rattle.runs.proofs.Running.{Bare, passed, stopped, then-bare, number-bare, run-bare, RunAt, run-inv, bytes-drop}
 use Rattle.forms.proofs.Whole.{trailing-bare}
 use Rattle.forms.proofs.Verdicts.{run-good, run-bad}
-use Rattle.bulletin_forms.specs.Bulletins.{bulletinVerdict, releasedIn, withdrawnIn, shareb, overlap}
+use Rattle.entries.specs.Bulletins.{shareb}
+use Rattle.bulletin_forms.specs.Bulletins.{bulletinVerdict, releasedIn, withdrawnIn, overlap}
 use Rattle.bulletin_forms.specs.Steps.{TwoRuns}
 
 pub released-kind : ItemKind 0x12 2

@@ -10,7 +10,7 @@ use Rattle.entries.specs.Entries.{Entry, entry, Sound}
 use Rattle.records.specs.Numbers.{num8}
 use Rattle.records.proofs.Numbers.{num8-drop}
 use Rattle.runs.specs.Runs.{entriesIn}
-use Rattle.bulletin_forms.specs.Bulletins.{shareb}
+use Rattle.entries.specs.Bulletins.{shareb}
 use Rattle.bulletin_forms.proofs.Sharing.{crossb, cross-none, cross-left, cross-right, cross-found, cross-share}
 
 -- n entries from a place on

@@ -25,7 +25,8 @@ use Rattle.forms.specs.Forms.{trailing}
 use Rattle.runs.proofs.Turns.{length-record}
 use Rattle.runs.proofs.Running.{run-bare, then-given, both-passed, RunAt, run-inv, run-accept, run-back, length-run, length-entries, bytes-drop}
 use Rattle.forms.proofs.Whole.{trailing-bare, no-trailing}
-use Rattle.bulletin_forms.specs.Bulletins.{bulletinForm, withdrawnAt, releasedIn, withdrawnIn, shareb, overlap, bulletinVerdict}
+use Rattle.entries.specs.Bulletins.{shareb}
+use Rattle.bulletin_forms.specs.Bulletins.{bulletinForm, withdrawnAt, releasedIn, withdrawnIn, overlap, bulletinVerdict}
 use Rattle.bulletin_forms.proofs.Verdicts.{released-kind, withdrawn-kind, start-kind, withdrawn-run, ending, after-start}
 
 -- what an accepted bulletin is made of

@@ -1,13 +1,11 @@
 -- The byte form of a bulletin, and the verdict on bytes that are read as one.
 use Prim.Native.Nat.{ℕ, _+_, _*_}
-use mathlib.Core.Bool.{Bool}
 use mathlib.Core.Option.{none}
 use mathlib.Core.List.{List, [], _∷_, _++_}
-use lib.Dec.{ltb}
 use lib.ListN.{length, drop}
 use Rattle.entries.specs.Entries.{Entry}
 use Rattle.entries.specs.Build.{pick}
-use Rattle.entries.specs.Sets.{intersection}
+use Rattle.entries.specs.Bulletins.{shareb}
 use Rattle.answers.specs.Answers.{Answer, given, refused, numberSays}
 use Rattle.blocks.specs.Blocks.{setLimit}
 use Rattle.records.specs.Numbers.{num2}
@@ -30,10 +28,6 @@ releasedIn b = entriesIn 2 (num2 b 3) (drop 9 b)
 
 unfoldable pub withdrawnIn : List ℕ → List Entry
 withdrawnIn b = entriesIn 2 (num2 b 5) (drop (withdrawnAt b) b)
-
--- two sets share a number: they have an intersection
-unfoldable pub shareb : List Entry → List Entry → Bool
-shareb r w = ltb 0 (length (intersection r w))
 
 -- «14 Overlap: a bulletin's two sets share a number | 0»
 abbrev pub overlap : List Entry → List Entry → Answer

@@ -8,7 +8,8 @@ use Rattle.entries.specs.Build.{pick}
 use Rattle.answers.specs.Answers.{given, Outcome, outcome, refuse, judged}
 use Rattle.blocks.specs.Blocks.{setLimit, capacity, entriesOf, blockOf, verdict}
 use Rattle.forms.specs.Calls.{accepted, writtenAt}
-use Rattle.bulletin_forms.specs.Bulletins.{bulletinForm, releasedIn, withdrawnIn, shareb, bulletinVerdict}
+use Rattle.entries.specs.Bulletins.{shareb}
+use Rattle.bulletin_forms.specs.Bulletins.{bulletinForm, releasedIn, withdrawnIn, bulletinVerdict}
 
 -- «then 1 for each output block, then 5 for each»
 abbrev pub readTwo : List Entry → List Entry → List ℕ → List ℕ → Outcome

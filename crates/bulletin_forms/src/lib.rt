@@ -9,17 +9,14 @@ ghost use Rattle.blocks.specs.Blocks.{setLimit, entriesOf, itemsOf, SoundBlock}
 ghost use Rattle.records.specs.Numbers.{num2, over};
 ghost use Rattle.runs.specs.Runs.{entriesIn};
 ghost use Rattle.runs.specs.Steps.{formRead};
-ghost use Rattle.bulletin_forms.specs.Bulletins.{bulletinForm, bulletinVerdict, shareb};
+ghost use Rattle.entries.specs.Bulletins.{shareb};
+ghost use Rattle.bulletin_forms.specs.Bulletins.{bulletinForm, bulletinVerdict};
 ghost use Rattle.bulletin_forms.specs.Calls.{readBulletinCall, writeBulletinCall};
 ghost use Rattle.bulletin_forms.specs.Steps.{TwoRuns};
 use answers::Judged;
 use answers::Written;
 use records::CountsRead;
 use runs::FormRead;
-use sweeps::Plan;
-
-// The table of the sweep that keeps the numbers of both sets: bit a + 2b.
-const IN_BOTH: u8 = 136;
 
 // Whether the n ranges whose records begin at place p share a number with the m whose records begin at place q.
 fn share_records(bytes: &[u8], p: usize, n: usize, q: usize, m: usize) -> bool
@@ -47,21 +44,6 @@ fn share_records(bytes: &[u8], p: usize, n: usize, q: usize, m: usize) -> bool
         return true;
     }
     false
-}
-
-// Whether two sound set blocks share a number.
-fn share_number(a: &[u64], b: &[u64]) -> bool
-    requires { ⌜ SoundBlock 2 setLimit (now a) × SoundBlock 2 setLimit (now b) ⌝ }
-    ensures { λ r. ⌜ r ≡ shareb (entriesOf 2 (now (a .entry))) (entriesOf 2 (now (b .entry))) ⌝ }
-{
-    let plan = Plan {
-        table: IN_BOTH,
-        a: 2,
-        b: 2,
-        c: 2,
-        out: 2,
-    };
-    operations::any_of_two(a, b, plan)
 }
 
 // The verdict on the bytes as a whole bulletin; if they are one, the place where its withdrawn ranges begin.
@@ -145,7 +127,7 @@ pub fn write_bulletin(released: &[u64], withdrawn: &[u64], bytes: &mut [u8], p: 
     if u != 0 {
         return Written::Refused(answers::refusal_of(u, 1));
     }
-    if share_number(released, withdrawn) {
+    if operations::share_number(released, withdrawn) {
         return Written::Refused(answers::refusal_of(14, 0));
     }
     if bytes.len() < p {

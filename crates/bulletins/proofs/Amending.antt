@@ -10,8 +10,7 @@ use borrow.Author.Tests.{eq-eqb, ne-eqb, eqb-false, le-ltb, lt-ltb, ltb-false, l
 use Rattle.entries.specs.Entries.{Entry}
 use Rattle.entries.specs.Build.{pick}
 use Rattle.entries.specs.Sets.{intersection}
-use Rattle.entries.specs.Questions.{isEmpty}
-use Rattle.entries.specs.Bulletins.{amended}
+use Rattle.entries.specs.Bulletins.{amended, shareb}
 use Rattle.entries.proofs.Values.{true≢false}
 use Rattle.entries.proofs.Bulletins.{amended-bound}
 use Rattle.blocks.specs.Blocks.{setLimit, capacity, entriesOf, verdict}
@@ -36,7 +35,7 @@ block-small words = pick-small (eqb words 0) 1 0 (omega arith) (omega arith)
 
 pub overlap-small : (r w : List Entry) → overlap r w ≤ 15
 unfolding overlap
-overlap-small r w = pick-small (isEmpty (intersection r w)) 0 14 (omega arith) (omega arith)
+overlap-small r w = pick-small (shareb r w) 14 0 (omega arith) (omega arith)
 
 pub room-small : (words : ℕ) (es : List Entry) → noRoom words es ≤ 15
 unfolding noRoom
@@ -64,25 +63,14 @@ pub judged-input : (w : List ℕ) → verdict 2 setLimit w ≡ 0 → ((j : ℕ) 
 judged-input w z f = input-of (verdict-sound 2 setLimit w z) (omega arith) (omega arith) f
 
 -- 14
-module _ (r w : List ℕ) (i : Two r w) (t : Bool) (e : t ≡ ltb 0 (length (result 136 2 (entriesOf 2 r) (entriesOf 2 w) []))) where
-  common : result 136 2 (entriesOf 2 r) (entriesOf 2 w) [] ≡ intersection (entriesOf 2 r) (entriesOf 2 w)
-  common = intersection-table (entriesOf 2 r) (entriesOf 2 w) (bounded 2 r (i .first .words)) (bounded 2 w (i .second .words))
-
-  any : (es : List Entry) → t ≡ ltb 0 (length es) → t ≡ true → _≡_ {A = ℕ} 14 (pick (isEmpty es) 0 14)
-  any [] f z = absurd (true≢false (sym z ∙ f))
-  any (x ∷ es) f z = refl
-
-  none : (es : List Entry) → t ≡ ltb 0 (length es) → t ≡ false → _≡_ {A = ℕ} 0 (pick (isEmpty es) 0 14)
-  none [] f z = refl
-  none (x ∷ es) f z = absurd (true≢false (sym (lt-ltb 0 (length (x ∷ es)) (omega arith)) ∙ sym f ∙ z))
-
-  pub shared-yes : t ≡ true → 14 ≡ overlap (entriesOf 2 r) (entriesOf 2 w)
+module _ (r w : List Entry) (t : Bool) (e : t ≡ shareb r w) where
+  pub shared-yes : t ≡ true → 14 ≡ overlap r w
   unfolding overlap
-  shared-yes = any (intersection (entriesOf 2 r) (entriesOf 2 w)) (e ∙ ap (λ (l : List Entry). ltb 0 (length l)) common)
+  shared-yes z = ap (λ (u : Bool). pick u 14 0) (sym z ∙ e)
 
-  pub shared-no : t ≡ false → 0 ≡ overlap (entriesOf 2 r) (entriesOf 2 w)
+  pub shared-no : t ≡ false → 0 ≡ overlap r w
   unfolding overlap
-  shared-no = none (intersection (entriesOf 2 r) (entriesOf 2 w)) (e ∙ ap (λ (l : List Entry). ltb 0 (length l)) common)
+  shared-no z = ap (λ (u : Bool). pick u 14 0) (sym z ∙ e)
 
 -- 5, and the sweep's own result
 module _ (s r w : List ℕ) (i : Inputs 2 2 2 s r w) where

@@ -6,9 +6,7 @@ use lib.Dec.{ltb, eqb}
 use lib.ListN.{length}
 use Rattle.entries.specs.Entries.{Entry}
 use Rattle.entries.specs.Build.{pick}
-use Rattle.entries.specs.Sets.{intersection}
-use Rattle.entries.specs.Questions.{isEmpty}
-use Rattle.entries.specs.Bulletins.{amended}
+use Rattle.entries.specs.Bulletins.{amended, shareb}
 use Rattle.answers.specs.Answers.{Outcome, outcome, given, judged}
 use Rattle.blocks.specs.Blocks.{setLimit, capacity, entriesOf, blockOf, verdict}
 use Rattle.bulletins.specs.declared.Finding.{Finding}
@@ -32,7 +30,7 @@ noBlock words = pick (eqb words 0) 1 0
 
 -- «14 Overlap: a bulletin's two sets share a number»
 unfoldable pub overlap : List Entry → List Entry → ℕ
-overlap released withdrawn = pick (isEmpty (intersection released withdrawn)) 0 14
+overlap released withdrawn = pick (shareb released withdrawn) 14 0
 
 -- «5 Room: the result has more items than the written block's capacity». «Room looks at the result only.»
 unfoldable pub noRoom : ℕ → List Entry → ℕ

@@ -14,9 +14,7 @@ ghost use Rattle.bulletins.specs.Steps.{FirstOf, Two, Folds, Writes};
 use answers::Judged;
 use sweeps::Plan;
 
-// The tables of the sweep: bit a + 2b + 4c says whether a number is kept that is in the first (a), second (b) and third set (c).
-const IN_BOTH: u8 = 136;
-
+// The table of the sweep: bit a + 2b + 4c says whether a number is kept that is in the first (a), second (b) and third set (c).
 const WITHOUT_THIRD_JOINED_WITH_SECOND: u8 = 206;
 
 // A refusal's number and place; the number is 0 where there is none.
@@ -40,14 +38,7 @@ fn shared_number(released: &[u64], withdrawn: &[u64]) -> u8
     requires { ⌜ Two (now released) (now withdrawn) ⌝ }
     ensures { λ r. ⌜ r ≡ overlap (entriesOf 2 (now (released .entry))) (entriesOf 2 (now (withdrawn .entry))) ⌝ }
 {
-    let plan = Plan {
-        table: IN_BOTH,
-        a: 2,
-        b: 2,
-        c: 2,
-        out: 2,
-    };
-    if operations::any_of_two(released, withdrawn, plan) {
+    if operations::share_number(released, withdrawn) {
         return 14;
     }
     0

@@ -6,12 +6,15 @@ use mathlib.Core.List.{List, [], _∷_}
 use Prim.Native.Nat.{ℕ, _≤_, _<_}
 use native.Mathlib.Omega.{arith}
 use native.Mathlib.Decide.{decLt}
+use lib.Dec.{ltb}
 use lib.ListN.{length, getD}
+use borrow.Author.Tests.{lt-ltb}
 use Rattle.entries.specs.Entries.{Entry}
 use Rattle.entries.specs.Build.{pick}
 use Rattle.entries.specs.Sets.{M, has, member, intersection}
 use Rattle.entries.specs.Questions.{isEmpty}
-use Rattle.entries.specs.Bulletins.{amended}
+use Rattle.entries.specs.Bulletins.{amended, shareb}
+use Rattle.entries.proofs.Values.{true≢false}
 use Rattle.entries.proofs.Plain.{set-canonical}
 use Rattle.entries.proofs.Bulletins.{amend, Apart, apart-sym, amended-is, amended-amended, amended-apart, amended-swap, effect-released, effect-withdrawn}
 use Rattle.answers.specs.Answers.{given, Outcome, outcome}
@@ -62,16 +65,20 @@ clear-turn [] lent x c = refl
 clear-turn (f ∷ fs) lent x c = rw (c .0) (clear-turn fs lent x (c .1))
 
 overlap-apart : (r w : List Entry) → overlap r w ≡ 0 → Apart r w
-unfolding overlap
-overlap-apart r w e = disjoint-means r w (go (isEmpty (intersection r w)) e)
+unfolding overlap shareb
+overlap-apart r w e = disjoint-means r w (go (intersection r w) e)
   where
-    go : (t : Bool) → _≡_ {A = ℕ} (pick t 0 14) 0 → t ≡ true
-    go true e = refl
-    go false e = absurd (omega arith)
+    go : (es : List Entry) → _≡_ {A = ℕ} (pick (ltb 0 (length es)) 14 0) 0 → isEmpty es ≡ true
+    go [] e = refl
+    go (x ∷ es) e = absurd (let z : 14 ≡ 0 = rw (lt-ltb 0 (length (x ∷ es)) (omega arith)) at e in omega arith)
 
 apart-overlap : (r w : List Entry) → Apart r w → overlap r w ≡ 0
-unfolding overlap
-apart-overlap r w h = rw (means-disjoint r w h)
+unfolding overlap shareb
+apart-overlap r w h = go (intersection r w) (means-disjoint r w h)
+  where
+    go : (es : List Entry) → isEmpty es ≡ true → _≡_ {A = ℕ} (pick (ltb 0 (length es)) 14 0) 0
+    go [] e = refl
+    go (x ∷ es) e = absurd (true≢false (sym e))
 
 -- the block of an amended list, in a block of L words that has room for it
 module _ (L : ℕ) (s r w : List Entry) where

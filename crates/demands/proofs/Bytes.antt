@@ -15,7 +15,8 @@ use Rattle.forms.specs.Forms.{formOf, setForm, mapForm, formEntries, formVerdic
 use Rattle.forms.specs.Calls.{accepted, readInto, readCall, readSetCall, readMapCall, writtenAt, writeCall, writeSetCall, writeMapCall}
 use Rattle.forms.proofs.Whole.{set-kinds, map-kinds}
 use Rattle.forms.proofs.Forms as sets-and-maps
-use Rattle.bulletin_forms.specs.Bulletins.{bulletinForm, releasedIn, withdrawnIn, shareb, bulletinVerdict}
+use Rattle.entries.specs.Bulletins.{shareb}
+use Rattle.bulletin_forms.specs.Bulletins.{bulletinForm, releasedIn, withdrawnIn, bulletinVerdict}
 use Rattle.bulletin_forms.specs.Calls.{readTwo, readBulletinCall, writeBulletinCall}
 use Rattle.bulletin_forms.proofs.Bulletins as of-bulletins
 use Rattle.demands.proofs.Accepting.{Keeps, judged-keeps, pick-keeps, stored-keeps}

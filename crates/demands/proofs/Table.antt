@@ -8,6 +8,7 @@ use lib.Dec.{eqb}
 use lib.ListN.{take, replicate}
 use Rattle.entries.specs.Build.{pick, andb, sameWords, put}
 use Rattle.entries.specs.Sets.{M, union, intersection, difference, complement}
+use Rattle.entries.specs.Bulletins.{shareb}
 use Rattle.answers.specs.Answers.{Answer, given, refused, Outcome, outcome}
 use Rattle.blocks.specs.Blocks.{blockOf, verdict}
 use Rattle.edits.specs.Calls.{editCall}
@@ -138,5 +139,5 @@ table =
     ∷ []
 
 pub worked : wrong 0 table ≡ []
-unfolding editCall verdict put blockOf memberCall sizeCall leastNonMemberCall unionCall complementCall complement union intersection difference fitCall reserveCall placeIn gaps noBlock overlap noRoom applyCall foldCall readCall writeCall formOf formVerdict formEntries runOf runVerdict entriesIn startVerdict itemVerdict headVerdict bodyLength checkOf fletcher
+unfolding editCall verdict put blockOf memberCall sizeCall leastNonMemberCall unionCall complementCall complement union intersection difference fitCall reserveCall placeIn gaps noBlock overlap shareb noRoom applyCall foldCall readCall writeCall formOf formVerdict formEntries runOf runVerdict entriesIn startVerdict itemVerdict headVerdict bodyLength checkOf fletcher
 worked = refl

@@ -27,10 +27,6 @@ use Rattle.host.specs.declared.Told.{Told}
 use Rattle.host.specs.Told.{told, reply, inC}
 use Rattle.host.specs.Calls.{counted, judgeFormCall, decidingAt, siteOverFactoryAtCall}
 
--- an outcome that is told
-pub told-as : {a : Answer} {lent : List (List ℕ)} {x : Outcome} {t : Told} → t ≡ told a → outcome a lent ≡ x → reply t lent ≡ inC x
-told-as {a} {lent} {x} {t} e q = ap (λ (s : Told). reply s lent) e ∙ ap inC q
-
 -- a verdict that the code found, before what follows it
 module _ (v place : ℕ) (t : Told) (x : Outcome) where
   pub stops : (u : ℕ) → v ≡ u → (v ≡ 0 → ⊥) → t ≡ told (refused v place) → reply t [] ≡ inC (judged u place [] x)
@@ -117,5 +113,28 @@ part-of-deciding site factory x = go (verdict 3 mapLimit site) (verdict 3 mapLim
 
     go : (v u : ℕ) → partOfTwo (judged v 0 [] (judged u 1 [] (outcome (given (decidingAt site factory x)) []))) site factory ≡ accepted (judged v 0 [] (judged u 1 [] (outcome (given []) []))) (deciding site factory x)
     go zero zero = named (has (valueAt (entriesOf 3 site) x)) (has (valueAt (entriesOf 3 factory) x)) refl refl
+    go zero (suc u) = refl
+    go (suc v) u = refl
+
+-- the answer without its values
+abbrev pub bare : Outcome → Outcome
+bare (outcome (given xs) lent) = outcome (given []) lent
+bare (outcome (refused n p) lent) = outcome (refused n p) lent
+
+-- the companion questions answer the same refusals: C needs no call for them
+pub window-companion : (s limit : ℕ) (w : List ℕ) (a b : ℕ) → bare (windowAtCall s limit w a b) ≡ windowRefusalCall s limit w a b
+unfolding windowAtCall
+window-companion s limit w a b = go (windowVerdict s limit w a b)
+  where
+    go : (v : ℕ) → bare (judged v 0 [] (outcome (given (windowPlace s w a ∷ windowLength s w a b ∷ [])) [])) ≡ judged v 0 [] (outcome (given []) [])
+    go zero = refl
+    go (suc v) = refl
+
+pub deciding-companion : (site factory : List ℕ) (x : ℕ) → bare (siteOverFactoryAtCall site factory x) ≡ siteRefusalCall site factory
+unfolding siteOverFactoryAtCall siteRefusalCall
+deciding-companion site factory x = go (verdict 3 mapLimit site) (verdict 3 mapLimit factory)
+  where
+    go : (v u : ℕ) → bare (judged v 0 [] (judged u 1 [] (outcome (given (decidingAt site factory x)) []))) ≡ judged v 0 [] (judged u 1 [] (outcome (given []) []))
+    go zero zero = refl
     go zero (suc u) = refl
     go (suc v) u = refl

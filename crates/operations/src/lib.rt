@@ -4,13 +4,18 @@ ghost use mathlib.Core.List.{[], _∷_};
 ghost use Prim.Native.Nat.{_≤_, _<_};
 ghost use lib.Dec.{ltb};
 ghost use lib.ListN.{length};
+ghost use Rattle.entries.specs.Bulletins.{shareb};
+ghost use Rattle.blocks.specs.Blocks.{entriesOf};
 ghost use Rattle.answers.specs.Answers.{outcome};
 ghost use Rattle.answers.specs.Says.{judgedSays};
-ghost use Rattle.sweeps.specs.Sweeps.{Inputs, Fit, result, resultOf};
+ghost use Rattle.sweeps.specs.Sweeps.{Input, Inputs, Fit, result, resultOf};
 ghost use Rattle.operations.specs.Calls.{layout, fromTwo, fromOne};
 ghost use Rattle.operations.specs.Steps.{resultTwo, StoreOk, AnyOk, Wrote, TwoFit, OneFit};
 use answers::Judged;
 use sweeps::Plan;
+
+// The table of the sweep that keeps a number which is in the first set and in the second.
+const IN_BOTH: u8 = 136;
 
 // The limits on the number of items of the inputs and the output.
 pub struct Limits {
@@ -58,6 +63,21 @@ pub fn any_of_two(a: &[u64], b: &[u64], plan: Plan) -> bool
 {
     let none = [0u64; 1];
     sweeps::any(a, b, &none, plan)
+}
+
+// Whether two judged sets share a number.
+pub fn share_number(a: &[u64], b: &[u64]) -> bool
+    requires { ⌜ Input 2 (now a) × Input 2 (now b) ⌝ }
+    ensures { λ r. ⌜ r ≡ shareb (entriesOf 2 (now (a .entry))) (entriesOf 2 (now (b .entry))) ⌝ }
+{
+    let plan = Plan {
+        table: IN_BOTH,
+        a: 2,
+        b: 2,
+        c: 2,
+        out: 2,
+    };
+    any_of_two(a, b, plan)
 }
 
 // An operation on two blocks.

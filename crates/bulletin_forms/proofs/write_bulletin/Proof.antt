@@ -1,3 +1,4 @@
+use Rattle.sweeps.proofs.Tables.{input}
 use mathlib.Core.Path.{_∙_}
 use Rattle.bulletin_forms.proofs.Answering.{write-first, first-sound, write-second, second-sound, write-shared, write-above, small, room-first, room-second, write-fills, write-short, write-good}
 use native.Mathlib.Omega.{arith}
@@ -11,7 +12,7 @@ use Rattle.blocks.proofs.judge.Reads as judge-reads
 use Rattle.blocks.proofs.wide.Reads as wide-reads
 use Rattle.blocks.proofs.word.Reads as word-reads
 use Rattle.bulletin_forms.proofs.put_bulletin.Reads as put-bulletin-reads
-use Rattle.bulletin_forms.proofs.share_number.Reads as share-number-reads
+use Rattle.operations.proofs.share_number.Reads as share-number-reads
 
 judge-requires : tie.Need-judge-requires
 judge-requires c κs = search needs
@@ -32,7 +33,7 @@ returns-2 : tie.Need-returns-2
 returns-2 c = let a = c .before .before .before .before .before .before .before .before .args in write-second (a .released .now) (a .withdrawn .now) (a .bytes .now) (a .p) _ (c .before .before .before .before .judge .ensures) (c .before .before .before .if1 .left) _ (c .before .before .judge2 .ensures) (c .before .if2 .taken) _ (c .refusal-of2 .ensures)
 
 share-number-requires : tie.Need-share-number-requires
-share-number-requires c κs = let a = c .before .before .before .before .before .before .before .args in (first-sound (a .released .now) (a .withdrawn .now) (a .bytes .now) (a .p) _ (c .before .before .before .judge .ensures) (c .before .before .if1 .left), second-sound (a .released .now) (a .withdrawn .now) (a .bytes .now) (a .p) _ (c .before .before .before .judge .ensures) (c .before .before .if1 .left) _ (c .before .judge2 .ensures) (c .if2 .left))
+share-number-requires c κs = let a = c .before .before .before .before .before .before .before .args in (input (first-sound (a .released .now) (a .withdrawn .now) (a .bytes .now) (a .p) _ (c .before .before .before .judge .ensures) (c .before .before .if1 .left)) (omega arith) (omega arith) (λ j. omega (arith, c .before .before .before .before .before .before .shared-slice-known .given j)), input (second-sound (a .released .now) (a .withdrawn .now) (a .bytes .now) (a .p) _ (c .before .before .before .judge .ensures) (c .before .before .if1 .left) _ (c .before .judge2 .ensures) (c .if2 .left)) (omega arith) (omega arith) (λ j. omega (arith, c .before .before .before .before .before .shared-slice-known2 .given j)))
 
 refusal-of-requires-3 : tie.Need-refusal-of-requires-3
 refusal-of-requires-3 c κs = search needs

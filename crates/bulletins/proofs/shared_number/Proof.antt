@@ -8,16 +8,16 @@ use Rattle.bulletins.proofs.shared_number.Statement.{statement}
 use Rattle.bulletins.proofs.shared_number.Tie as tie
 use Rattle.bulletins.proofs.shared_number.Reads as reads
 use Rattle.bulletins.proofs.shared_number.Lts as lts
-use Rattle.operations.proofs.any_of_two.Reads as any-of-two-reads
+use Rattle.operations.proofs.share_number.Reads as share-number-reads
 
-any-of-two-requires : tie.Need-any-of-two-requires
-any-of-two-requires c κs = let a = c .before .before in record { first = a .pre .first; second = a .pre .second; third = refl; fit = fit-set 136 2 2 2 (omega arith) (omega arith) (omega arith) }
+share-number-requires : tie.Need-share-number-requires
+share-number-requires c κs = let a = c .before .before in (a .pre .first, a .pre .second)
 
 returns : tie.Need-returns
-returns c = let a = c .before .before .before .before in shared-yes (now (a .args .released)) (now (a .args .withdrawn)) (a .pre) (c .before .any-of-two .result) (c .before .any-of-two .ensures) (c .if1 .taken)
+returns c = shared-yes _ _ (c .before .share-number .result) (c .before .share-number .ensures) (c .if1 .taken)
 
 returns-2 : tie.Need-returns-2
-returns-2 c = let a = c .before .before .before .before in shared-no (now (a .args .released)) (now (a .args .withdrawn)) (a .pre) (c .before .any-of-two .result) (c .before .any-of-two .ensures) (c .if1 .left)
+returns-2 c = shared-no _ _ (c .before .share-number .result) (c .before .share-number .ensures) (c .if1 .left)
 
 pub shared-number-spec : {M : Type 1} → statement M
-shared-number-spec = tie.close (tie.spec any-of-two-requires returns returns-2)
+shared-number-spec = tie.close (tie.spec share-number-requires returns returns-2)
