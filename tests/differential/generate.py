@@ -155,7 +155,7 @@ def changed_bytes(rng, form):
 
 
 def changed_records(rng, form):
-    """The form with records exchanged, left out, doubled, of another kind, with another count, or with other content and the right check."""
+    """The form with records exchanged, left out, doubled, of another kind, or with another count or content and the right check."""
     pieces = split(form)
     i, j = rng.randrange(len(pieces)), rng.randrange(len(pieces))
     way = rng.randrange(6)

@@ -290,6 +290,7 @@ def into_output(kinds, operation):
     """A call that makes its result from its inputs into an output: 1, 2, 3 of each input, then 1 of the output, then 5."""
 
     def call(*blocks):
+        """Inputs, and the output last."""
         inputs, out, position = blocks[:-1], blocks[-1], len(blocks) - 1
         lists = [judged(kind, block, i) for i, (kind, block) in enumerate(zip(kinds, inputs))]
         has_words(out, position)

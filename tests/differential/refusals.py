@@ -10,7 +10,7 @@ import random
 
 import model
 import shapes
-from model import BODY, LIMIT, M, MAP, SET
+from model import LIMIT, M, MAP, SET
 from wire import Case
 
 ARGS = {"x": ["set_member", "set_least_member", "set_least_non_member", "map_look_up", "map_site_over_factory", "member"]}
@@ -188,9 +188,8 @@ def buffer_and_place(size, wants, rng):
     p = rng.choice([0, 0, 1, 5, 30])
     length = p + size + rng.choice([0, 0, 1, 9])
     if (15, "") in wants:
-        length, p = rng.choice(
-            [(p + size - 1, p), (length, length), (length, length + 1), (length, M), (length, M + 1 - size), (size, M + 2 - size), (0, 0)]
-        )
+        wraps = rng.choice([(length, M), (length, M + 1 - size), (size, M + 2 - size)])
+        length, p = rng.choice([(p + size - 1, p), (length, length), (length, length + 1), wraps, wraps, (0, 0)])
     return rng.randbytes(length), p
 
 
@@ -200,9 +199,10 @@ def form_of(name, lists):
 
 
 def word_case(name, wants, pair, seed):
-    """A call on word blocks to which exactly the wanted refusals apply, if it works out; the place of each is its block's position."""
+    """A call on word blocks to which the wanted refusals apply, if it works out; and the place of each."""
 
     def rng(part):
+        """Each part is drawn by itself, so that what is wanted of one part changes no other."""
         return random.Random(f"{seed}/{part}")
 
     kinds = kinds_of(name)
@@ -257,7 +257,8 @@ def spoiled_record(rng, kind, numbers, size, wants, bad):
     if 11 in wants:
         right = bytes(data[-2:])
         while data[-2:] == right:
-            data[-2:] = rng.choice([right[::-1], bytes([right[0] ^ 1, right[1]]), bytes([right[0] ^ 0x80, right[1]]), rng.randbytes(2)])
+            first, second = bytes([right[0] ^ 0x80, right[1]]), bytes([right[0], right[1] ^ 1])
+            data[-2:] = rng.choice([right[::-1], first, second, rng.randbytes(2)])
     if 9 in wants:
         data[rng.randrange(2)] ^= 1 << rng.randrange(8)
     return bytes(data)
@@ -322,6 +323,7 @@ def form_case(name, wants, pair, seed):
     """A call that reads bytes, to which exactly the wanted refusals apply; and the place of each."""
 
     def rng(part):
+        """Each part is drawn by itself, so that what is wanted of one part changes no other."""
         return random.Random(f"{seed}/{part}")
 
     lists = form_lists(name, wants, rng("lists"))

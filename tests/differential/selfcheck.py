@@ -104,7 +104,8 @@ def check_results(line, rng, one, two):
     room = [99] * length
     expect("insert", written("set_insert", [block], ends), zeros(line.block(one | asked), len(block)))
     expect("remove", written("set_remove", [block], ends), zeros(line.block(one - asked), len(block)))
-    for name, result in (("union", one | two), ("intersection", one & two), ("difference", one - two), ("symmetric_difference", one ^ two)):
+    results = {"union": one | two, "intersection": one & two, "difference": one - two, "symmetric_difference": one ^ two}
+    for name, result in results.items():
         expect(name, written("set_" + name, [block, other, room]), zeros(line.block(result), length))
     expect("complement", written("set_complement", [block, room]), zeros(line.block(everything - one), length))
     for spare in range(3):
@@ -152,7 +153,8 @@ def check_maps(line, rng, upper, lower, held):
     room = [99] * length
     value = rng.randrange(3)
     expect("look up", values("map_look_up", [block], [x]), [upper[cell]] if cell in upper else [])
-    expect("assign", written("map_assign", [block], ends + [value]), zeros(line.block(upper | dict.fromkeys(asked, value)), len(block)))
+    assigned = upper | dict.fromkeys(asked, value)
+    expect("assign", written("map_assign", [block], ends + [value]), zeros(line.block(assigned), len(block)))
     without = {c: v for c, v in upper.items() if c not in asked}
     expect("erase", written("map_erase", [block], ends), zeros(line.block(without), len(block)))
     expect("overlay", written("map_overlay", [block, other, room]), zeros(line.block(lower | upper), length))
@@ -203,7 +205,7 @@ def check_soundness(rng):
 
 
 def check_forms(rng, line, one, entries):
-    """Reading gives back what writing wrote, and accepts no other bytes; a form is accepted exactly if it is the form of its items."""
+    """Reading gives back what writing wrote; bytes are accepted exactly if they are the form of the items in them."""
     for name, block in (("set", line.block(one)), ("map", line.block(entries))):
         size = 7 + (21 if name == "set" else 29) * block[0]
         expect(name + " size", values(name + "_write", [block, bytearray(size)], [0]), [size])
@@ -227,6 +229,7 @@ def check_against_brute_force(rounds, seed):
         line = Line(rng.choice(LAYOUTS))
 
         def some():
+            """Few cells or many."""
             part = rng.choice([0.1, 0.3, 0.5, 0.7, 0.9])
             return {c for c in line.cells if rng.random() < part}
 

@@ -34,7 +34,7 @@ def points_of(*lists):
 
 
 def moved(rng, ranges):
-    """The ranges as they are, at the line's low end, or moved: to the high end, a part of them to the high end, anywhere; or stretched."""
+    """The ranges at the line's low end, or moved: to the high end, some of them to the high end, anywhere; or stretched."""
     last = ranges[-1][1]
     shift = M - last - rng.choice([0, 0, 0, 1, 2])
     kind = rng.randrange(6)

@@ -64,7 +64,7 @@ def outcome_size(case):
 
 
 def expected(case, outcome, got):
-    """The model's outcome as the driver would write it; where an empty part lies is taken from what was got, if it lies in the block."""
+    """The model's outcome as the driver would write it. An empty part may lie anywhere in the block: it is taken as it was got."""
     status, answer, after = outcome
     answer = list(answer or (0, 0, 0, 0, 0))
     if answer[2] is None:
