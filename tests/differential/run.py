@@ -3,8 +3,9 @@
     run.py [--cases N] [--seconds S] [--seed X] [--sample N] [--tally] [--replay FILE] -- DRIVER...
 
 DRIVER... is the command of the C program of driver.c. Without options the seed and the number of cases are fixed. With --cases or
---seconds and no --seed a seed is drawn, and printed first. --sample N runs N cases of the fixed run, evenly chosen, and asks nothing
-of the tally. --replay runs one case that a mismatch left behind. The exit status is 1 on a mismatch, or if something was not tried.
+--seconds and no --seed a seed is drawn, and printed first; the cases made for the refusals and the limits, about 8,500, are always
+run. --sample N runs N cases of the fixed run, evenly chosen, and asks nothing of the tally. --tally prints what was tried of each
+call. --replay runs one case that a mismatch left behind. The exit status is 1 on a mismatch, or if something was not tried.
 """
 
 import argparse
@@ -23,7 +24,7 @@ import wire
 CASES = 60000
 SEED = "1"
 PAIR_TIMES, SINGLE_TIMES, LIMIT_TIMES = 5, 5, 10
-AT_LEAST = {"call": 100, "refusal": 5, "pair": PAIR_TIMES}
+AT_LEAST = {"call": 10, "refusal": 5, "pair": PAIR_TIMES}
 BATCH = 500
 KEPT = "build/differential-mismatch.json"
 NAMES = [name for name, _, _ in model.CALLS]
