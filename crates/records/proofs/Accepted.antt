@@ -1,28 +1,22 @@
 -- What an accepted record says of the bytes, and the bytes of a record are accepted.
-use Prim.Native.Nat.{ℕ, zero, suc, _+_, _-_, _*_, _≤_}
+use Prim.Native.Nat.{ℕ, _+_, _-_, _*_, _≤_}
 use mathlib.Core.List.{List, [], _∷_, _++_, append-assoc}
 use mathlib.Core.Bool.{Bool, true, false}
 use mathlib.Core.Option.{Option, some}
 use mathlib.Core.Path.{_≡_, refl, sym, ap, ap₂, _∙_}
 use native.Mathlib.Omega.{arith}
-use native.Mathlib.Numerals.{add-one}
 use native.Mathlib.Nat.{div-add-mod'}
 use lib.Dec.{leb}
 use lib.ListN.{length, take, drop, take-append-drop, length-append}
-use lib.Seq.{drop-drop, drop-cons, take-at, drop-at, take-all}
+use lib.Seq.{drop-drop, take-at, drop-at, take-all}
 use Rattle.entries.specs.Entries.{Entry, entry}
 use Rattle.entries.specs.Build.{pick, andb}
 use Rattle.blocks.specs.Blocks.{itemOf}
 use Rattle.records.specs.Numbers.{Bytes, num2, be2, wordsIn, wordBytes, countsIn, countBytes}
 use Rattle.records.specs.Check.{checkOf}
-use Rattle.records.specs.Records.{bodyLength, headVerdict, orNext, recordOf, startRecord, itemRecord, allWithin, startVerdict, entryIn, follows, itemVerdict}
-use Rattle.records.proofs.Heads.{Whole, head-inv, head-whole}
+use Rattle.records.specs.Records.{bodyLength, headVerdict, recordOf, startRecord, itemRecord, allWithin, startVerdict, entryIn, follows, itemVerdict}
+use Rattle.records.proofs.Heads.{Whole, both-zero, kind-body, head-inv, head-whole}
 use Rattle.records.proofs.Numbers.{two-bytes, words-bytes, counts-bytes, words-drop, counts-drop, words-back, counts-back, length-words, num2-drop}
-
--- both verdicts of two are 0
-both-zero : (h x : ℕ) → orNext h x ≡ 0 → (h ≡ 0) × (x ≡ 0)
-both-zero zero x e = (refl, e)
-both-zero (suc v) x e = absurd (omega arith)
 
 content-true : (t : Bool) → _≡_ {A = ℕ} (pick t 0 12) 0 → t ≡ true
 content-true true e = refl
@@ -71,22 +65,18 @@ module _ (mark kind : ℕ) (b : List ℕ) where
 
   -- a whole record is the record of its body
   module _ (y : Bytes b) (n : ℕ) (w : Whole mark kind n b) where
-    kind-body : kind ∷ take n (drop 3 b) ≡ take (n + 1) (drop 2 b)
-    kind-body =
-        let c = drop-cons b 2 0 (omega (arith, w .long)) in
-        sym (rw (add-one n, c, w .is-due))
-
     pub record-bytes : b ≡ recordOf mark kind (take n (drop 3 b)) ++ drop (n + 5) b
     record-bytes =
+        let kb : kind ∷ take n (drop 3 b) ≡ take (n + 1) (drop 2 b) = kind-body kind n b (w .is-due) (w .long) in
         let m : be2 mark ≡ take 2 b = ap be2 (sym (w .marked)) ∙ two-bytes b y 0 (omega (arith, w .long)) in
         let s : be2 (checkOf mark (kind ∷ take n (drop 3 b))) ≡ take 2 (drop (n + 3) b) =
-        ap be2 (ap (checkOf mark) kind-body ∙ w .sum) ∙ two-bytes b y (n + 3) (omega (arith, w .long)) in
+        ap be2 (ap (checkOf mark) kb ∙ w .sum) ∙ two-bytes b y (n + 3) (omega (arith, w .long)) in
         let k : 2 + (n + 1) ≡ n + 3 = omega arith in
         let j : n + 3 + 2 ≡ n + 5 = omega arith in
         let x = take 2 b in
         let u = take (n + 1) (drop 2 b) in
         let v = take 2 (drop (n + 3) b) in
-        let whole : recordOf mark kind (take n (drop 3 b)) ≡ x ++ (u ++ v) = ap₂ _++_ m (ap₂ _++_ kind-body s) in
+        let whole : recordOf mark kind (take n (drop 3 b)) ≡ x ++ (u ++ v) = ap₂ _++_ m (ap₂ _++_ kb s) in
         let last : v ++ drop (n + 5) b ≡ drop (n + 1) (drop 2 b) =
         ap (λ (q : ℕ). v ++ drop q b) (sym j) ∙ ap (λ (l : List ℕ). v ++ l) (sym (drop-drop 2 (n + 3) b)) ∙ take-append-drop 2 (drop (n + 3) b)
         ∙ ap (λ (q : ℕ). drop q b) (sym k) ∙ sym (drop-drop (n + 1) 2 b) in

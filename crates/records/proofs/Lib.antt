@@ -1,10 +1,11 @@
 pub mod Patch
 pub mod Numbers
-pub mod Sums
+pub mod Summing
 pub mod Table
 pub mod Items
 pub mod Heads
 pub mod Written
 pub mod Accepted
+pub mod Told
 pub mod Bounded
 pub mod Cases

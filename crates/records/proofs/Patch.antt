@@ -4,7 +4,7 @@ use mathlib.Core.List.{List, [], _∷_, _++_, append-assoc, append-nil}
 use mathlib.Core.Path.{_≡_, refl, sym, ap, _∙_}
 use native.Mathlib.Omega.{arith}
 use native.Mathlib.Nat.{add-assoc}
-use lib.ListN.{length, take, drop, set, length-drop, length-take, length-append, take-append-drop, drop-of-length-le}
+use lib.ListN.{length, take, drop, set, length-drop, length-append, take-append-drop, drop-of-length-le}
 use lib.Seq.{length-take-le, take-all, drop-drop, take-at, drop-at, sets-eq}
 use borrow.Rule.Slice.PartMut.{putMid}
 use Rattle.records.specs.Numbers.{over, patch}
@@ -15,9 +15,6 @@ tail-part p b = take-all (length b - p) (drop p b) (omega (arith, length-drop p 
 
 pub length-over : (vs b : List ℕ) → length vs ≤ length b → length (over vs b) ≡ length b
 length-over vs b h = simp (length-append, length-drop) (omega arith)
-
-pub length-patch : (p : ℕ) (vs b : List ℕ) → p + length vs ≤ length b → length (patch p vs b) ≡ length b
-length-patch p vs b h = simp (length-append, length-take, length-drop) (omega arith)
 
 -- the tail from p, written at its front, is back
 pub mid-patch : (p : ℕ) (vs b y : List ℕ) → y ≡ over vs (take (length b - p) (drop p b)) → putMid p (length b - p) b y ≡ patch p vs b

@@ -1,15 +1,17 @@
 -- What the steps of the code promise each other. No public promise names these.
-use Prim.Native.Nat.{ℕ, zero, suc, _-_, _*_, _≤_}
+use Prim.Native.Nat.{ℕ, zero, suc, _+_, _-_, _*_, _/_, _%_, _^_, _≤_, _<_}
 use mathlib.Core.Path.{_≡_}
 use mathlib.Core.Bool.{Bool}
 use mathlib.Core.Option.{Option, none, some}
-use mathlib.Core.List.{List, [], _∷_}
-use lib.Dec.{ltb}
-use lib.ListN.{length, take}
+use mathlib.Core.List.{List, [], _∷_, _++_}
+use lib.Dec.{ltb, eqb}
+use lib.ListN.{length, getD, take}
 use Rattle.entries.specs.Entries.{Entry, entry}
 use Rattle.entries.specs.Build.{pick}
-use Rattle.records.specs.Numbers.{num8}
+use Rattle.records.specs.Numbers.{num2, num8, wordBytes}
+use Rattle.records.specs.Check.{fletcher, checkOf}
 use Rattle.records.specs.Records.{bodyLength}
+use Rattle.records.specs.declared.Sums.{Sums}
 use Rattle.records.specs.declared.Body.{Body}
 use Rattle.records.specs.declared.Body.the-variants as body
 use Rattle.records.specs.declared.Item.{Item}
@@ -19,6 +21,46 @@ use Rattle.records.specs.declared.CountsRead.{CountsRead}
 use Rattle.records.specs.declared.CountsRead.the-variants as counts
 use Rattle.records.specs.declared.ItemRead.{ItemRead}
 use Rattle.records.specs.declared.ItemRead.the-variants as item
+
+-- the check that goes on over ys from the sums a and b, taken at their remainders; and from the code's sums
+abbrev pub from : ℕ → ℕ → List ℕ → ℕ
+from a b ys = fletcher (a % 255) (b % 255) ys
+
+abbrev pub goOn : Sums → List ℕ → ℕ
+goOn s ys = from (s .a) (s .b) ys
+
+-- the sums over the kind alone
+pub record Begun (mark kind : ℕ) (r : Sums) : Type 0 where
+  pub on : (ys : List ℕ) → checkOf mark (kind ∷ ys) ≡ goOn r ys
+  pub first : r .a < 256
+  pub second : r .b < 256
+
+-- sums to which more can be added
+pub record Small (s : Sums) : Type 0 where
+  pub first : s .a < 2 ^ 40
+  pub second : s .b < 2 ^ 50
+
+-- the sums with the bytes xs behind
+pub record After (xs : List ℕ) (s r : Sums) : Type 0 where
+  pub on : (ys : List ℕ) → goOn s (xs ++ ys) ≡ goOn r ys
+  pub first : r .a < s .a + 2 ^ 33
+  pub second : r .b < s .b + 8 * s .a + 2 ^ 36
+
+-- what 4 bytes add to the second sum, up to multiples of 255, by their number
+unfoldable pub weight4 : ℕ → ℕ
+weight4 v = v + v / 256 + v / 65536 + v / 16777216
+
+-- the verdict on a record as far as its length
+abbrev pub lengthVerdict : Option ℕ → List ℕ → ℕ
+lengthVerdict none b = 10
+lengthVerdict (some n) b = pick (ltb (length b) (n + 5)) 8 0
+
+unfoldable pub frontVerdict : ℕ → ℕ → List ℕ → ℕ
+frontVerdict mark due b =
+    pick (ltb (length b) 3) 8
+    (pick (eqb (num2 b 0) mark)
+    (pick (eqb (getD b 2 0) due) (lengthVerdict (bodyLength due) b) 10)
+    9)
 
 -- a body's length as the code answers it
 abbrev pub bodyRead : Option ℕ → Body
@@ -37,6 +79,10 @@ itemHere s b = record { low = num8 b 3; high = num8 b 11; value = pick (ltb 2 s)
 
 abbrev pub entryOf : ℕ → Item → Entry
 entryOf s i = entry (i .low) (i .high) (take (s - 2) (i .value ∷ i .second ∷ []))
+
+-- the bytes of the words of an item
+abbrev pub itemBytes : ℕ → Item → List ℕ
+itemBytes s i = wordBytes (entryOf s i .low ∷ entryOf s i .high ∷ entryOf s i .value)
 
 -- the entry before, where there is one
 abbrev pub previous : Bool → ℕ → Item → Option Entry

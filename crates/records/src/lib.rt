@@ -1,16 +1,17 @@
 // One record of the byte form, read or written: numbers of 2 and 8 bytes, the check, the kinds, a start and an item.
+// A byte is loaded once where a record is judged and stored once where it is written: the check is summed from the numbers.
 ghost use mathlib.Core.Path.{_≡_};
 ghost use mathlib.Core.Option.{some};
 ghost use mathlib.Core.List.{[], _∷_, _++_};
 ghost use Prim.Native.Nat.{_+_, _*_, _≤_, _<_};
-ghost use lib.Dec.{ltb};
-ghost use lib.ListN.{length, take, drop};
+ghost use lib.Dec.{ltb, eqb};
+ghost use lib.ListN.{length};
 ghost use Rattle.entries.specs.Build.{pick, sameWords};
 ghost use Rattle.blocks.specs.Blocks.{afterb};
-ghost use Rattle.records.specs.Numbers.{num2, num4, num8, be2, be4, be8, wordsIn, wordBytes, over, patch};
+ghost use Rattle.records.specs.Numbers.{num2, num4, num8, be2, be4, be8, wordsIn, wordBytes, over};
 ghost use Rattle.records.specs.Check.{checkOf};
-ghost use Rattle.records.specs.Records.{bodyLength, recordOf, headVerdict, startVerdict, itemVerdict, startRecord};
-ghost use Rattle.records.specs.Steps.{bodyRead, ItemKind, itemHere, entryOf, previous, startRead, countsRead, itemRead, startNumber, countsNumber, itemNumber};
+ghost use Rattle.records.specs.Records.{bodyLength, recordOf, startVerdict, itemVerdict, startRecord};
+ghost use Rattle.records.specs.Steps.{goOn, Small, After, Begun, weight4, bodyRead, frontVerdict, ItemKind, itemHere, entryOf, itemBytes, previous, startRead, countsRead, itemRead, startNumber, countsNumber, itemNumber};
 
 // The mark of every record.
 pub const MARK: u16 = 0xC53A;
@@ -61,7 +62,60 @@ fn wide2(x: u16) -> u64
     x as u64
 }
 
-// The check of kind and body. The sums of at most 33 bytes stay small, so one remainder of each at the end is enough.
+// The two sums of the check, over the bytes so far, each up to multiples of 255.
+struct Sums {
+    a: u64,
+    b: u64,
+}
+
+// The sums over the kind, in a record with this mark.
+fn sums_from(kind: u8, mark: u16) -> Sums
+    ensures { λ r. ⌜ Begun mark kind r ⌝ }
+{
+    let x = wide(kind);
+    Sums { a: x, b: x }
+}
+
+// The sums with the 2 bytes of v behind. 256 leaves 1 when divided by 255, so a number adds to them what its bytes add.
+fn sum2(s: Sums, v: u64) -> Sums
+    requires { ⌜ Small s × (v < 65536) ⌝ }
+    ensures { λ r. ⌜ After (be2 v) s r ⌝ }
+{
+    Sums {
+        a: s.a + v,
+        b: s.b + 2 * s.a + v + v / 256,
+    }
+}
+
+// What the 4 bytes of v add to the second sum: each is in it once, and once more for each of them behind it.
+fn weight(v: u64) -> u64
+    requires { ⌜ v < 4294967296 ⌝ }
+    ensures { λ r. ⌜ (r ≡ weight4 v) × (r < 8589934592) ⌝ }
+{
+    v + v / 256 + v / 65536 + v / 16777216
+}
+
+// The sums with the 8 bytes of v behind.
+fn sum8(s: Sums, v: u64) -> Sums
+    requires { ⌜ Small s ⌝ }
+    ensures { λ r. ⌜ After (be8 v) s r ⌝ }
+{
+    let h = v / 4294967296;
+    let l = v % 4294967296;
+    Sums {
+        a: s.a + h + l,
+        b: s.b + 8 * s.a + 4 * h + weight(h) + weight(l),
+    }
+}
+
+// The check of the bytes in the sums, in a record with this mark. Here the remainders are taken, once a record.
+fn check_from(s: Sums, mark: u16) -> u64
+    ensures { λ r. ⌜ (r ≡ goOn s []) × (r < 65536) ⌝ }
+{
+    s.b % 255 * 256 + s.a % 255
+}
+
+// The check of at most 33 bytes.
 pub fn check_of(bytes: &[u8], mark: u16) -> u64
     requires { ⌜ length (now bytes) ≤ 33 ⌝ }
     ensures { λ r. ⌜ (r ≡ checkOf mark (now (bytes .entry))) × (r < 65536) ⌝ }
@@ -74,7 +128,7 @@ pub fn check_of(bytes: &[u8], mark: u16) -> u64
         b += a;
         i += 1;
     }
-    b % 255 * 256 + a % 255
+    check_from(Sums { a, b }, mark)
 }
 
 // The number of 2 bytes at place q.
@@ -114,9 +168,9 @@ pub fn body_length(kind: u8) -> Body
     }
 }
 
-// The verdict on the record at the front of the bytes as far as its check: 0, or the number of the refusal.
-pub fn read_head(bytes: &[u8], mark: u16, due: u8) -> u8
-    ensures { λ r. ⌜ r ≡ headVerdict mark due (now (bytes .entry)) ⌝ }
+// The verdict on the record at the front of the bytes as far as its length: 0, or the number of the refusal.
+fn read_front(bytes: &[u8], mark: u16, due: u8) -> u8
+    ensures { λ r. ⌜ r ≡ frontVerdict mark due (now (bytes .entry)) ⌝ }
 {
     if bytes.len() < 3 {
         return 8;
@@ -134,12 +188,17 @@ pub fn read_head(bytes: &[u8], mark: u16, due: u8) -> u8
     if bytes.len() < n + 5 {
         return 8;
     }
-    let sum = check_of(&bytes[2..n + 3], mark);
-    let told = get2(bytes, n + 3);
-    if sum != told {
-        return 11;
-    }
     0
+}
+
+// Whether the check at place q is that of the sums.
+fn is_told(bytes: &[u8], q: usize, s: Sums, mark: u16) -> bool
+    requires { ⌜ q + 2 ≤ length (now bytes) ⌝ }
+    ensures { λ r. ⌜ r ≡ eqb (goOn s []) (num2 (now (bytes .entry)) q) ⌝ }
+{
+    let sum = check_from(s, mark);
+    let told = get2(bytes, q);
+    sum == told
 }
 
 // The start record at the front of the bytes: its count, which is at most the limit.
@@ -147,13 +206,18 @@ pub fn read_start(bytes: &[u8], mark: u16, due: u8, limit: usize) -> StartRead
     requires { ⌜ bodyLength due ≡ some 2 ⌝ }
     ensures { λ r. ⌜ r ≡ startRead (startVerdict mark due 1 limit (now (bytes .entry))) (num2 (now (bytes .entry)) 3) ⌝ }
 {
-    let h = read_head(bytes, mark, due);
+    let h = read_front(bytes, mark, due);
     if h != 0 {
         return StartRead::Bad(h);
     }
-    let n = blocks::wide(get2(bytes, 3));
-    if n <= limit {
-        return StartRead::Good(n);
+    let n = get2(bytes, 3);
+    let sums = sum2(sums_from(due, mark), n);
+    if !is_told(bytes, 5, sums, mark) {
+        return StartRead::Bad(11);
+    }
+    let count = blocks::wide(n);
+    if count <= limit {
+        return StartRead::Good(count);
     }
     StartRead::Bad(12)
 }
@@ -163,12 +227,18 @@ pub fn read_counts(bytes: &[u8], mark: u16, due: u8, limit: usize) -> CountsRead
     requires { ⌜ bodyLength due ≡ some 4 ⌝ }
     ensures { λ r. ⌜ r ≡ countsRead (startVerdict mark due 2 limit (now (bytes .entry))) (num2 (now (bytes .entry)) 3) (num2 (now (bytes .entry)) 5) ⌝ }
 {
-    let h = read_head(bytes, mark, due);
+    let h = read_front(bytes, mark, due);
     if h != 0 {
         return CountsRead::Bad(h);
     }
-    let n = blocks::wide(get2(bytes, 3));
-    let m = blocks::wide(get2(bytes, 5));
+    let x = get2(bytes, 3);
+    let y = get2(bytes, 5);
+    let sums = sum2(sum2(sums_from(due, mark), x), y);
+    if !is_told(bytes, 7, sums, mark) {
+        return CountsRead::Bad(11);
+    }
+    let n = blocks::wide(x);
+    let m = blocks::wide(y);
     if limit < n {
         return CountsRead::Bad(12);
     }
@@ -204,6 +274,23 @@ fn item_here(bytes: &[u8], s: usize) -> Item
         value,
         second,
     }
+}
+
+// The sums over the kind and the s words of an item.
+fn item_sums(kind: u8, mark: u16, item: Item, s: usize) -> Sums
+    requires { ⌜ (2 ≤ s) × (s ≤ 4) ⌝ }
+    ensures { λ r. ⌜ goOn r [] ≡ checkOf mark (kind ∷ itemBytes s item) ⌝ }
+{
+    let low = sum8(sums_from(kind, mark), item.low);
+    let high = sum8(low, item.high);
+    if s == 2 {
+        return high;
+    }
+    let value = sum8(high, item.value);
+    if s == 3 {
+        return value;
+    }
+    sum8(value, item.second)
 }
 
 // Whether two items of s words have the same value.
@@ -245,11 +332,15 @@ pub fn read_item(bytes: &[u8], mark: u16, kind: u8, s: usize, first: bool, befor
     requires { ⌜ ItemKind kind s ⌝ }
     ensures { λ r. ⌜ r ≡ itemRead (itemVerdict mark kind s (previous first s before) (now (bytes .entry))) (itemHere s (now (bytes .entry))) ⌝ }
 {
-    let h = read_head(bytes, mark, kind);
+    let h = read_front(bytes, mark, kind);
     if h != 0 {
         return ItemRead::Bad(h);
     }
     let item = item_here(bytes, s);
+    let sums = item_sums(kind, mark, item, s);
+    if !is_told(bytes, 8 * s + 3, sums, mark) {
+        return ItemRead::Bad(11);
+    }
     if item.high < item.low {
         return ItemRead::Bad(12);
     }
@@ -336,27 +427,22 @@ fn put_head(bytes: &mut [u8], mark: u16, kind: u8)
     put_byte(&mut bytes[2..], kind);
 }
 
-// Writes the words, one after the other.
-fn put_words(bytes: &mut [u8], words: &[u64])
-    requires { ⌜ 8 * length (now words) ≤ length (now bytes) ⌝ }
-    ensures { λ _. ⌜ now (bytes .exit) ≡ over (wordBytes (now (words .entry))) (now (bytes .entry)) ⌝ }
+// Writes the words, one after the other, and answers the sums over the kind and their bytes.
+fn put_words(bytes: &mut [u8], words: &[u64], kind: u8, mark: u16) -> Sums
+    requires { ⌜ (length (now words) ≤ 4) × (8 * length (now words) ≤ length (now bytes)) ⌝ }
+    ensures { λ r. ⌜ (now (bytes .exit) ≡ over (wordBytes (now (words .entry))) (now (bytes .entry))) × (goOn r [] ≡ checkOf mark (kind ∷ wordBytes (now (words .entry)))) ⌝ }
 {
+    let mut sums = sums_from(kind, mark);
     let mut j: usize = 0;
     let mut q: usize = 0;
     while j < words.len() {
-        put8(&mut bytes[q..], words[j]);
+        let w = words[j];
+        put8(&mut bytes[q..], w);
+        sums = sum8(sums, w);
         j += 1;
         q += 8;
     }
-}
-
-// Writes the check of the kind and the n bytes of body that stand there already, behind them.
-fn put_check(bytes: &mut [u8], mark: u16, n: usize)
-    requires { ⌜ (n ≤ 32) × (n + 5 ≤ length (now bytes)) ⌝ }
-    ensures { λ _. ⌜ now (bytes .exit) ≡ patch (n + 3) (be2 (checkOf mark (take (n + 1) (drop 2 (now (bytes .entry)))))) (now (bytes .entry)) ⌝ }
-{
-    let sum = check_of(&bytes[2..n + 3], mark);
-    put2(&mut bytes[n + 3..], sum);
+    sums
 }
 
 // Writes a start record with one count.
@@ -366,7 +452,8 @@ pub fn write_start(bytes: &mut [u8], mark: u16, kind: u8, n: u64)
 {
     put_head(bytes, mark, kind);
     put2(&mut bytes[3..], n);
-    put_check(bytes, mark, 2);
+    let sums = sum2(sums_from(kind, mark), n);
+    put2(&mut bytes[5..], check_from(sums, mark));
 }
 
 // Writes a start record with two counts.
@@ -377,7 +464,9 @@ pub fn write_counts(bytes: &mut [u8], mark: u16, kind: u8, n: u64, m: u64)
     put_head(bytes, mark, kind);
     put2(&mut bytes[3..], n);
     put2(&mut bytes[5..], m);
-    put_check(bytes, mark, 4);
+    let one = sum2(sums_from(kind, mark), n);
+    let both = sum2(one, m);
+    put2(&mut bytes[7..], check_from(both, mark));
 }
 
 // Writes an item record with these words.
@@ -386,8 +475,9 @@ pub fn write_item(bytes: &mut [u8], mark: u16, kind: u8, words: &[u64])
     ensures { λ _. ⌜ now (bytes .exit) ≡ over (recordOf mark kind (wordBytes (now (words .entry)))) (now (bytes .entry)) ⌝ }
 {
     put_head(bytes, mark, kind);
-    put_words(&mut bytes[3..], words);
-    put_check(bytes, mark, 8 * words.len());
+    let sums = put_words(&mut bytes[3..], words, kind, mark);
+    let q = 8 * words.len() + 3;
+    put2(&mut bytes[q..], check_from(sums, mark));
 }
 
 // Fills the front of out with the s words at the front of the bytes.

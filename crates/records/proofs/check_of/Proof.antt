@@ -1,17 +1,19 @@
-use Prim.Native.Nat.{_-_, _*_, _%_, _≤_}
+use Prim.Native.Nat.{_-_, _*_, _≤_}
 use mathlib.Core.Path.{_≡_, refl, _∙_, sym}
 use lib.ListN.{length, drop}
-use Rattle.records.specs.Check.{checkOf, fletcher}
-use Rattle.records.proofs.Sums.{sums-step, sums-end}
+use Rattle.records.specs.Check.{checkOf}
+use Rattle.records.specs.Steps.{from}
+use Rattle.records.proofs.Summing.{sums-step, sums-end}
 use borrow.Author.Needs.{needs}
 use Rattle.records.proofs.check_of.Statement.{statement}
 use Rattle.records.proofs.check_of.Tie as tie
 use Rattle.records.proofs.check_of.Reads as reads
 use Rattle.records.proofs.check_of.Lts as lts
+use Rattle.records.proofs.check_from.Reads as check-from-reads
 use Rattle.records.proofs.wide.Reads as wide-reads
 
 abbrev Inv-loop : tie.InvT-loop
-Inv-loop bytes mark a₀ b₀ i₀ a b i = (i ≤ length bytes) × (length bytes ≤ 33) × (a ≤ 255 * i) × (b ≤ 8415 * i) × (checkOf mark bytes ≡ fletcher (a % 255) (b % 255) (drop i bytes))
+Inv-loop bytes mark a₀ b₀ i₀ a b i = (i ≤ length bytes) × (length bytes ≤ 33) × (a ≤ 255 * i) × (b ≤ 8415 * i) × (checkOf mark bytes ≡ from a b (drop i bytes))
 
 abbrev μ-loop : tie.MeasureT-loop
 μ-loop bytes mark a₀ b₀ i₀ a b i = length bytes - i
@@ -41,14 +43,11 @@ loop-less c = search needs
 loop-again : tie.Need-loop-again Inv-loop μ-loop
 loop-again c = let l = c .before .before .before in (search needs, search needs, search needs, search needs, l .loop .inv .4 ∙ sums-step (l .before .before .args .bytes .now) (l .loop .i) (l .loop .a) (l .loop .b) _ (c .wide .ensures .0) (search needs))
 
-mul-result : tie.Need-mul-result Inv-loop μ-loop
-mul-result c = search needs
-
-add-result : tie.Need-add-result Inv-loop μ-loop
-add-result c = search needs
+check-from-requires : tie.Need-check-from-requires Inv-loop μ-loop
+check-from-requires c κs = search needs
 
 returns : tie.Need-returns Inv-loop μ-loop
-returns c = let l = c .before in (sym (l .loop .inv .4 ∙ sums-end (l .before .before .args .bytes .now) (l .loop .i) (l .loop .a % 255) (l .loop .b % 255) (search needs)), search needs)
+returns c = let l = c .before .before in (c .check-from .ensures .0 ∙ sym (l .loop .inv .4 ∙ sums-end (l .before .before .args .bytes .now) (l .loop .i) (l .loop .a) (l .loop .b) (search needs)), search needs)
 
 pub check-of-spec : {M : Type 1} → statement M
 check-of-spec =
@@ -64,6 +63,5 @@ check-of-spec =
     add-i
     loop-less
     loop-again
-    mul-result
-    add-result
+    check-from-requires
     returns)

@@ -1,3 +1,5 @@
+use Prim.Native.Nat.{ℕ, _+_}
+use mathlib.Core.Path.{_∙_, ap}
 use Rattle.records.specs.Numbers.{wordBytes}
 use Rattle.records.proofs.Numbers.{length-bytes}
 use Rattle.records.proofs.Written.{record-written}
@@ -6,7 +8,8 @@ use Rattle.records.proofs.write_item.Statement.{statement}
 use Rattle.records.proofs.write_item.Tie as tie
 use Rattle.records.proofs.write_item.Reads as reads
 use Rattle.records.proofs.write_item.Lts as lts
-use Rattle.records.proofs.put_check.Reads as put-check-reads
+use Rattle.records.proofs.check_from.Reads as check-from-reads
+use Rattle.records.proofs.put2.Reads as put2-reads
 use Rattle.records.proofs.put_head.Reads as put-head-reads
 use Rattle.records.proofs.put_words.Reads as put-words-reads
 
@@ -25,17 +28,32 @@ part-put-words-end c = search needs
 put-words-requires : tie.Need-put-words-requires
 put-words-requires c κs = search needs
 
-mul-put-check : tie.Need-mul-put-check
-mul-put-check c = search needs
+mul-q : tie.Need-mul-q
+mul-q c = search needs
 
-put-check-requires : tie.Need-put-check-requires
-put-check-requires c κs = search needs
+add-q : tie.Need-add-q
+add-q c = search needs
+
+sub-put2 : tie.Need-sub-put2
+sub-put2 c = search needs
+
+part-put2-start : tie.Need-part-put2-start
+part-put2-start c = search needs
+
+part-put2-end : tie.Need-part-put2-end
+part-put2-end c = search needs
+
+check-from-requires : tie.Need-check-from-requires
+check-from-requires c κs = search needs
+
+put2-requires : tie.Need-put2-requires
+put2-requires c κs = search needs
 
 same-length : tie.Need-same-length
 same-length c = search needs
 
 returns : tie.Need-returns
-returns c = let a = c .before .before .before .before .before .before .before .before .before .before .before .before .before .before .args in record-written (a .mark) (a .kind) _ (wordBytes (a .words .now)) (a .bytes .now) _ _ _ (length-bytes (a .words .now)) (c .before .before .before .before .before .before .before .before .before .before .put-head .ensures) (c .before .before .before .before .before .before .put-words .ensures) (c .before .before .put-check .ensures)
+returns c = let a = c .before .before .before .before .before .before .before .before .before .before .before .before .before .before .before .args in record-written (a .mark) (a .kind) _ _ (wordBytes (a .words .now)) (a .bytes .now) _ _ _ (ap (λ (n : ℕ). n + 3) (length-bytes (a .words .now))) (c .before .before .before .before .before .before .before .before .before .before .before .put-head .ensures) (c .before .before .before .before .before .before .before .put-words .ensures .0) (c .before .before .before .check-from .ensures .0 ∙ c .before .before .before .before .before .before .before .put-words .ensures .1) (c .before .before .put2 .ensures)
 
 pub write-item-spec : {M : Type 1} → statement M
 write-item-spec =
@@ -46,7 +64,12 @@ write-item-spec =
     part-put-words-start
     part-put-words-end
     put-words-requires
-    mul-put-check
-    put-check-requires
+    mul-q
+    add-q
+    sub-put2
+    part-put2-start
+    part-put2-end
+    check-from-requires
+    put2-requires
     same-length
     returns)

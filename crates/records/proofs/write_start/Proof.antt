@@ -1,14 +1,18 @@
-use mathlib.Core.Path.{refl}
-use Rattle.records.specs.Numbers.{be2}
+use mathlib.Core.Path.{refl, _∙_}
+use mathlib.Core.List.{[], _∷_}
+use Rattle.records.specs.Numbers.{countBytes}
+use Rattle.records.proofs.Told.{sums-count}
 use Rattle.records.proofs.Written.{record-written}
 use borrow.Author.Needs.{needs}
 use Rattle.records.proofs.write_start.Statement.{statement}
 use Rattle.records.proofs.write_start.Tie as tie
 use Rattle.records.proofs.write_start.Reads as reads
 use Rattle.records.proofs.write_start.Lts as lts
+use Rattle.records.proofs.check_from.Reads as check-from-reads
 use Rattle.records.proofs.put2.Reads as put2-reads
-use Rattle.records.proofs.put_check.Reads as put-check-reads
 use Rattle.records.proofs.put_head.Reads as put-head-reads
+use Rattle.records.proofs.sum2.Reads as sum2-reads
+use Rattle.records.proofs.sums_from.Reads as sums-from-reads
 
 put-head-requires : tie.Need-put-head-requires
 put-head-requires c κs = search needs
@@ -25,14 +29,32 @@ part-put2-end c = search needs
 put2-requires : tie.Need-put2-requires
 put2-requires c κs = search needs
 
-put-check-requires : tie.Need-put-check-requires
-put-check-requires c κs = search needs
+sums-from-requires : tie.Need-sums-from-requires
+sums-from-requires c κs = search needs
+
+sum2-requires : tie.Need-sum2-requires
+sum2-requires c κs = search needs
+
+sub-put2-2 : tie.Need-sub-put2-2
+sub-put2-2 c = search needs
+
+part-put2-start-2 : tie.Need-part-put2-start-2
+part-put2-start-2 c = search needs
+
+part-put2-end-2 : tie.Need-part-put2-end-2
+part-put2-end-2 c = search needs
+
+check-from-requires : tie.Need-check-from-requires
+check-from-requires c κs = search needs
+
+put2-requires-2 : tie.Need-put2-requires-2
+put2-requires-2 c κs = search needs
 
 same-length : tie.Need-same-length
 same-length c = search needs
 
 returns : tie.Need-returns
-returns c = let a = c .before .before .before .before .before .before .before .before .before .before .before .before .before .args in record-written (a .mark) (a .kind) 2 (be2 (a .n)) (a .bytes .now) _ _ _ refl (c .before .before .before .before .before .before .before .before .before .before .put-head .ensures) (c .before .before .before .before .before .before .put2 .ensures) (c .before .before .put-check .ensures)
+returns c = let a = c .before .before .before .before .before .before .before .before .before .before .before .before .before .before .before .before .args in record-written (a .mark) (a .kind) 5 _ (countBytes (a .n ∷ [])) (a .bytes .now) _ _ _ refl (c .before .before .before .before .before .before .before .before .before .before .before .before .before .put-head .ensures) (c .before .before .before .before .before .before .before .before .before .put2 .ensures) (c .before .before .before .check-from .ensures .0 ∙ sums-count _ _ _ _ _ (c .before .before .before .before .before .before .sums-from .ensures) (c .before .before .before .before .before .sum2 .ensures)) (c .before .before .put22 .ensures)
 
 pub write-start-spec : {M : Type 1} → statement M
 write-start-spec =
@@ -43,6 +65,12 @@ write-start-spec =
     part-put2-start
     part-put2-end
     put2-requires
-    put-check-requires
+    sums-from-requires
+    sum2-requires
+    sub-put2-2
+    part-put2-start-2
+    part-put2-end-2
+    check-from-requires
+    put2-requires-2
     same-length
     returns)

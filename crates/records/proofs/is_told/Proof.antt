@@ -1,0 +1,21 @@
+use mathlib.Core.Path.{ap₂}
+use lib.Dec.{eqb}
+use borrow.Author.Needs.{needs}
+use Rattle.records.proofs.is_told.Statement.{statement}
+use Rattle.records.proofs.is_told.Tie as tie
+use Rattle.records.proofs.is_told.Reads as reads
+use Rattle.records.proofs.is_told.Lts as lts
+use Rattle.records.proofs.check_from.Reads as check-from-reads
+use Rattle.records.proofs.get2.Reads as get2-reads
+
+check-from-requires : tie.Need-check-from-requires
+check-from-requires c κs = search needs
+
+get2-requires : tie.Need-get2-requires
+get2-requires c κs = search needs
+
+returns : tie.Need-returns
+returns c = ap₂ eqb (c .before .check-from .ensures .0) (c .get2 .ensures .0)
+
+pub is-told-spec : {M : Type 1} → statement M
+is-told-spec = tie.close (tie.spec check-from-requires get2-requires returns)
