@@ -1,0 +1,141 @@
+"""The damage test: byte forms with one byte changed, and cut at every length, through the calls that read them.
+
+    damage.py DRIVER...
+
+DRIVER... is the command of the C program of driver.c. Forms of up to 130 bytes get all 255 changes of each byte, longer ones some
+changes of each. Every answer is compared with the model's; and every damaged form must be refused, but where a 00 became FF or an FF
+became 00 in a body, which count alike in the check. The exit status is 1 if one of this fails.
+"""
+
+import os
+import random
+import sys
+import time
+
+import generate
+import model
+import run
+import shapes
+import wire
+from model import M, MAP, SET
+
+SHORT = 130
+BATCH = 4000
+ENDS = [(0, 0), (0, M), (M, M), (255, 65535), (0xFF00FF00FF00FF00, 0xFF00FF00FF00FFFF), (1, 2), (0, 2**56 - 1)]
+
+
+def set_lists(rng):
+    """Sets of up to 5 ranges: with ends of many 00 and FF bytes, and any."""
+    lists = [[]] + [[ends] for ends in ENDS]
+    lists += [[(0, 0), (2, M - 2), (M, M)], [(0, 255), (65280, 2**32 - 1), (2**40, M)]]
+    return lists + [shapes.fresh(rng, SET, n) for n in (1, 2, 3, 4, 5)]
+
+
+def map_lists(rng):
+    """Maps of up to 4 entries."""
+    lists = [[], [(0, M, 0)], [(0, 0, M)], [(0, 255, 255), (256, M, 0)], [(0, 0, 0), (1, 1, M), (2, M, 0)]]
+    return lists + [shapes.fresh(rng, MAP, n) for n in (1, 2, 3, 4)]
+
+
+def bulletins(rng):
+    """Bulletins of up to 5 ranges in all."""
+    pairs = [([], []), ([(0, M)], []), ([], [(0, M)]), ([(0, 0)], [(M, M)]), ([(0, 255), (M, M)], [(256, M - 1)])]
+    for r, w in ((1, 1), (2, 2), (3, 2)):
+        released = shapes.fresh(rng, SET, r)
+        pairs.append((released, model.difference(shapes.fresh(rng, SET, w), released)))
+    return pairs
+
+
+def forms(rng):
+    """Every form to damage: the reading calls to ask, the form, and outputs with room for it."""
+    listed = []
+    for items in set_lists(rng) + [shapes.fresh(rng, SET, 40)]:
+        names = ["set_read", "set_judge_form", "member"] if len(items) < 3 else ["set_read"]
+        listed += [(name, model.set_form(items), [2 * len(items) + 4] if name == "set_read" else []) for name in names]
+    for items in map_lists(rng) + [shapes.fresh(rng, MAP, 30)]:
+        listed.append(("map_read", model.map_form(items), [3 * len(items) + 5]))
+    for released, withdrawn in bulletins(rng):
+        form = model.bulletin_form(released, withdrawn)
+        listed.append(("bulletin_read", form, [2 * len(released) + 3, 2 * len(withdrawn) + 4]))
+    return listed
+
+
+def body_places(form):
+    """The places of a form that lie in a record's body."""
+    places, at = set(), 0
+    for piece in generate.split(form):
+        places.update(range(at + 3, at + len(piece) - 2))
+        at += len(piece)
+    return places
+
+
+def damaged(form, rng):
+    """Each damaged form, and whether it may be accepted: a 00 that became FF, or an FF that became 00, in a body."""
+    body = body_places(form)
+    for length in range(len(form)):
+        yield form[:length], False
+    for at, old in enumerate(form):
+        values = range(256) if len(form) <= SHORT else {old ^ 1, old ^ 0x80, old ^ 0xFF, 0, 0xFF, rng.randrange(256)}
+        for new in values:
+            if new != old:
+                yield form[:at] + bytes([new]) + form[at + 1 :], at in body and {old, new} == {0x00, 0xFF}
+
+
+def cases_of(listed, rng):
+    """Each damaged form as a case, and whether it may be accepted."""
+    for name, form, outputs in listed:
+        blocks = [shapes.garbage(rng, words) for words in outputs]
+        args = [rng.choice([0, 1, M])] if name == "member" else []
+        for data, may in damaged(form, rng):
+            yield wire.Case(name, [data, *blocks], args, placement=len(data) % 2), may
+
+
+def batches(pairs):
+    """The cases in batches for the driver."""
+    batch = []
+    for pair in pairs:
+        batch.append(pair)
+        if len(batch) == BATCH:
+            yield batch
+            batch = []
+    if batch:
+        yield batch
+
+
+def run_batch(driver, batch):
+    """Runs a batch: how many forms were accepted, or None after a failure, which is printed."""
+    cases = [case for case, _ in batch]
+    outcomes = [model.run(case.name, case.lent, case.args) for case in cases]
+    for wrong in wire.mismatches(driver, cases, outcomes):
+        wire.report(*wrong, run.KEPT)
+        return None
+    accepted = [(case, may) for (case, may), outcome in zip(batch, outcomes) if outcome[0] < 16]
+    for case, may in accepted:
+        if not may:
+            print("damage: a damaged form was accepted:", case.text())
+            return None
+    return len(accepted)
+
+
+def main():
+    """The test."""
+    driver, rng, began = wire.Driver(sys.argv[1:]), random.Random(1), time.monotonic()
+    os.makedirs(os.path.dirname(run.KEPT), exist_ok=True)
+    listed = forms(rng)
+    tried = accepted = allowed = 0
+    for batch in batches(cases_of(listed, rng)):
+        found = run_batch(driver, batch)
+        if found is None:
+            return False
+        tried += len(batch)
+        accepted += found
+        allowed += sum(may for _, may in batch)
+    print(
+        f"damage: {tried} damaged forms of {len({form for _, form, _ in listed})} tried, {accepted} accepted, all of them among the "
+        f"{allowed} with 00 for FF or FF for 00 in a body; {time.monotonic() - began:.0f} s"
+    )
+    return True
+
+
+if __name__ == "__main__":
+    sys.exit(0 if main() else 1)

@@ -1,0 +1,263 @@
+"""Random cases of every call, and cases at the limits of 4,095 ranges and 2,730 entries."""
+
+import random
+
+import model
+import refusals
+import shapes
+from model import LIMIT, M, MAP, SET
+from refusals import ARGS_OF, bulletins_of, kinds_of, letters_of, reads_bytes
+from wire import Case
+
+COUNTS = [0, 1, 1, 2, 2, 3, 3, 4, 5, 6, 8, 12, 30]
+
+
+def some_lists(name, rng):
+    """Sound inputs: the first of any sort, the others mostly with ends near it; a bulletin's sets mostly share nothing."""
+    kinds = kinds_of(name)[: sum(letter in "ic" for letter in letters_of(name))]
+    lists = []
+    for kind in kinds:
+        if lists and kind == kinds[0] and rng.random() < 0.08:
+            lists.append(lists[0])
+        else:
+            lists.append(shapes.some_items(rng, kind, rng.choice(COUNTS), lists))
+    for released, withdrawn in bulletins_of(name):
+        if rng.random() < 0.9:
+            lists[withdrawn] = model.difference(lists[withdrawn], lists[released])
+    return lists
+
+
+def some_k(rng, items, a, b):
+    """The length of a run: about as long as one of the window's gaps, or anything."""
+    found = [high - low + 1 for low, high in model.gaps(items, a, b)] if a <= b else []
+    if not found or rng.random() < 0.15:
+        return shapes.number(rng)
+    return shapes.clipped(rng.choice([1, 2, 3] + found * 2) + rng.choice([-1, 0, 0, 0, 1]))
+
+
+def some_range(rng, items, points):
+    """a and b at or next to the points, or within one item; seldom backwards."""
+    wide = [item for item in items if item[1] - item[0] > 1]
+    if wide and rng.random() < 0.12:
+        low, high = rng.choice(wide)[:2]
+        return sorted((rng.randint(low + 1, high - 1), rng.randint(low + 1, high - 1)))
+    a, b = shapes.near(rng, points), shapes.near(rng, points)
+    return (b, a) if a > b and rng.random() < 0.93 else (a, b)
+
+
+def some_args(name, rng, lists):
+    """Arguments, mostly at or next to the ends of the inputs' items."""
+    style = ARGS_OF.get(name, "")
+    points = shapes.points_of(*lists) + [shapes.number(rng)]
+    if style == "x":
+        return [shapes.near(rng, points)]
+    if style == "i":
+        return [rng.choice([0, 1, len(lists[0]) // 2, max(1, len(lists[0])) - 1, len(lists[0]), shapes.number(rng)])]
+    if not style.startswith("ab"):
+        return []
+    a, b = some_range(rng, lists[0], points)
+    if style == "abk":
+        return [a, b, some_k(rng, lists[0], a, b)]
+    values = [item[2] for items in lists for item in items if len(item) == MAP] + [shapes.number(rng)]
+    return [a, b] + ([rng.choice(values)] if style == "abv" else [])
+
+
+def some_input(rng, kind, items):
+    """An input block, seldom not sound."""
+    chance = rng.random()
+    if chance < 0.015:
+        return []
+    if chance < 0.05:
+        return shapes.block(rng, kind, shapes.unsound(rng, kind, items))
+    lent = shapes.block(rng, kind, items)
+    return shapes.overcounted(rng, kind, lent) if chance < 0.07 else lent
+
+
+def some_output(rng, kind, count):
+    """An output: with room for exactly the result, for one item fewer, or more; seldom with no words."""
+    chance = rng.random()
+    if chance < 0.02:
+        return []
+    if chance < 0.17:
+        return shapes.room_for(rng, kind, max(0, count - 1))
+    return shapes.room_for(rng, kind, count + rng.choice([0, 0, 0, 1, 2, 7]))
+
+
+def some_buffer(rng, size):
+    """A byte buffer and a place p, for a form of this size."""
+    p = rng.choice([0, 0, 1, 2, 7, rng.randrange(60)])
+    length = p + size + rng.choice([-2, -1, 0, 0, 0, 1, 2, 20])
+    if rng.random() < 0.15:
+        p = rng.choice([length - 1, length, length + 1, M, M - 1, M + 1 - size, M + 2 - size, shapes.number(rng)])
+    return rng.randbytes(max(0, length)), max(0, p)
+
+
+def one_memory(rng, name, lent):
+    """The call's inputs with, now and then, a later one in the memory of an earlier one: the same block is lent twice."""
+    inputs = [i for i, letter in enumerate(letters_of(name)) if letter == "i"]
+    same = [0] * len(lent)
+    if len(inputs) > 1 and rng.random() < 0.08:
+        first, second = sorted(rng.sample(inputs, 2))
+        lent, same[second] = list(lent), first + 1
+        lent[second] = lent[first]
+    return lent, same
+
+
+def word_case(name, rng):
+    """A random call on word blocks."""
+    kinds = kinds_of(name)
+    lists = some_lists(name, rng)
+    args = some_args(name, rng, lists)
+    blocks = [some_input(rng, kind, items) for kind, items in zip(kinds, lists)]
+    counts = [0] * (len(kinds) - len(lists))
+    blocks, same = one_memory(rng, name, blocks)
+    if counts:
+        widest = 1 + MAP * (2 * sum(map(len, lists)) + 40)
+        status, _, after = model.run(name, blocks + [[0] * widest for _ in counts], args)
+        counts = [out[0] if status == 0 else rng.randrange(4) for out in after[len(blocks) :]]
+    blocks += [some_output(rng, kind, count) for kind, count in zip(kinds[len(lists) :], counts)]
+    if ARGS_OF.get(name) == "p":
+        data, p = some_buffer(rng, len(refusals.form_of(name, lists)))
+        blocks, args = blocks + [data], [p]
+    return Case(name, blocks, args, same + [0] * (len(blocks) - len(same)), rng.randrange(2))
+
+
+# ---- bytes
+
+
+def split(form):
+    """The records of a form."""
+    pieces, at = [], 0
+    while at < len(form):
+        size = 5 + model.BODY[form[at + 2]]
+        pieces.append(form[at : at + size])
+        at += size
+    return pieces
+
+
+def rechecked(piece):
+    """A record with its check computed anew."""
+    return piece[:-2] + model.check_bytes(piece[2:-2])
+
+
+def changed_bytes(rng, form):
+    """The form with one or two bytes or bits changed, cut, or with bytes behind it."""
+    data = bytearray(form)
+    way = rng.randrange(5)
+    if way == 0:
+        return bytes(data[: rng.randrange(len(data))])
+    if way == 1:
+        return bytes(data) + rng.choice([b"\0", b"\xff", rng.randbytes(rng.randrange(1, 40)), bytes(data[-21:])])
+    for _ in range(1 if way < 4 else 2):
+        i = rng.randrange(len(data))
+        data[i] = rng.choice([data[i] ^ (1 << rng.randrange(8)), rng.randrange(256), data[i] ^ 0xFF, 0, 0xFF])
+    return bytes(data)
+
+
+def changed_records(rng, form):
+    """The form with records exchanged, left out, doubled, of another kind, or with another count or content and the right check."""
+    pieces = split(form)
+    i, j = rng.randrange(len(pieces)), rng.randrange(len(pieces))
+    way = rng.randrange(6)
+    if way == 0:
+        pieces[i], pieces[j] = pieces[j], pieces[i]
+    elif way == 1:
+        del pieces[i]
+    elif way == 2:
+        pieces.insert(j, pieces[i])
+    elif way == 3:
+        pieces[i] = rechecked(pieces[i][:2] + bytes([refusals.wrong_kind(rng, pieces[i][2])]) + pieces[i][3:])
+    elif way == 4:
+        count = rng.choice([0, 1, len(pieces), len(pieces) - 2, 2730, 2731, 4095, 4096, 65535, rng.randrange(65536)]) % 65536
+        at = rng.choice([3, 5]) if len(pieces[0]) == 9 else 3
+        pieces[0] = rechecked(pieces[0][:at] + count.to_bytes(2, "big") + pieces[0][at + 2 :])
+    else:
+        body = bytearray(pieces[i])
+        body[rng.randrange(3, len(body) - 2)] = rng.choice([0, 1, 0xFF, rng.randrange(256)])
+        pieces[i] = rechecked(bytes(body))
+    return b"".join(pieces)
+
+
+def some_form(name, rng):
+    """A form of the kind that is asked for, now and then of another, and its item counts."""
+    kind = name.split("_")[0] if rng.random() < 0.95 else rng.choice(["set", "map", "bulletin"])
+    if kind == "bulletin":
+        released = shapes.some_items(rng, SET, rng.choice(COUNTS))
+        withdrawn = shapes.some_items(rng, SET, rng.choice(COUNTS), [released])
+        if rng.random() < 0.9:
+            withdrawn = model.difference(withdrawn, released)
+        return model.bulletin_form(released, withdrawn), [released, withdrawn]
+    items = shapes.some_items(rng, MAP if kind == "map" else SET, rng.choice(COUNTS))
+    return (model.map_form if kind == "map" else model.set_form)(items), [items, items]
+
+
+def form_case(name, rng):
+    """A random call that reads bytes: a form, a damaged form, or any bytes."""
+    form, lists = some_form(name, rng)
+    chance = rng.random()
+    if chance < 0.03:
+        form = rng.choice([b"", rng.randbytes(rng.randrange(60)), model.MARK, model.MARK + rng.randbytes(rng.randrange(30))])
+    elif chance < 0.35:
+        form = changed_bytes(rng, form)
+    elif chance < 0.65:
+        form = changed_records(rng, form)
+    blocks = [some_output(rng, kind, len(items)) for kind, items in zip(kinds_of(name), lists)]
+    args = [shapes.near(rng, shapes.points_of(*lists))] if name == "member" else []
+    return Case(name, [form] + blocks, args, placement=rng.randrange(2))
+
+
+def random_case(name, seed):
+    """A random case of a call."""
+    rng = random.Random(seed)
+    return form_case(name, rng) if reads_bytes(name) else word_case(name, rng)
+
+
+# ---- at the limits
+
+
+def long_memory(rng, kind, items):
+    """A block of about as many items as the limit allows, in memory that is just long enough or longer."""
+    least = 1 + kind * max(len(items), LIMIT[kind] - 1)
+    lent = shapes.words(items)
+    lent += [rng.choice([0, 5, M])] * (max(least, rng.choice([8190, 8191, 8192, 8193, 8194, 8230])) - len(lent))
+    if rng.random() < 0.1:
+        lent[0] = LIMIT[kind] + 1
+    return lent
+
+
+def long_lists(kinds, rng):
+    """Lists at the limit: one that is full or nearly, or two that share out a full one or one item more."""
+    limit = min(LIMIT[kind] for kind in kinds)
+    whole = shapes.fresh(rng, kinds[0], limit - rng.choice([0, 0, 1]) if len(kinds) == 1 else limit + rng.choice([0, 0, 1]))
+    if len(kinds) == 1:
+        return [whole]
+    share = rng.choice([0.001, 0.3, 0.5, 0.9])
+    chosen = [rng.random() < share for _ in whole]
+    lists = [[item for item, first in zip(whole, chosen) if first == which] for which in (True, False)]
+    lists = [[item[:2] for item in items] if kind == SET else items for kind, items in zip(kinds, lists)]
+    return lists + [[] if rng.random() < 0.5 else shapes.fresh(rng, kind, 3) for kind in kinds[2:]]
+
+
+def limit_case(name, seed):
+    """A case with about as many items as the limit allows."""
+    rng = random.Random(seed)
+    kinds, letters = kinds_of(name), letters_of(name)
+    if reads_bytes(name):
+        kind = MAP if name.startswith("map") else SET
+        items = shapes.fresh(rng, kind, LIMIT[kind] + rng.choice([0, 0, 0, 1, -1]))
+        few = shapes.fresh(rng, SET, 2)
+        if name == "bulletin_read":
+            form = model.bulletin_form(*rng.choice([(items, model.difference(few, items)), (model.difference(few, items), items)]))
+        else:
+            form = (model.map_form if kind == MAP else model.set_form)(items)
+        lent = [form] + [long_memory(rng, k, []) for k in kinds]
+        return Case(name, lent, [shapes.near(rng, shapes.points_of(items))] if name == "member" else [])
+    inputs = kinds[: sum(letter in "ic" for letter in letters)]
+    lists = long_lists(inputs, rng)
+    lent = [long_memory(rng, kind, items) for kind, items in zip(inputs, lists)]
+    lent += [long_memory(rng, kind, []) for kind in kinds[len(inputs) :]]
+    args = some_args(name, rng, lists)
+    if ARGS_OF.get(name) == "p":
+        data, p = some_buffer(rng, len(refusals.form_of(name, lists)))
+        lent, args = lent + [data], [p]
+    return Case(name, lent, args, placement=rng.randrange(2))

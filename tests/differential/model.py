@@ -1,0 +1,603 @@
+"""The library's calls in plain Python, written from the paper and its readings alone.
+
+A set is a sorted list of ranges (low, high), a map a sorted list of entries (low, high, value). Each call takes what is lent, blocks
+as lists of words and buffers as bytes, and the arguments, in the order of the header. `run` answers with the status, the other words
+of the answer and what every lent block and buffer holds afterwards. Nothing here is borrowed from the library's own definitions.
+"""
+
+from bisect import bisect_right
+
+M = 2**64 - 1
+SET, MAP = 2, 3  # the words an item takes
+LIMIT = {SET: 4095, MAP: 2730}
+MARK = bytes([0xC5, 0x3A])
+START_OF_SET, START_OF_MAP, START_OF_BULLETIN = 0x01, 0x02, 0x03
+RANGE, ENTRY, RELEASED, WITHDRAWN = 0x10, 0x11, 0x12, 0x13
+BODY = {START_OF_SET: 2, START_OF_MAP: 2, START_OF_BULLETIN: 4, RANGE: 16, ENTRY: 24, RELEASED: 16, WITHDRAWN: 16}
+
+
+class Refused(Exception):
+    """A refusal: its number in the paper's table, and its place."""
+
+    def __init__(self, number, place):
+        super().__init__(number, place)
+        self.number = number
+        self.place = place
+
+
+# ---- blocks of words
+
+
+def capacity(kind, length):
+    """The capacity of a block of `length` words, at least 1."""
+    return min((length - 1) // kind, LIMIT[kind])
+
+
+def follows(before, item):
+    """May `item` stand right behind the item `before` in a sound block?"""
+    if len(item) == SET:
+        return item[0] >= before[1] + 2
+    return item[0] > before[1] and (item[0] != before[1] + 1 or item[2] != before[2])
+
+
+def sound_items(items):
+    """Is each low at most its high, and does each item but the first follow the one before it?"""
+    return all(item[0] <= item[1] for item in items) and all(follows(a, b) for a, b in zip(items, items[1:]))
+
+
+def items_of(kind, block):
+    """The items of the stored form, read as word 0 says."""
+    return [tuple(block[1 + kind * i : 1 + kind * (i + 1)]) for i in range(block[0])]
+
+
+def judged(kind, block, position):
+    """The items of an input block, or its refusal: 1, 2, 3."""
+    if len(block) == 0:
+        raise Refused(1, position)
+    if block[0] > capacity(kind, len(block)):
+        raise Refused(2, position)
+    items = items_of(kind, block)
+    if not sound_items(items):
+        raise Refused(3, position)
+    return items
+
+
+def has_words(block, position):
+    """Refusal 1 of an output."""
+    if len(block) == 0:
+        raise Refused(1, position)
+
+
+def has_room(kind, block, items, position):
+    """Refusal 5: the result has more items than the written block's capacity."""
+    if len(items) > capacity(kind, len(block)):
+        raise Refused(5, position)
+
+
+def store(block, items):
+    """Writes the stored form; every later word is 0, to the block's end."""
+    words = [len(items)] + [word for item in items for word in item]
+    block[:] = words + [0] * (len(block) - len(words))
+
+
+# ---- sets and maps: cut the line at all ends and ask each piece for itself
+
+
+def value_at(items, lows, x):
+    """What x has in the list: nothing (None), membership of a set (True), or the value of its entry."""
+    i = bisect_right(lows, x) - 1
+    if i < 0 or x > items[i][1]:
+        return None
+    return items[i][2] if len(items[i]) == MAP else True
+
+
+def combined(kind, decide, *lists):
+    """The sound items of the set or map that `decide` says, from what a number has in each of the lists."""
+    cuts = {0, M + 1}
+    for items in lists:
+        cuts.update(item[0] for item in items)
+        cuts.update(item[1] + 1 for item in items)
+    cuts = sorted(cuts)
+    lows = [[item[0] for item in items] for items in lists]
+    result = []
+    for low, after in zip(cuts, cuts[1:]):
+        value = decide(*(value_at(items, ends, low) for items, ends in zip(lists, lows)))
+        if value is None or value is False:
+            continue
+        if result and result[-1][1] + 1 == low and (kind == SET or result[-1][2] == value):
+            low = result.pop()[0]
+        result.append((low, after - 1) if kind == SET else (low, after - 1, value))
+    return result
+
+
+def union(one, two):
+    """The numbers of either."""
+    return combined(SET, lambda p, q: p is not None or q is not None, one, two)
+
+
+def intersection(one, two):
+    """The numbers of both."""
+    return combined(SET, lambda p, q: p is not None and q is not None, one, two)
+
+
+def difference(one, two):
+    """The numbers of the first that are not in the second."""
+    return combined(SET, lambda p, q: p is not None and q is None, one, two)
+
+
+def symmetric_difference(one, two):
+    """The numbers of exactly one."""
+    return combined(SET, lambda p, q: (p is None) != (q is None), one, two)
+
+
+def complement(one):
+    """The numbers of 0..M that are not in the set."""
+    return difference([(0, M)], one)
+
+
+def overlay(upper, lower):
+    """The upper's value where it has one, else the lower's."""
+    return combined(MAP, lambda p, q: q if p is None else p, upper, lower)
+
+
+def erased(entries, ranges):
+    """The map without the values of the ranges' numbers."""
+    return combined(MAP, lambda p, q: p if q is None else None, entries, ranges)
+
+
+def restriction(entries, ranges):
+    """The map's values at the set's numbers."""
+    return combined(MAP, lambda p, q: None if q is None else p, entries, ranges)
+
+
+def domain(entries):
+    """The set of numbers that have a value."""
+    return combined(SET, lambda p: p is not None, entries)
+
+
+def gaps(ranges, a, b):
+    """The runs of non-members in the window a..b that can't be made longer there."""
+    return difference([(a, b)], ranges)
+
+
+def fit(best, ranges, a, b, k):
+    """The place of a run of k numbers: 4, 6, 7 in this order, else s."""
+    if a > b:
+        raise Refused(4, 0)
+    if k == 0:
+        raise Refused(6, 0)
+    wide = [(high - low + 1, low) for low, high in gaps(ranges, a, b) if high - low + 1 >= k]
+    if not wide:
+        raise Refused(7, 0)
+    return min(wide)[1] if best else min(low for _, low in wide)
+
+
+def in_order(a, b):
+    """Refusal 4."""
+    if a > b:
+        raise Refused(4, 0)
+
+
+def share_nothing(released, withdrawn):
+    """Refusal 14: a bulletin's two sets share a number."""
+    if intersection(released, withdrawn):
+        raise Refused(14, 0)
+
+
+# ---- the calls on blocks; each answers the values, and writes into what it was lent
+
+
+def set_member(block, x):
+    """Is x a member."""
+    ranges = judged(SET, block, 0)
+    return [int(any(low <= x <= high for low, high in ranges))]
+
+
+def set_range_at(block, i):
+    """The range at index i, or none."""
+    ranges = judged(SET, block, 0)
+    return list(ranges[i]) if i < len(ranges) else []
+
+
+def set_size(block):
+    """Empty, or the size less one."""
+    ranges = judged(SET, block, 0)
+    return [sum(high - low + 1 for low, high in ranges) - 1] if ranges else []
+
+
+def set_least_member(block, x):
+    """The least member at or above x, or none."""
+    ranges = judged(SET, block, 0)
+    return [max(low, x) for low, high in ranges if high >= x][:1]
+
+
+def set_least_non_member(block, x):
+    """The least non-member at or above x, or none."""
+    return [low for low, _ in gaps(judged(SET, block, 0), x, M)][:1]
+
+
+def window(kind, block, a, b):
+    """The part with all items that share a number with a..b: offset (None where the part is empty, and anything goes) and length."""
+    items = judged(kind, block, 0)
+    in_order(a, b)
+    met = [i for i, item in enumerate(items) if item[0] <= b and a <= item[1]]
+    return [1 + kind * met[0], kind * len(met)] if met else [None, 0]
+
+
+def set_window(block, a, b):
+    """A window of a set, two words a range."""
+    return window(SET, block, a, b)
+
+
+def map_window(block, a, b):
+    """A window of a map, three words an entry."""
+    return window(MAP, block, a, b)
+
+
+def set_equal(one, two):
+    """Have they the same members."""
+    return [int(symmetric_difference(judged(SET, one, 0), judged(SET, two, 1)) == [])]
+
+
+def set_within(one, two):
+    """Is the first within the second."""
+    return [int(difference(judged(SET, one, 0), judged(SET, two, 1)) == [])]
+
+
+def set_disjoint(one, two):
+    """Have they no common number."""
+    return [int(intersection(judged(SET, one, 0), judged(SET, two, 1)) == [])]
+
+
+def set_make_empty(block):
+    """Refuses only with 1."""
+    has_words(block, 0)
+    store(block, [])
+    return []
+
+
+def changed_in_place(kind, block, a, b, change):
+    """A change of a..b in place: 1, 2, 3, then 4, then 5."""
+    items = judged(kind, block, 0)
+    in_order(a, b)
+    result = change(items)
+    has_room(kind, block, result, 0)
+    store(block, result)
+    return []
+
+
+def set_insert(block, a, b):
+    """Insert a..b."""
+    return changed_in_place(SET, block, a, b, lambda ranges: union(ranges, [(a, b)]))
+
+
+def set_remove(block, a, b):
+    """Remove a..b."""
+    return changed_in_place(SET, block, a, b, lambda ranges: difference(ranges, [(a, b)]))
+
+
+def map_assign(block, a, b, v):
+    """Assign v to a..b, replacing what was there."""
+    return changed_in_place(MAP, block, a, b, lambda entries: overlay([(a, b, v)], entries))
+
+
+def map_erase(block, a, b):
+    """Erase a..b."""
+    return changed_in_place(MAP, block, a, b, lambda entries: erased(entries, [(a, b)]))
+
+
+def into_output(kinds, operation):
+    """A call that makes its result from its inputs into an output: 1, 2, 3 of each input, then 1 of the output, then 5."""
+
+    def call(*blocks):
+        """Inputs, and the output last."""
+        inputs, out, position = blocks[:-1], blocks[-1], len(blocks) - 1
+        lists = [judged(kind, block, i) for i, (kind, block) in enumerate(zip(kinds, inputs))]
+        has_words(out, position)
+        result = operation(*lists)
+        has_room(kinds[-1], out, result, position)
+        store(out, result)
+        return []
+
+    return call
+
+
+def set_first_fit(block, a, b, k):
+    """First fit, as a question."""
+    return [fit(False, judged(SET, block, 0), a, b, k)]
+
+
+def set_best_fit(block, a, b, k):
+    """Best fit, as a question."""
+    return [fit(True, judged(SET, block, 0), a, b, k)]
+
+
+def reserve(best, block, a, b, k):
+    """The place is chosen first; Room is then judged for that place only."""
+    ranges = judged(SET, block, 0)
+    s = fit(best, ranges, a, b, k)
+    result = union(ranges, [(s, s + k - 1)])
+    has_room(SET, block, result, 0)
+    store(block, result)
+    return [s]
+
+
+def set_reserve_first(block, a, b, k):
+    """First fit, as a reservation."""
+    return reserve(False, block, a, b, k)
+
+
+def set_reserve_best(block, a, b, k):
+    """Best fit, as a reservation."""
+    return reserve(True, block, a, b, k)
+
+
+def map_look_up(block, x):
+    """The value of x, or none."""
+    return [value for low, high, value in judged(MAP, block, 0) if low <= x <= high]
+
+
+def map_site_over_factory(site, factory, x):
+    """Offset and length of the deciding entry, and the position of the map that holds it; all 0 if there is none."""
+    maps = [judged(MAP, site, 0), judged(MAP, factory, 1)]
+    for position, entries in enumerate(maps):
+        for i, (low, high, _) in enumerate(entries):
+            if low <= x <= high:
+                return [1 + MAP * i, MAP, position]
+    return [0, 0, 0]
+
+
+def bulletin_apply(listed, released, withdrawn, out):
+    """The list without the withdrawn, then joined with the released numbers."""
+    s, r, w = (judged(SET, block, i) for i, block in enumerate((listed, released, withdrawn)))
+    has_words(out, 3)
+    share_nothing(r, w)
+    result = union(difference(s, w), r)
+    has_room(SET, out, result, 3)
+    store(out, result)
+    return []
+
+
+def bulletin_fold(released1, withdrawn1, released2, withdrawn2, released, withdrawn):
+    """One bulletin from an earlier and a later one."""
+    r1, w1, r2, w2 = (judged(SET, block, i) for i, block in enumerate((released1, withdrawn1, released2, withdrawn2)))
+    has_words(released, 4)
+    has_words(withdrawn, 5)
+    share_nothing(r1, w1)
+    share_nothing(r2, w2)
+    r = union(difference(r1, w2), r2)
+    w = union(difference(w1, r2), w2)
+    has_room(SET, released, r, 4)
+    has_room(SET, withdrawn, w, 5)
+    store(released, r)
+    store(withdrawn, w)
+    return []
+
+
+# ---- the byte form
+
+
+def check_bytes(data):
+    """Fletcher's 16-bit checksum of kind and body: b, then a."""
+    a = b = 0
+    for byte in data:
+        a = (a + byte) % 255
+        b = (b + a) % 255
+    return bytes([b, a])
+
+
+def record(kind, numbers, size):
+    """The mark, the kind, the numbers big-endian, each of `size` bytes, and the check."""
+    data = bytes([kind]) + b"".join(number.to_bytes(size, "big") for number in numbers)
+    return MARK + data + check_bytes(data)
+
+
+def set_form(ranges):
+    """The byte form of a set."""
+    return record(START_OF_SET, [len(ranges)], 2) + b"".join(record(RANGE, r, 8) for r in ranges)
+
+
+def map_form(entries):
+    """The byte form of a map."""
+    return record(START_OF_MAP, [len(entries)], 2) + b"".join(record(ENTRY, e, 8) for e in entries)
+
+
+def bulletin_form(released, withdrawn):
+    """The byte form of a bulletin: its start, all released, all withdrawn."""
+    return (
+        record(START_OF_BULLETIN, [len(released), len(withdrawn)], 2)
+        + b"".join(record(RELEASED, r, 8) for r in released)
+        + b"".join(record(WITHDRAWN, r, 8) for r in withdrawn)
+    )
+
+
+def record_at(data, at, due):
+    """The body of the record of the kind that is due at `at`, and where the next begins; or 8, 9, 10, 8, 11."""
+    if len(data) - at < 3:
+        raise Refused(8, at)
+    if data[at : at + 2] != MARK:
+        raise Refused(9, at)
+    if data[at + 2] != due:
+        raise Refused(10, at)
+    end = at + 3 + BODY[due] + 2
+    if end > len(data):
+        raise Refused(8, at)
+    if check_bytes(data[at + 2 : end - 2]) != data[end - 2 : end]:
+        raise Refused(11, at)
+    return data[at + 3 : end - 2], end
+
+
+def numbers_in(body, size):
+    """The big-endian numbers of `size` bytes in a body."""
+    return tuple(int.from_bytes(body[i : i + size], "big") for i in range(0, len(body), size))
+
+
+def read_start(data, due, kind):
+    """The counts of a start record and where the first item begins; a count above the limit is 12."""
+    body, at = record_at(data, 0, due)
+    counts = numbers_in(body, 2)
+    if any(count > LIMIT[kind] for count in counts):
+        raise Refused(12, 0)
+    return counts, at
+
+
+def read_items(data, at, due, count):
+    """`count` items from `at` on, each judged by itself and against the one before it (12), and where they end."""
+    items = []
+    for _ in range(count):
+        body, end = record_at(data, at, due)
+        item = numbers_in(body, 8)
+        if item[0] > item[1] or (items and not follows(items[-1], item)):
+            raise Refused(12, at)
+        items.append(item)
+        at = end
+    return items, at
+
+
+def nothing_after(data, at):
+    """Refusal 13: bytes follow the last record."""
+    if at < len(data):
+        raise Refused(13, at)
+
+
+def items_of_form(kind, data):
+    """The items of a set's or a map's byte form: 8 to 13."""
+    start, due = (START_OF_SET, RANGE) if kind == SET else (START_OF_MAP, ENTRY)
+    (count,), at = read_start(data, start, kind)
+    items, at = read_items(data, at, due, count)
+    nothing_after(data, at)
+    return items
+
+
+def read_into(kind, data, out):
+    """Reading into one output: 8 to 13, then 1, then 5."""
+    items = items_of_form(kind, data)
+    has_words(out, 0)
+    has_room(kind, out, items, 0)
+    store(out, items)
+    return []
+
+
+def set_read(data, out):
+    """Reading a set."""
+    return read_into(SET, data, out)
+
+
+def map_read(data, out):
+    """Reading a map."""
+    return read_into(MAP, data, out)
+
+
+def bulletin_read(data, released, withdrawn):
+    """Reading a bulletin: 8 to 13, then 14, then 1 for each output block, then 5 for each."""
+    (r_count, w_count), at = read_start(data, START_OF_BULLETIN, SET)
+    r, at = read_items(data, at, RELEASED, r_count)
+    w, at = read_items(data, at, WITHDRAWN, w_count)
+    nothing_after(data, at)
+    share_nothing(r, w)
+    has_words(released, 0)
+    has_words(withdrawn, 1)
+    has_room(SET, released, r, 0)
+    has_room(SET, withdrawn, w, 1)
+    store(released, r)
+    store(withdrawn, w)
+    return []
+
+
+def set_judge_form(data):
+    """Judges the byte form of a set; the number of its ranges."""
+    return [len(items_of_form(SET, data))]
+
+
+def put(form, data, p):
+    """Writes a form into the part of the byte buffer that begins at p; its length is returned. Refusal 15."""
+    if p > len(data) or len(data) - p < len(form):
+        raise Refused(15, 0)
+    data[p : p + len(form)] = form
+    return [len(form)]
+
+
+def set_write(block, data, p):
+    """Writing a set."""
+    return put(set_form(judged(SET, block, 0)), data, p)
+
+
+def map_write(block, data, p):
+    """Writing a map."""
+    return put(map_form(judged(MAP, block, 0)), data, p)
+
+
+def bulletin_write(released, withdrawn, data, p):
+    """Writing a bulletin: 1, 2, 3 of both blocks, then 14, then 15."""
+    r, w = judged(SET, released, 0), judged(SET, withdrawn, 1)
+    share_nothing(r, w)
+    return put(bulletin_form(r, w), data, p)
+
+
+def member(data, x):
+    """The C host's question: 1 or 0, all judged before."""
+    return [int(any(low <= x <= high for low, high in items_of_form(SET, data)))]
+
+
+# ---- every call of the header, by number: its function, and what it is lent
+# i a word block that is an input, c one changed in place, o an output; b bytes to read, w bytes to write; x a word, an argument
+
+CALLS = [
+    ("set_member", set_member, "ix"),
+    ("set_range_at", set_range_at, "ix"),
+    ("set_size", set_size, "i"),
+    ("set_least_member", set_least_member, "ix"),
+    ("set_least_non_member", set_least_non_member, "ix"),
+    ("set_window", set_window, "ixx"),
+    ("set_equal", set_equal, "ii"),
+    ("set_within", set_within, "ii"),
+    ("set_disjoint", set_disjoint, "ii"),
+    ("set_make_empty", set_make_empty, "c"),
+    ("set_insert", set_insert, "cxx"),
+    ("set_remove", set_remove, "cxx"),
+    ("set_union", into_output((SET, SET, SET), union), "iio"),
+    ("set_intersection", into_output((SET, SET, SET), intersection), "iio"),
+    ("set_difference", into_output((SET, SET, SET), difference), "iio"),
+    ("set_symmetric_difference", into_output((SET, SET, SET), symmetric_difference), "iio"),
+    ("set_complement", into_output((SET, SET), complement), "io"),
+    ("set_first_fit", set_first_fit, "ixxx"),
+    ("set_best_fit", set_best_fit, "ixxx"),
+    ("set_reserve_first", set_reserve_first, "cxxx"),
+    ("set_reserve_best", set_reserve_best, "cxxx"),
+    ("map_look_up", map_look_up, "ix"),
+    ("map_assign", map_assign, "cxxx"),
+    ("map_erase", map_erase, "cxx"),
+    ("map_window", map_window, "ixx"),
+    ("map_site_over_factory", map_site_over_factory, "iix"),
+    ("map_overlay", into_output((MAP, MAP, MAP), overlay), "iio"),
+    ("map_restriction", into_output((MAP, SET, MAP), restriction), "iio"),
+    ("map_domain", into_output((MAP, SET), domain), "io"),
+    ("bulletin_apply", bulletin_apply, "iiio"),
+    ("bulletin_fold", bulletin_fold, "iiiioo"),
+    ("set_read", set_read, "bo"),
+    ("map_read", map_read, "bo"),
+    ("bulletin_read", bulletin_read, "boo"),
+    ("set_judge_form", set_judge_form, "b"),
+    ("member", member, "bx"),
+    ("set_write", set_write, "iwx"),
+    ("map_write", map_write, "iwx"),
+    ("bulletin_write", bulletin_write, "iiwx"),
+]
+NUMBER = {name: number for number, (name, _, _) in enumerate(CALLS)}
+
+
+def run(name, lent, args):
+    """The outcome of a call: status, the answer (place, count, three values), and what everything lent holds afterwards.
+
+    A value of None in the answer may be any number (where an empty part lies). The call `member` has no answer: None.
+    """
+    _, function, _ = CALLS[NUMBER[name]]
+    after = [bytearray(part) if isinstance(part, (bytes, bytearray)) else list(part) for part in lent]
+    try:
+        values = function(*after, *args)
+    except Refused as refused:
+        answer = None if name == "member" else (refused.place, 0, 0, 0, 0)
+        return 16 + refused.number, answer, lent
+    if name == "member":
+        return values[0], None, after
+    return 0, (0, len(values), *values, *[0] * (3 - len(values))), after

@@ -1,0 +1,366 @@
+"""Which refusals each call can give, in the paper's order, and cases in which one of them, or two at once, apply.
+
+A refusal of a call is a pair (number, where): where is a block's position, for bytes the record ('start', 'item' or 'later', in the
+order in which they stand), or ''. `8<` is the refusal 8 of a record of which fewer than 3 bytes are left, `8` of one that is cut
+later on. A case for the ordered pair (x, y) is only taken if without both the call is accepted and with y alone y is given: so both
+apply, and x must be given.
+"""
+
+import random
+
+import model
+import shapes
+from model import LIMIT, M, MAP, SET
+from wire import Case
+
+ARGS = {"x": ["set_member", "set_least_member", "set_least_non_member", "map_look_up", "map_site_over_factory", "member"]}
+ARGS |= {"i": ["set_range_at"], "ab": ["set_window", "map_window", "set_insert", "set_remove", "map_erase"], "abv": ["map_assign"]}
+ARGS |= {"abk": ["set_first_fit", "set_best_fit", "set_reserve_first", "set_reserve_best"]}
+ARGS |= {"p": ["set_write", "map_write", "bulletin_write"]}
+ARGS_OF = {name: style for style, names in ARGS.items() for name in names}
+RECORDS = ("start", "item", "later")
+OF_RECORD = ("8<", 9, 10, 8, 11, 12)
+TRIES = 400
+
+
+def letters_of(name):
+    """What the call is lent, without the arguments."""
+    return model.CALLS[model.NUMBER[name]][2].replace("x", "")
+
+
+def kinds_of(name):
+    """SET or MAP for each word block of a call."""
+    if name == "map_restriction":
+        return [MAP, SET, MAP]
+    if name == "map_domain":
+        return [MAP, SET]
+    return [MAP if name.startswith("map") else SET for letter in letters_of(name) if letter in "ico"]
+
+
+def reads_bytes(name):
+    """Does the call read a byte form?"""
+    return letters_of(name).startswith("b")
+
+
+def refusals_of(name):
+    """Every refusal that the call can give, in the paper's order."""
+    letters = [letter for letter in letters_of(name) if letter in "ico"]
+    inputs = [i for i, letter in enumerate(letters) if letter in "ic"]
+    outputs = [i for i, letter in enumerate(letters) if letter == "o"]
+    if name == "set_make_empty":
+        return [(1, 0)]
+    if reads_bytes(name):
+        listed = [(number, where) for where in RECORDS for number in OF_RECORD] + [(13, "")]
+        listed += [(14, "")] if name == "bulletin_read" else []
+        return listed + [(number, i) for number in (1, 5) for i in outputs]
+    style = ARGS_OF.get(name, "")
+    listed = [(number, i) for i in inputs for number in (1, 2, 3)] + [(1, i) for i in outputs]
+    listed += [(4, "")] if "ab" in style else []
+    listed += [(6, "")] if "k" in style else []
+    listed += [(14, "earlier"), (14, "later")] if name == "bulletin_fold" else [(14, "")] if "bulletin" in name else []
+    listed += [(7, "")] if "k" in style else []
+    listed += [(5, i) for i in outputs + ([0] if letters[0] == "c" else [])]
+    return listed + ([(15, "")] if style == "p" else [])
+
+
+def number_of(refusal):
+    """The paper's number."""
+    return 8 if refusal[0] == "8<" else refusal[0]
+
+
+def can_both_apply(x, y):
+    """Can x, and y behind it in the order, both apply to one call?"""
+    if x[1] == y[1] and x[0] == 1 and y[0] in (2, 3):
+        return False  # a block without words has no count
+    if x[0] not in ("8<", 8):
+        return True
+    # the bytes end there: nothing behind it in the form, and of the record itself only what is still there
+    if x[1] == y[1]:
+        return y[0] in ((9,) if x[0] == "8<" else (11, 12))
+    return y[0] in (1, 5) or (y[0] == 14 and x[1] != "start")
+
+
+def listed_pairs(name):
+    """Every ordered pair of refusals that can both apply to a call."""
+    listed = refusals_of(name)
+    return [(x, y) for i, x in enumerate(listed) for y in listed[i + 1 :] if can_both_apply(x, y)]
+
+
+# ---- calls on word blocks
+
+
+def base_lists(name, rng):
+    """Sound inputs with something in them; a bulletin's two sets share nothing."""
+    kinds = kinds_of(name)[: sum(letter in "ic" for letter in letters_of(name))]
+    lists = [shapes.fresh(rng, kinds[0], rng.randrange(2, 6))]
+    for kind in kinds[1:]:
+        near_first = rng.random() < 0.8
+        lists.append(shapes.some_items(rng, kind, rng.randrange(2, 5), lists[:1] if near_first else ()))
+    for released, withdrawn in bulletins_of(name):
+        lists[withdrawn] = model.difference(lists[withdrawn], lists[released])
+    return lists
+
+
+def bulletins_of(name):
+    """The positions of the released and the withdrawn set of each bulletin among a call's inputs."""
+    return {"bulletin_apply": [(1, 2)], "bulletin_fold": [(0, 1), (2, 3)], "bulletin_write": [(0, 1)]}.get(name, [])
+
+
+def sharing(released, withdrawn, rng):
+    """The withdrawn set with a number of the released one in it, and that one with something in it."""
+    released = released or [(7, 9)]
+    x = rng.choice(shapes.points_of(released)[2:])
+    return released, model.union(withdrawn, [(x, x)])
+
+
+def shared_lists(name, lists, wants, rng):
+    """The inputs with refusal 14 as wanted."""
+    lists = list(lists)
+    for (released, withdrawn), where in zip(bulletins_of(name), ("earlier", "later") if name == "bulletin_fold" else ("",)):
+        if (14, where) in wants:
+            lists[released], lists[withdrawn] = sharing(lists[released], lists[withdrawn], rng)
+    return lists
+
+
+def window_args(items, wants, pair, rng):
+    """a, b and k of a fit: with a gap that is wide enough, or without one (7)."""
+    a, b = sorted(shapes.near(rng, shapes.points_of(items)) for _ in "ab")
+    if (7, "") in wants and ((6, "") in pair or rng.random() < 0.5):
+        low, high = rng.choice(items)[:2]
+        a, b = sorted((rng.randint(low, high), rng.randint(low, high)))
+    longest = max((high - low + 1 for low, high in model.gaps(items, a, b)), default=0)
+    k = rng.choice([1, longest, longest - 1, longest // 2])
+    if (7, "") in wants:
+        k = rng.choice([longest + 1, longest + 2, M])
+    return a, b, 0 if (6, "") in wants else max(1, min(M, k))
+
+
+def base_args(name, lists, wants, pair, rng):
+    """The arguments of a call on word blocks, with refusals 4, 6 and 7 as wanted."""
+    style = ARGS_OF.get(name, "")
+    points = shapes.points_of(*lists)
+    if style == "x":
+        return [shapes.near(rng, points)]
+    if style == "i":
+        return [rng.choice([0, 1, len(lists[0]) - 1, len(lists[0]), M])]
+    if not style.startswith("ab"):
+        return []
+    if style == "abk":
+        a, b, k = window_args(lists[0], wants, pair, rng)
+    else:
+        a, b = sorted(shapes.near(rng, points) for _ in "ab")
+    if (4, "") in wants:
+        a, b = (b, a) if a < b else (a, b - 1) if b > 0 else (1, 0)
+    return [a, b] + ([k] if style == "abk" else [shapes.number(rng)] if style == "abv" else [])
+
+
+def input_block(kind, items, position, wants, spare, rng):
+    """An input block, with refusals 1, 2 and 3 as wanted. What is wrong with the items is the same whatever the count says."""
+    if (1, position) in wants:
+        return []
+    broken = shapes.unsound(random.Random(rng.random()), kind, items)
+    lent = shapes.block(rng, kind, broken if (3, position) in wants else items, spare)
+    return shapes.overcounted(rng, kind, lent) if (2, position) in wants else lent
+
+
+def output_block(kind, count, position, wants, rng):
+    """An output for a result of `count` items, with refusals 1 and 5 as wanted; None if it cannot be too small."""
+    if (1, position) in wants:
+        return []
+    if (5, position) in wants:
+        return shapes.room_for(rng, kind, rng.choice([count - 1, rng.randrange(count)])) if count else None
+    return shapes.room_for(rng, kind, count + rng.choice([0, 0, 1, 3]))
+
+
+def result_counts(name, lists, args):
+    """How many items each output gets, where there is room."""
+    kinds = kinds_of(name)
+    outputs = len(kinds) - len(lists)
+    if outputs == 0:
+        return []
+    widest = 1 + MAP * (2 * sum(map(len, lists)) + 2)
+    _, _, after = model.run(name, [shapes.words(items) for items in lists] + [[0] * widest] * outputs, args)
+    return [out[0] for out in after[len(lists) :]]
+
+
+def buffer_and_place(size, wants, rng):
+    """A byte buffer and p for a form of this size, with refusal 15 as wanted."""
+    p = rng.choice([0, 0, 1, 5, 30])
+    length = p + size + rng.choice([0, 0, 1, 9])
+    if (15, "") in wants:
+        wraps = rng.choice([(length, M), (length, M + 1 - size), (size, M + 2 - size)])
+        length, p = rng.choice([(p + size - 1, p), (length, length), (length, length + 1), wraps, wraps, (0, 0)])
+    return rng.randbytes(length), p
+
+
+def form_of(name, lists):
+    """The byte form that a writing call writes."""
+    return {"set": model.set_form, "map": model.map_form, "bulletin": model.bulletin_form}[name.split("_")[0]](*lists)
+
+
+def word_case(name, wants, pair, seed):
+    """A call on word blocks to which the wanted refusals apply, if it works out; and the place of each."""
+
+    def rng(part):
+        """Each part is drawn by itself, so that what is wanted of one part changes no other."""
+        return random.Random(f"{seed}/{part}")
+
+    kinds = kinds_of(name)
+    clean = base_lists(name, rng("lists"))
+    args = base_args(name, clean, wants, pair, rng("args"))
+    counts = result_counts(name, clean, args)
+    lists = shared_lists(name, clean, wants, rng("sharing"))
+    in_place = letters_of(name)[0] == "c"
+    lent = []
+    for i, items in enumerate(lists):
+        spare = None if not in_place else 0 if (5, i) in wants else rng("spare").choice([2, 3, 5])
+        lent.append(input_block(kinds[i], items, i, wants, spare, rng(f"block {i}")))
+    for i, count in enumerate(counts, len(lists)):
+        lent.append(output_block(kinds[i], count, i, wants, rng(f"block {i}")))
+    if any(part is None for part in lent):
+        return None, {}
+    if ARGS_OF.get(name) == "p":
+        data, p = buffer_and_place(len(form_of(name, lists)), wants, rng("buffer"))
+        lent, args = lent + [data], [p]
+    places = {want: want[1] if want[0] in (1, 2, 3, 5) else 0 for want in wants}
+    return Case(name, lent, args, placement=rng("placement").randrange(2)), places
+
+
+# ---- calls that read bytes
+
+
+def wrong_kind(rng, due):
+    """A kind byte that is not the one due: often a known one, or one at the edge of the unknown."""
+    known = [0x00, 0x01, 0x02, 0x03, 0x04, 0x0F, 0x10, 0x11, 0x12, 0x13, 0x14, 0xFF]
+    return rng.choice([kind for kind in known * 8 + list(range(256)) if kind != due])
+
+
+def bad_item(rng, item, before):
+    """An item that breaks soundness, by itself or behind the one before it."""
+    low, high, *value = item
+    ways = [(high, low, *value) if low < high else (max(low, 1), max(low, 1) - 1, *value)]
+    if before is not None:
+        touching = min(M, before[1] + 1)
+        ways += [(touching, max(touching, high), *before[2:]), (before[1], max(high, before[1]), *value), tuple(before)]
+        ways += [(before[0], high, *value), (0, 0, *value)]
+    ways = [way for way in ways if way[0] > way[1] or (before is not None and not model.follows(before, way))]
+    return rng.choice(ways)
+
+
+def spoiled_record(rng, kind, numbers, size, wants, bad):
+    """A record's bytes with refusals 9 to 12 as wanted."""
+    data = bytearray(model.record(kind, bad if 12 in wants else numbers, size))
+    if 10 in wants:
+        data[2] = wrong_kind(rng, kind)
+        if rng.random() < 0.5:
+            data[-2:] = model.check_bytes(data[2:-2])
+    if 11 in wants:
+        right = bytes(data[-2:])
+        while data[-2:] == right:
+            first, second = bytes([right[0] ^ 0x80, right[1]]), bytes([right[0], right[1] ^ 1])
+            data[-2:] = rng.choice([right[::-1], first, second, rng.randbytes(2)])
+    if 9 in wants:
+        data[rng.randrange(2)] ^= 1 << rng.randrange(8)
+    return bytes(data)
+
+
+def cut_record(rng, data, wants):
+    """A record that the bytes end in, with what else is wanted of it still to be seen."""
+    if "8<" in wants:
+        if 9 in wants:
+            return bytes([data[0] ^ 0x10]) + data[1 : rng.choice([1, 2])]
+        return data[: rng.randrange(3)]
+    if 11 in wants:
+        return data[:-2] + bytes([data[-2] ^ 0x40])
+    return data[: -rng.choice([1, 2]) if 12 in wants else rng.randrange(3, len(data))]
+
+
+def form_lists(name, wants, rng):
+    """The items of a form, clean and with refusal 14 as wanted: one list, or a bulletin's two."""
+    if name != "bulletin_read":
+        return [shapes.fresh(rng, MAP if name.startswith("map") else SET, rng.randrange(3, 6))]
+    released = shapes.fresh(rng, SET, rng.randrange(2, 4))
+    withdrawn = model.difference(shapes.some_items(rng, SET, rng.randrange(2, 4), [released]), released)
+    shared = sharing(released, withdrawn, rng)
+    return list(shared) if (14, "") in wants else [released, withdrawn]
+
+
+def records_of(name, lists, rng):
+    """Each record of a form: kind, numbers, the size of each, and numbers that break it."""
+    start, kinds = {
+        "map_read": (model.START_OF_MAP, [model.ENTRY]),
+        "bulletin_read": (model.START_OF_BULLETIN, [model.RELEASED, model.WITHDRAWN]),
+    }.get(name, (model.START_OF_SET, [model.RANGE]))
+    limit = LIMIT[MAP if name == "map_read" else SET]
+    counts = [len(items) for items in lists]
+    above = [rng.choice([limit + 1, limit + 2, 65535, rng.randint(limit + 1, 65535)]) if rng.random() < 0.6 else n for n in counts]
+    above[rng.randrange(len(above))] = limit + 1 + rng.choice([0, 0, 1, 60000 - limit])
+    records = [(start, counts, 2, above)]
+    for kind, items in zip(kinds, lists):
+        for i, item in enumerate(items):
+            records.append((kind, item, 8, bad_item(rng, item, items[i - 1] if i else None)))
+    return records
+
+
+def form_bytes(records, spots, wants, rng):
+    """The bytes of the records with what is wanted of those at the spots, and the place of each refusal."""
+    data, places = b"", {}
+    for i, (kind, numbers, size, bad) in enumerate(records):
+        where = spots.get(i)
+        here = {number for number, at in wants if at == where and where is not None}
+        places |= {(number, where): len(data) for number in here}
+        piece = spoiled_record(random.Random(rng.random()), kind, numbers, size, here, bad)
+        if here & {"8<", 8}:
+            return data + cut_record(rng, piece, here), places
+        data += piece
+    places[(13, "")] = len(data)
+    if (13, "") in wants:
+        data += rng.choice([b"\0", b"\xc5", rng.randbytes(rng.randrange(1, 30)), model.record(model.RANGE, (1, 2), 8), data[:7]])
+    return data, places
+
+
+def form_case(name, wants, pair, seed):
+    """A call that reads bytes, to which exactly the wanted refusals apply; and the place of each."""
+
+    def rng(part):
+        """Each part is drawn by itself, so that what is wanted of one part changes no other."""
+        return random.Random(f"{seed}/{part}")
+
+    lists = form_lists(name, wants, rng("lists"))
+    records = records_of(name, lists, rng("records"))
+    if len(records) < 3:
+        return None, {}
+    item = rng("spots").randrange(1, len(records) - 1)
+    later = rng("spot").randrange(item + 1, len(records))
+    data, places = form_bytes(records, {0: "start", item: "item", later: "later"}, wants, rng("bytes"))
+    lent, kinds = [data], kinds_of(name)
+    for i, kind in enumerate(kinds):
+        lent.append(output_block(kind, len(lists[i]), i, wants, rng(f"block {i}")))
+        places |= {(1, i): i, (5, i): i}
+    if any(part is None for part in lent):
+        return None, {}
+    args = [shapes.near(rng("args"), shapes.points_of(*lists))] if name == "member" else []
+    return Case(name, lent, args, placement=rng("placement").randrange(2)), places
+
+
+# ---- a case for a refusal, or for two at once
+
+
+def gives(case, refusal, place):
+    """Does the model give this refusal at this place (None: is the call accepted)?"""
+    status, answer, _ = model.run(case.name, case.lent, case.args)
+    if refusal is None:
+        return status < 16
+    return status == 16 + number_of(refusal) and (answer is None or answer[0] == place)
+
+
+def case_for(name, pair, seed):
+    """A case to which all refusals of `pair` (one or two, in order) apply and the first must be given."""
+    build = form_case if reads_bytes(name) else word_case
+    for attempt in range(TRIES):
+        tried = f"{seed}/{attempt}"
+        steps = [((), None), (pair[-1:], pair[-1]), (pair, pair[0])]
+        built = [(*build(name, wants, pair, tried), first) for wants, first in steps]
+        if all(case is not None and gives(case, first, places.get(first, 0)) for case, places, first in built):
+            return built[-1][0]
+    raise SystemExit(f"differential: no case of {name} found to which {pair} apply; is the model's order the paper's?")

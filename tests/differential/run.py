@@ -1,0 +1,183 @@
+"""The differential test: every call of the header, through C, against the model.
+
+    run.py [--cases N] [--seconds S] [--seed X] [--sample N] [--tally] [--replay FILE] -- DRIVER...
+
+DRIVER... is the command of the C program of driver.c. Without options the seed and the number of cases are fixed. With --cases or
+--seconds and no --seed a seed is drawn, and printed first; the cases made for the refusals and the limits, about 8,500, are always
+run. --sample N runs N cases of the fixed run, evenly chosen, and asks nothing of the tally. --tally prints what was tried of each
+call. --replay runs one case that a mismatch left behind. The exit status is 1 on a mismatch, or if something was not tried.
+"""
+
+import argparse
+import os
+import re
+import secrets
+import sys
+import time
+from collections import Counter
+
+import generate
+import model
+import refusals
+import wire
+
+CASES = 60000
+SEED = "1"
+PAIR_TIMES, SINGLE_TIMES, LIMIT_TIMES = 5, 5, 10
+AT_LEAST = {"call": 10, "refusal": 5, "pair": PAIR_TIMES}
+BATCH = 500
+KEPT = "build/differential-mismatch.json"
+NAMES = [name for name, _, _ in model.CALLS]
+
+
+def header_calls():
+    """The calls that the header declares, in its order."""
+    header = os.path.join(os.path.dirname(os.path.abspath(__file__)), "../../include/wimblorque.h")
+    with open(header, encoding="ascii") as text:
+        return re.findall(r"^\w+ wimblorque_(\w+)\(", text.read(), re.MULTILINE)
+
+
+def jobs(cases):
+    """What to try, in short: the wanted refusals of each call, alone and in pairs, the limits, and random cases up to so many."""
+    listed = []
+    for name in NAMES:
+        listed += [("refusals", name, (x,), i) for x in refusals.refusals_of(name) for i in range(SINGLE_TIMES)]
+        listed += [("refusals", name, pair, i) for pair in refusals.listed_pairs(name) for i in range(PAIR_TIMES)]
+        listed += [("limit", name, (), i) for i in range(LIMIT_TIMES)]
+    listed += [("random", NAMES[i % len(NAMES)], (), i // len(NAMES)) for i in range(max(0, cases - len(listed)))]
+    return listed
+
+
+def case_of(job, seed):
+    """The case of a job; it depends on the job and the seed alone."""
+    sort, name, pair, i = job
+    own = f"{seed}/{sort}/{name}/{pair}/{i}"
+    if sort == "refusals":
+        return refusals.case_for(name, pair, own)
+    return generate.limit_case(name, own) if sort == "limit" else generate.random_case(name, own)
+
+
+class Tally:
+    """How often each call, each refusal of a call and each ordered pair of refusals was tried."""
+
+    def __init__(self):
+        self.calls, self.refusals, self.pairs = Counter(), Counter(), Counter()
+
+    def count(self, job, outcome):
+        """Counts a case."""
+        _, name, pair, _ = job
+        self.calls[name] += 1
+        self.refusals[name, outcome[0] - 16 if outcome[0] >= 16 else 0] += 1
+        if len(pair) == 2:
+            self.pairs[name, pair] += 1
+
+    def groups(self):
+        """Everything that must be tried, with how often it was: accepted calls count as refusal 0."""
+        can = [(name, number) for name in NAMES for number in sorted({0} | set(map(refusals.number_of, refusals.refusals_of(name))))]
+        yield "call", {name: self.calls[name] for name in NAMES}
+        yield "refusal", {key: self.refusals[key] for key in can}
+        yield "pair", {(name, pair): self.pairs[name, pair] for name in NAMES for pair in refusals.listed_pairs(name)}
+
+    def missing(self):
+        """What was tried too seldom."""
+        return [f"{sort} {key}: {times}" for sort, counts in self.groups() for key, times in counts.items() if times < AT_LEAST[sort]]
+
+    def short(self):
+        """One line."""
+        said = []
+        for sort, counts in self.groups():
+            key = min(counts, key=counts.get)
+            said.append(f"{len(counts)} {sort}s (least tried: {counts[key]} times)")
+        accepted = sum(times for (_, number), times in self.refusals.items() if number == 0)
+        return f"{sum(self.calls.values())} cases, {accepted} accepted; " + ", ".join(said)
+
+    def full(self):
+        """One line for each call."""
+        for name in NAMES:
+            numbers = sorted(number for call, number in self.refusals if call == name)
+            refused = ", ".join(f"{number}: {self.refusals[name, number]}" for number in numbers if number)
+            pairs = sum(times for (call, _), times in self.pairs.items() if call == name)
+            print(f"  {name}: {self.calls[name]} cases, accepted {self.refusals[name, 0]}; refused {refused}; pairs {pairs}")
+
+
+def run_batch(driver, seed, batch, tally):
+    """Runs some jobs; true if all agree. The first that does not is printed."""
+    cases = [case_of(job, seed) for job in batch]
+    outcomes = [model.run(case.name, case.lent, case.args) for case in cases]
+    for job, outcome in zip(batch, outcomes):
+        tally.count(job, outcome)
+    for wrong in wire.mismatches(driver, cases, outcomes):
+        wire.report(*wrong, KEPT)
+        print(f"differential: the library differs from the model; seed {seed}")
+        return False
+    return True
+
+
+def run_all(driver, seed, chosen, seconds, tally):
+    """Runs the jobs, and random ones behind them as long as there is time; true if all agree."""
+    began, extra = time.monotonic(), 0
+    while chosen or (seconds and time.monotonic() - began < seconds):
+        if not chosen:
+            chosen = [("random", NAMES[i % len(NAMES)], (), 10**9 + extra + i) for i in range(BATCH)]
+            extra += BATCH
+        if not run_batch(driver, seed, chosen[:BATCH], tally):
+            return False
+        chosen = chosen[BATCH:]
+    return True
+
+
+def replay(driver, file):
+    """Runs a case that was kept."""
+    with open(file, encoding="ascii") as kept:
+        case = wire.case_of(kept.read())
+    outcome = model.run(case.name, case.lent, case.args)
+    for wrong in wire.mismatches(driver, [case], [outcome]):
+        wire.report(*wrong, file)
+        return False
+    print(f"differential: the case in {file} agrees")
+    return True
+
+
+def options():
+    """The command line."""
+    parser = argparse.ArgumentParser(description=__doc__, formatter_class=argparse.RawDescriptionHelpFormatter)
+    parser.add_argument("--cases", type=int)
+    parser.add_argument("--seconds", type=float, default=0)
+    parser.add_argument("--seed")
+    parser.add_argument("--sample", type=int)
+    parser.add_argument("--tally", action="store_true")
+    parser.add_argument("--replay", metavar="FILE")
+    parser.add_argument("driver", nargs="+")
+    return parser.parse_args()
+
+
+def main():
+    """The test."""
+    asked = options()
+    driver = wire.Driver(asked.driver)
+    os.makedirs(os.path.dirname(KEPT), exist_ok=True)
+    if asked.replay:
+        return replay(driver, asked.replay)
+    if header_calls() != NAMES:
+        print("differential: the calls of the header are not those of the model:", set(header_calls()) ^ set(NAMES))
+        return False
+    seed = asked.seed or (secrets.token_hex(8) if asked.cases or asked.seconds else SEED)
+    print(f"differential: seed {seed}", flush=True)
+    chosen = jobs(asked.cases or CASES)
+    if asked.sample:
+        chosen = chosen[:: max(1, len(chosen) // asked.sample)][: asked.sample]
+    tally, began = Tally(), time.monotonic()
+    agrees = run_all(driver, seed, chosen, asked.seconds, tally)
+    if asked.tally:
+        tally.full()
+    missing = [] if asked.sample or not agrees else tally.missing()
+    for each in missing[:20]:
+        print("differential: tried too seldom:", each)
+    if agrees and not missing:
+        said = f"{sum(tally.calls.values())} cases" if asked.sample else tally.short()
+        print(f"differential: the library answers as the model does: {said}; {time.monotonic() - began:.0f} s")
+    return agrees and not missing
+
+
+if __name__ == "__main__":
+    sys.exit(0 if main() else 1)

@@ -1,0 +1,81 @@
+#!/bin/sh
+# Makes the proved library for C programs of this machine, target/staticlib/libhost.a and what is made from it, and prints the file to
+# link:
+#   tools/native.sh            on x86-64 the archive that 'rt staticlib' makes, elsewhere an object for this machine
+#   tools/native.sh MACHINE    an object for that machine (x86_64 or aarch64), on any machine
+# 'rt staticlib' makes x86-64 code on every machine: the kit's compiler gets it from a module. For an object the module is kept: rt is
+# given a kit of links to its own, whose compiler is a script that copies the module and then calls the kit's. The kit's compiler makes
+# the object from the module, with the same optimisation. In the module each exported function takes the address of its answer as its
+# first argument and returns it, which is C's way of returning a large struct on x86-64 only; before it is compiled, that argument is
+# marked as such an address, so that the function is called as C calls it on either machine. Nothing else in it is changed, and nothing
+# is made again while the crates and the kit are unchanged.
+set -eu
+cd "$(dirname "$0")/.."
+. tools/kit.sh
+here=$(uname -m)
+machine=${1:-$here}
+archive=target/staticlib/libhost.a
+module=build/host.bc
+object=build/host_$machine.o
+mkdir -p build
+
+# Links everything in a folder but one name from another folder.
+links() { # FROM TO BUT
+    mkdir -p "$2"
+    for each in "$1"/*; do
+        [ "${each##*/}" = "$3" ] || ln -sfn "$each" "$2/${each##*/}"
+    done
+}
+
+# Makes the kit of links, with a compiler that keeps the module.
+kit_of_links() {
+    rm -rf build/kit
+    links "$kit" build/kit on
+    links "$own" "build/kit/on/$here" toolchain
+    links "$tools" "build/kit/on/$here/toolchain" bin
+    links "$tools/bin" "build/kit/on/$here/toolchain/bin" clang
+    compiler=build/kit/on/$here/toolchain/bin/clang
+    printf '#!/bin/sh\n[ ! -f module.bc ] || cp module.bc "%s" || exit 1\nexec "%s" "$@"\n' "$PWD/$module" "$tools/bin/clang" >"$compiler"
+    chmod +x "$compiler"
+}
+
+# What the archive and the module are made from, in one number.
+stamp() {
+    { cat "$kit/KIT-ID" && find crates.txt crates -type f -exec sha256sum {} + | sort; } | sha256sum
+}
+
+# Proves the library and makes FILE, by rt in the kit that is given (none: its own), if it was not made of the same crates before.
+made() { # FILE [KIT]
+    [ -f "$1" ] && [ -f "$archive" ] && [ "$(cat "$1.stamp" 2>/dev/null)" = "$(stamp)" ] && return 0
+    rm -f "$1" "$1.stamp"
+    ${2:+env RATTLE_HOME="$2"} rt staticlib host >build/staticlib.log 2>&1 || { cat build/staticlib.log >&2; exit 1; }
+    [ -f "$1" ] || { echo "native.sh: '$1' was not made" >&2; exit 1; }
+    stamp >"$1.stamp"
+}
+
+# The kit's compiler; what it says is shown only if it fails.
+compile() { # WORDS...
+    "$tools/bin/clang" "$@" 2>build/native.log || { cat build/native.log >&2; exit 1; }
+}
+
+if [ $# -eq 0 ] && [ "$here" = x86_64 ]; then
+    made "$archive"
+    echo "$archive"
+    exit 0
+fi
+kit_of_links
+made "$module" "$PWD/build/kit"
+# The module as text, with the answers' addresses marked, and then the object.
+compile --target=x86_64-unknown-linux-gnu -S -emit-llvm -Xclang -disable-llvm-passes -x ir "$module" -o build/host_plain.ll
+sed '/^define noundef ptr @wimblorque_/,/^}/ {
+    s/^define noundef ptr \(@[a-z_]*\)(ptr noundef %a0/define void \1(ptr noundef sret([48 x i8]) align 8 %a0/
+    s/^  ret ptr %a0$/  ret void/
+}' build/host_plain.ll >build/host.ll
+returned=$(grep -c '^wimblorque_answer wimblorque_' include/wimblorque.h)
+[ "$(grep -c '^define void @wimblorque_.* sret(' build/host.ll)" = "$returned" ] || {
+    echo "native.sh: the module's functions do not return their answers as they did" >&2
+    exit 1
+}
+compile "--target=$machine-unknown-linux-gnu" -O3 -fPIC -ffunction-sections -fdata-sections -mllvm -trap-unreachable \
+    -mllvm -no-trap-after-noreturn -Wno-override-module -c -x ir build/host.ll -o "$object"
+echo "$object"
