@@ -74,8 +74,8 @@ wimblorque_answer wimblorque_set_least_member(const uint64_t *block, size_t word
 /* The least number at or above x that is not a member. One value, or none. */
 wimblorque_answer wimblorque_set_least_non_member(const uint64_t *block, size_t words, uint64_t x);
 
-/* The part of the block with the ranges that share a number with a..b, unclipped. Two values, offset and length; the length is 0 if
-   there are none. Refused also with 4. */
+/* The part of the block with the ranges that share a number with a..b, unclipped. Two values, offset and length; if there are none the
+   length is 0 and the offset is where they would stand, behind the ranges below a. Refused also with 4. */
 wimblorque_answer wimblorque_set_window(const uint64_t *block, size_t words, uint64_t a, uint64_t b);
 
 /* Of two sets: have they the same members; is every member of the first one of the second; have they no number in common?

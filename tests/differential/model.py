@@ -217,11 +217,12 @@ def set_least_non_member(block, x):
 
 
 def window(kind, block, a, b):
-    """The part with all items that share a number with a..b: offset (None where the part is empty, and anything goes) and length."""
+    """The part with all items that share a number with a..b: its offset, behind the items that are wholly below, and its length."""
     items = judged(kind, block, 0)
     in_order(a, b)
-    met = [i for i, item in enumerate(items) if item[0] <= b and a <= item[1]]
-    return [1 + kind * met[0], kind * len(met)] if met else [None, 0]
+    below = [item for item in items if item[1] < a]
+    met = [item for item in items if item[0] <= b and a <= item[1]]
+    return [1 + kind * len(below), kind * len(met)]
 
 
 def set_window(block, a, b):
@@ -589,7 +590,7 @@ NUMBER = {name: number for number, (name, _, _) in enumerate(CALLS)}
 def run(name, lent, args):
     """The outcome of a call: status, the answer (place, count, three values), and what everything lent holds afterwards.
 
-    A value of None in the answer may be any number (where an empty part lies). The call `member` has no answer: None.
+    The call `member` has no answer: None.
     """
     _, function, _ = CALLS[NUMBER[name]]
     after = [bytearray(part) if isinstance(part, (bytes, bytearray)) else list(part) for part in lent]

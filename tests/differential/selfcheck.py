@@ -90,8 +90,10 @@ def check_questions(line, rng, one, two):
 def check_window(line, rng, held, name, kind):
     """The windows of a set or a map."""
     first, last = sorted(rng.choices(line.cells, k=2))
-    met = [i for i, run in enumerate(line.runs(held)) if any(run[0] <= line.low[c] <= run[1] for c in range(first, last + 1))]
-    wanted = [1 + kind * met[0], kind * len(met)] if met else [None, 0]
+    runs = line.runs(held)
+    met = [run for run in runs if any(run[0] <= line.low[c] <= run[1] for c in range(first, last + 1))]
+    below = [run for run in runs if run not in met and run[0] < line.low[first]]
+    wanted = [1 + kind * len(below), kind * len(met)]
     expect(name, values(name, [line.block(held)], [line.low[first], line.high[last]]), wanted)
 
 
