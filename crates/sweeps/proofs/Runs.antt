@@ -10,7 +10,7 @@ use native.Mathlib.Nat.{mul-suc, mul-zero}
 use lib.ListN.{length, getD, take, drop}
 use lib.Seq.{drop-drop}
 use lib.Dec.{eqb}
-use borrow.Author.Tests.{ne-eqb, eqb-true, eqb-false}
+use borrow.Author.Tests.{eqb-true, eqb-false}
 use Rattle.entries.specs.Entries.{Entry, valueAt, Link, Sound}
 use Rattle.entries.specs.Build.{pick}
 use Rattle.entries.proofs.Sides.{val-in, val-past, none-under}
@@ -139,12 +139,12 @@ module _ (s : ℕ) (w : List ℕ) (x : ℕ) (g : Input s w) where
     side-of : (p ≡ 1 + s * getD w 0 0 → ⊥) → x < getD w p 0
     side-of = subst (λ (b : ℕ). (b ≡ 1 + s * getD w 0 0 → ⊥) → x < getD w b 0) base-is (o .side)
 
-    pub turn-none : {t : Cursor} → p ≡ end → x < 18446744073709551616 → TurnAt s w x (cursor p false end) (turn 18446744073709551615 t)
-    turn-none {t} q f = record {
+    pub turn-none : p ≡ end → x < 18446744073709551616 → TurnAt s w x (cursor p false end) (turn 18446744073709551615 (cursor p false end))
+    turn-none q f = record {
       from-x = omega arith;
       fits = omega arith;
       same = λ y h l. out-cur .rest y h ∙ ap (λ (k : ℕ). valueAt (items s k p w) y) z;
-      next = λ e h l u. rw (ne-eqb 18446744073709551615 e (λ i. omega arith)) (still e h);
+      next = λ e h l. go e h (eqb 18446744073709551615 e);
     }
       where
         at : p ≡ 1 + s * getD w 0 0
@@ -155,6 +155,10 @@ module _ (s : ℕ) (w : List ℕ) (x : ℕ) (g : Input s w) where
 
         still : (e : ℕ) → x ≤ e → Point s w (e + 1) (cursor p false end)
         still e h = record { base = p; place = omega arith; cur = stay s w x p g out-cur e h (rw z tt); side = λ n. absurd (n at); end = o .end }
+
+        go : (e : ℕ) → x ≤ e → (t : Bool) → Point s w (e + 1) (pick t (cursor p false end) (cursor p false end))
+        go e h true = still e h
+        go e h false = still e h
 
     module _ (ne : p ≡ end → ⊥) where
       not-at : p ≡ 1 + s * getD w 0 0 → ⊥
@@ -171,7 +175,7 @@ module _ (s : ℕ) (w : List ℕ) (x : ℕ) (g : Input s w) where
         from-x = omega (arith, out-side);
         fits = omega (arith, g .words p);
         same = λ y h k. f .rest y h ∙ none-under (itemFrom s w p) (items s (f .more) (p + s) w) (f .sound) y (omega (arith, out-side));
-        next = λ e h k u. go e h k (eqb (getD w p 0 - 1) e) refl;
+        next = λ e h k. go e h k (eqb (getD w p 0 - 1) e) refl;
       })
         where
           f : Front s w x p g
@@ -223,7 +227,7 @@ module _ (s : ℕ) (w : List ℕ) (x : ℕ) (g : Input s w) where
       from-x = f .ahead;
       fits = g .words (b + 1);
       same = λ y h l. f .rest y h ∙ val-in (itemFrom s w b) (items s (f .more) (b + s) w) y (omega arith) l ∙ ap (λ (i : ℕ). some (take (s - 2) (drop i w))) two;
-      next = λ e h l u. go e h l (eqb (getD w (b + 1) 0) e) refl;
+      next = λ e h l. go e h l (eqb (getD w (b + 1) 0) e) refl;
     }
       where
         two : b + 2 ≡ b + 1 + 1
@@ -293,21 +297,13 @@ module _ (s : ℕ) (w : List ℕ) (x : ℕ) (g : Input s w) where
               (λ e. later-apart (o .base) end (o .cur) (o .side .0) (o .side .1) (o .end) z (not-last n)
               (ap (λ (i : ℕ). getD w i 0) next-is ∙ omega (arith, next-later n) ∙ ap suc (sym high-is)))
 
-  -- at the end, whatever the cursor says of itself and wherever it is turned
-  pub turn-end : {c t : Cursor} → Point s w x c → c .place ≡ c .end → x < 18446744073709551616 → TurnAt s w x c (turn 18446744073709551615 t)
-  turn-end {c} {t} o e f = go (c .inside) refl
+  -- at the end, whatever the cursor says of itself
+  pub turn-end : {c : Cursor} → Point s w x c → c .place ≡ c .end → x < 18446744073709551616 → TurnAt s w x c (turn 18446744073709551615 c)
+  turn-end {c} o e f = go (c .inside) refl
     where
-      go : (b : Bool) → c .inside ≡ b → TurnAt s w x c (turn 18446744073709551615 t)
+      go : (t : Bool) → c .inside ≡ t → TurnAt s w x c (turn 18446744073709551615 c)
       go true z = absurd (in-not-end (point-as true z o) e)
-      go false z = turn-as false z (turn-none (point-as false z o) e f)
-
-  -- a cursor is not past its input
-  pub place-held : {c : Cursor} → Point s w x c → c .place ≤ length w
-  place-held {c} o = go (c .inside) refl
-    where
-      go : (b : Bool) → c .inside ≡ b → c .place ≤ length w
-      go true z = omega (arith, in-here (point-as true z o), g .two)
-      go false z = omega (arith, out-cur (point-as false z o) .ends, g .held)
+      go false z = subst (λ (d : Cursor). TurnAt s w x d (turn 18446744073709551615 d)) (cursor-is c false z) (turn-none (point-as false z o) e f)
 
   -- before the end a word stands at the cursor
   pub word-here : {c : Cursor} → Point s w x c → (c .place ≡ c .end → ⊥) → c .place < length w

@@ -134,9 +134,9 @@ cursor-pick true b d p q e = refl
 cursor-pick false b d p q e = refl
 
 -- a cursor behind the segment
-next-point : (s : ℕ) (w : List ℕ) (x p q e last p′ : ℕ) (b d b′ : Bool) → TurnAt s w x (cursor p b e) (turn last (cursor q d e)) → (h : ℕ) → x ≤ h → h ≤ last → h < 18446744073709551615
+next-point : (s : ℕ) (w : List ℕ) (x p q e last p′ : ℕ) (b d b′ : Bool) → TurnAt s w x (cursor p b e) (turn last (cursor q d e)) → (h : ℕ) → x ≤ h → h ≤ last
     → p′ ≡ pick (eqb last h) q p → b′ ≡ pick (eqb last h) d b → Point s w (h + 1) (cursor p′ b′ e)
-next-point s w x p q e last p′ b d b′ t h l m u ep eb = rw (ep, eb, ← cursor-pick (eqb last h) b d p q e) (t .next h l m u)
+next-point s w x p q e last p′ b d b′ t h l m ep eb = rw (ep, eb, ← cursor-pick (eqb last h) b d p q e) (t .next h l m)
 
 module _ (plan : Plan) (a b c : List ℕ) (x : ℕ) (at : Places) (sides : Sides) (ends : Places) (i j k : Run) where
   abbrev turns : Type 0
@@ -167,9 +167,9 @@ module _ (plan : Plan) (a b c : List ℕ) (x : ℕ) (at : Places) (sides : Sides
               ← eu,
             )
             (shown-pick (r .inside) (take (plan .out - 2) (firstBehind plan a b c at sides)) ∙ ev);
-        points = λ u. record {
-          at-a = next-point (plan .a) a x (at .a) (i .next) (ends .a) (i .last) (r .at .a) (sides .a) (i .then) (r .sides .a) (t .0) (r .last) h (omega arith) u (ep .0) (es .0);
-          at-b = next-point (plan .b) b x (at .b) (j .next) (ends .b) (j .last) (r .at .b) (sides .b) (j .then) (r .sides .b) (t .1) (r .last) h (omega arith) u (ep .1) (es .1);
-          at-c = next-point (plan .c) c x (at .c) (k .next) (ends .c) (k .last) (r .at .c) (sides .c) (k .then) (r .sides .c) (t .2) (r .last) h (omega arith) u (ep .2) (es .2);
+        points = record {
+          at-a = next-point (plan .a) a x (at .a) (i .next) (ends .a) (i .last) (r .at .a) (sides .a) (i .then) (r .sides .a) (t .0) (r .last) h (omega arith) (ep .0) (es .0);
+          at-b = next-point (plan .b) b x (at .b) (j .next) (ends .b) (j .last) (r .at .b) (sides .b) (j .then) (r .sides .b) (t .1) (r .last) h (omega arith) (ep .1) (es .1);
+          at-c = next-point (plan .c) c x (at .c) (k .next) (ends .c) (k .last) (r .at .c) (sides .c) (k .then) (r .sides .c) (t .2) (r .last) h (omega arith) (ep .2) (es .2);
         };
       }

@@ -124,7 +124,7 @@ module _ {plan : Plan} {a b c : List ℕ} {keep : Bool} {x : ℕ} {at : Places} 
       pub standing-next : (r .last ≡ 18446744073709551615 → ⊥) → Standing plan a b c keep (r .last + 1) (r .at) (r .sides) ends (r .inside) (r .value) n′ o′
       standing-next ne = record {
         fits = omega (arith, g .fits);
-        points = g .points (omega (arith, g .fits));
+        points = g .points;
         before = rw add-one (sym (g .same (r .last) (g .from-x) (omega arith)));
         list = next (h .list);
         upto = rw add-one next-upto;

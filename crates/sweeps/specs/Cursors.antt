@@ -81,12 +81,12 @@ pub record Point (s : ℕ) (w : List ℕ) (x : ℕ) (c : Cursor) : Type 0 where
   pub side : Sided (c .inside) s w x base
   pub end : c .end ≡ 1 + s * getD w 0 0
 
--- from x to the last number of the run the value is the cursor's, or none; behind it, where there are numbers, the cursor has turned
+-- from x to the last number of the run the value is the cursor's, or none; behind it the cursor has turned
 pub record TurnAt (s : ℕ) (w : List ℕ) (x : ℕ) (c : Cursor) (t : Turn) : Type 0 where
   pub from-x : x ≤ t .last
   pub fits : t .last < 18446744073709551616
   pub same : (y : ℕ) → x ≤ y → y ≤ t .last → valueAt (entriesOf s w) y ≡ shown (c .inside) (valueBehind s w (c .place))
-  pub next : (e : ℕ) → x ≤ e → e ≤ t .last → e < 18446744073709551615 → Point s w (e + 1) (pick (eqb (t .last) e) (t .then) c)
+  pub next : (e : ℕ) → x ≤ e → e ≤ t .last → Point s w (e + 1) (pick (eqb (t .last) e) (t .then) c)
 
 -- the three cursors at x
 pub record Points (plan : Plan) (a b c : List ℕ) (x : ℕ) (i j k : Cursor) : Type 0 where
@@ -102,12 +102,12 @@ abbrev pub firstBehind : Plan → List ℕ → List ℕ → List ℕ → Places 
 firstBehind plan a b c at sides = firstOf (shown (sides .a) (valueBehind (plan .a) a (at .a)))
     (shown (sides .b) (valueBehind (plan .b) b (at .b))) (shown (sides .c) (valueBehind (plan .c) c (at .c)))
 
--- from x to the last number of the segment the sweep gives one value, or none; the cursors behind it, where there are numbers
+-- from x to the last number of the segment the sweep gives one value, or none; the cursors behind it
 pub record SegmentAt (plan : Plan) (a b c : List ℕ) (x : ℕ) (ends : Places) (s : Segment) : Type 0 where
   pub from-x : x ≤ s .last
   pub fits : s .last < 18446744073709551616
   pub same : (y : ℕ) → x ≤ y → y ≤ s .last → sweptOf plan a b c y ≡ shown (s .inside) (valueOf (plan .out) (s .value))
-  pub points : s .last < 18446744073709551615 → PointsAt plan a b c (s .last + 1) (s .at) (s .sides) ends
+  pub points : PointsAt plan a b c (s .last + 1) (s .at) (s .sides) ends
 
 -- whether a value goes on
 abbrev pub sameAs : Option Value → Value → Bool

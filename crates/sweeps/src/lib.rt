@@ -1,7 +1,7 @@
 // One linear sweep over three sound blocks, for any table of their memberships. Every operation on sets, maps and bulletins that
 // makes a list from lists is a table of it.
 ghost use mathlib.Core.Path.{_≡_};
-ghost use mathlib.Core.Bool.{true, false, not};
+ghost use mathlib.Core.Bool.{true, false};
 ghost use Prim.Native.Nat.{_+_, _*_, _-_, _≤_, _<_, min};
 ghost use lib.Dec.{leb, ltb};
 ghost use lib.ListN.{length, getD, take};
@@ -186,20 +186,6 @@ fn flip(w: &[u64], s: usize, p: usize, inside: bool, end: usize, x: u64) -> Run
     }
 }
 
-// The last number of the run at x in a set. Behind it the cursor stands at the next word, on the other side.
-fn last_at(w: &[u64], s: usize, p: usize, inside: bool, end: usize, x: u64) -> u64
-    requires { ⌜ Input s (now w) ⌝ }
-    requires { ⌜ Point s (now w) x (cursor p inside end) ⌝ }
-    requires { ⌜ s ≡ 2 ⌝ }
-    ensures { λ r. ⌜ TurnAt s (now (w .entry)) x (cursor p inside end) (turn r (cursor (p + 1) (not inside) end)) ⌝ }
-{
-    if p == end {
-        return M;
-    }
-    let found = blocks::word(w, p);
-    last_of(found, inside)
-}
-
 // The run at x. Only the contract names x.
 fn run_at(w: &[u64], s: usize, p: usize, inside: bool, end: usize, x: u64) -> Run
     requires { ⌜ Input s (now w) ⌝ }
@@ -381,20 +367,20 @@ fn set_segment_at(
     requires { ⌜ PointsAt (setPlan table) (now a) (now b) (now c) x at sides ends ⌝ }
     ensures { λ r. ⌜ SegmentAt (setPlan table) (now (a .entry)) (now (b .entry)) (now (c .entry)) x ends r ⌝ }
 {
-    let i = last_at(a, 2, at.a, sides.a, ends.a, x);
-    let j = last_at(b, 2, at.b, sides.b, ends.b, x);
-    let k = last_at(c, 2, at.c, sides.c, ends.c, x);
-    let e = least(least(i, j), k);
+    let i = flip(a, 2, at.a, sides.a, ends.a, x);
+    let j = flip(b, 2, at.b, sides.b, ends.b, x);
+    let k = flip(c, 2, at.c, sides.c, ends.c, x);
+    let e = least(least(i.last, j.last), k.last);
     let kept = accepted(table, sides.a, sides.b, sides.c);
     let next = Places {
-        a: moved(i == e, at.a + 1, at.a),
-        b: moved(j == e, at.b + 1, at.b),
-        c: moved(k == e, at.c + 1, at.c),
+        a: moved(i.last == e, i.next, at.a),
+        b: moved(j.last == e, j.next, at.b),
+        c: moved(k.last == e, k.next, at.c),
     };
     let then = Sides {
-        a: turned(i == e, !sides.a, sides.a),
-        b: turned(j == e, !sides.b, sides.b),
-        c: turned(k == e, !sides.c, sides.c),
+        a: turned(i.last == e, i.then, sides.a),
+        b: turned(j.last == e, j.then, sides.b),
+        c: turned(k.last == e, k.then, sides.c),
     };
     Segment {
         last: e,
