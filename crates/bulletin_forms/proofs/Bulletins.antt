@@ -26,7 +26,7 @@ use Rattle.blocks.proofs.Judging.{sound-true}
 use Rattle.entries.specs.Bulletins.{shareb}
 use Rattle.bulletin_forms.specs.Bulletins.{bulletinForm, withdrawnAt, releasedIn, withdrawnIn, bulletinVerdict}
 use Rattle.bulletin_forms.specs.Calls.{readTwo, readBulletinCall, writeBulletinCall}
-use Rattle.bulletin_forms.proofs.Sharing.{Common, inside, some-member}
+use Rattle.operations.proofs.Sharing.{Common, inside, some-member}
 use Rattle.bulletin_forms.proofs.Verdicts.{bulletin-bare}
 use Rattle.bulletin_forms.proofs.Whole.{parts, made, counts-within, size, back, back-too, whole}
 

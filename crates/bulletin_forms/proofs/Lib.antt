@@ -1,4 +1,3 @@
-pub mod Sharing
 pub mod Walking
 pub mod Verdicts
 pub mod Whole

@@ -1,1 +1,3 @@
 pub mod Making
+pub mod Sharing
+pub mod Walking

@@ -1,9 +1,10 @@
 // Results made by the sweep into an output: inputs judged in turn, then the output, then its room.
 ghost use mathlib.Core.Path.{_≡_};
 ghost use mathlib.Core.List.{[], _∷_};
-ghost use Prim.Native.Nat.{_≤_, _<_};
+ghost use Prim.Native.Nat.{_+_, _-_, _≤_, _<_};
 ghost use lib.Dec.{ltb};
 ghost use lib.ListN.{length};
+ghost use Rattle.entries.specs.Build.{pick};
 ghost use Rattle.entries.specs.Bulletins.{shareb};
 ghost use Rattle.blocks.specs.Blocks.{entriesOf};
 ghost use Rattle.answers.specs.Answers.{outcome};
@@ -13,9 +14,6 @@ ghost use Rattle.operations.specs.Calls.{layout, fromTwo, fromOne};
 ghost use Rattle.operations.specs.Steps.{resultTwo, StoreOk, AnyOk, Wrote, TwoFit, OneFit};
 use answers::Judged;
 use sweeps::Plan;
-
-// The table of the sweep that keeps a number which is in the first set and in the second.
-const IN_BOTH: u8 = 136;
 
 // The limits on the number of items of the inputs and the output.
 pub struct Limits {
@@ -65,19 +63,46 @@ pub fn any_of_two(a: &[u64], b: &[u64], plan: Plan) -> bool
     sweeps::any(a, b, &none, plan)
 }
 
-// Whether two judged sets share a number.
+// The place p, or that of the next range.
+fn past(go: bool, p: usize) -> usize
+    requires { ⌜ p < 18446744073709551614 ⌝ }
+    ensures { λ r. ⌜ r ≡ pick go (p + 2) p ⌝ }
+{
+    if go { p + 2 } else { p }
+}
+
+// n, or one less.
+fn fewer(go: bool, n: usize) -> usize
+    requires { ⌜ 0 < n ⌝ }
+    ensures { λ r. ⌜ r ≡ pick go (n - 1) n ⌝ }
+{
+    if go { n - 1 } else { n }
+}
+
+// Whether two judged sets share a number: at each step one range is wholly below another and is passed, or they share one.
 pub fn share_number(a: &[u64], b: &[u64]) -> bool
     requires { ⌜ Input 2 (now a) × Input 2 (now b) ⌝ }
     ensures { λ r. ⌜ r ≡ shareb (entriesOf 2 (now (a .entry))) (entriesOf 2 (now (b .entry))) ⌝ }
 {
-    let plan = Plan {
-        table: IN_BOTH,
-        a: 2,
-        b: 2,
-        c: 2,
-        out: 2,
-    };
-    any_of_two(a, b, plan)
+    let mut i: usize = 1;
+    let mut left = searches::count_of(a);
+    let mut j: usize = 1;
+    let mut others = searches::count_of(b);
+    while 0 < left {
+        if others == 0 {
+            return false;
+        }
+        let below = blocks::word(a, i + 1) < blocks::word(b, j);
+        let above = blocks::word(b, j + 1) < blocks::word(a, i);
+        if below == above {
+            return true;
+        }
+        i = past(below, i);
+        left = fewer(below, left);
+        j = past(above, j);
+        others = fewer(above, others);
+    }
+    false
 }
 
 // An operation on two blocks.

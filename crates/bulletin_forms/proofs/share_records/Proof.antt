@@ -1,7 +1,8 @@
 use Prim.Native.Nat.{_+_, _*_, _≤_}
 use mathlib.Core.Path.{refl}
 use lib.ListN.{length}
-use Rattle.bulletin_forms.proofs.Walking.{Left, in-bytes, all-left, no-others, none-left, go-left, go-right, found}
+use Rattle.operations.proofs.Walking.{Left, all-left, no-others, none-left, go-left, go-right, found}
+use Rattle.bulletin_forms.proofs.Walking.{in-bytes}
 use borrow.Author.Needs.{needs}
 use native.Mathlib.Omega.{arith}
 use Rattle.bulletin_forms.proofs.share_records.Statement.{statement}
