@@ -1,7 +1,7 @@
 -- The numbers of 1, 14 and 5 by the tests of the code, and what the sweep needs and writes.
 use mathlib.Core.Path.{_≡_, refl, sym, _∙_, ap}
 use mathlib.Core.Bool.{Bool, true, false}
-use mathlib.Core.List.{List, [], _∷_}
+use mathlib.Core.List.{List}
 use Prim.Native.Nat.{ℕ, _+_, _*_, _≤_, _<_}
 use native.Mathlib.Omega.{arith}
 use lib.Dec.{leb, ltb, eqb}
@@ -9,17 +9,15 @@ use lib.ListN.{length, getD, drop}
 use borrow.Author.Tests.{eq-eqb, ne-eqb, eqb-false, le-ltb, lt-ltb, ltb-false, leb-true, leb-false}
 use Rattle.entries.specs.Entries.{Entry}
 use Rattle.entries.specs.Build.{pick}
-use Rattle.entries.specs.Sets.{intersection}
 use Rattle.entries.specs.Bulletins.{amended, shareb}
-use Rattle.entries.proofs.Values.{true≢false}
 use Rattle.entries.proofs.Bulletins.{amended-bound}
 use Rattle.blocks.specs.Blocks.{setLimit, capacity, entriesOf, verdict}
 use Rattle.blocks.proofs.Judging.{verdict-sound, verdict-most, room}
 use Rattle.blocks.proofs.Words.{items-length}
 use Rattle.sweeps.specs.Sweeps.{Input, Inputs, result}
-use Rattle.sweeps.proofs.Tables.{amended-table, intersection-table, bounded, input as input-of}
+use Rattle.sweeps.proofs.Tables.{amended-table, bounded, input as input-of}
 use Rattle.bulletins.specs.Calls.{noBlock, overlap, noRoom}
-use Rattle.bulletins.specs.Steps.{Two, Writes}
+use Rattle.bulletins.specs.Steps.{Writes}
 
 -- the numbers are of the table
 pub verdict-small : (w : List ℕ) → verdict 2 setLimit w ≤ 15

@@ -1,7 +1,6 @@
 -- DEMAND 2 for the byte form: «One set has one stored form and one byte form. Reading, where the result has room, accepts exactly the
 -- byte forms, and writing into enough bytes gives back the bytes read.» For sets, maps and bulletins.
 use mathlib.Core.Path.{_≡_, refl}
-use mathlib.Core.Bool.{Bool}
 use mathlib.Core.List.{List, [], _∷_}
 use Prim.Native.Nat.{ℕ, _+_, _*_, _-_, _≤_, _<_}
 use lib.Dec.{ltb, eqb}

@@ -3,17 +3,15 @@
 use mathlib.Core.Path.{_≡_, refl, sym, _∙_, ap, ap₂}
 use mathlib.Core.Bool.{Bool, true, false}
 use mathlib.Core.List.{List, [], _∷_}
-use Prim.Native.Nat.{ℕ, zero, suc, _+_, _*_}
+use Prim.Native.Nat.{ℕ, zero, suc}
 use native.Mathlib.Omega.{arith}
 use lib.ListN.{length, getD, take, drop}
 use Rattle.entries.specs.Entries.{valueAt}
-use Rattle.entries.specs.Build.{pick}
 use Rattle.entries.specs.Sets.{has}
-use Rattle.entries.specs.Questions.{whollyBelow}
 use Rattle.answers.specs.Answers.{Answer, given, refused, Outcome, outcome, judged}
 use Rattle.blocks.specs.Blocks.{setLimit, mapLimit, entriesOf, verdict}
 use Rattle.searches.specs.declared.Part.{Part}
-use Rattle.searches.specs.Calls.{windowPlace, windowLength, windowVerdict, windowAtCall, windowRefusalCall, entryPlace, entryPart}
+use Rattle.searches.specs.Calls.{windowPlace, windowLength, windowVerdict, windowAtCall, windowRefusalCall, entryPlace}
 use Rattle.searches.specs.Steps.{PartOf}
 use Rattle.maps.specs.Calls.{deciding, accepted, siteRefusalCall, siteOverFactoryCall}
 use Rattle.records.specs.Numbers.{num2}

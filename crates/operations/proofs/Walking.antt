@@ -9,7 +9,7 @@ use lib.ListN.{getD, drop}
 use lib.Seq.{drop-drop, getD-drop}
 use borrow.Author.Tests.{ltb-true, ltb-false}
 use Rattle.entries.specs.Entries.{Entry, entry, Sound}
-use Rattle.blocks.specs.Blocks.{itemOf, itemsOf}
+use Rattle.blocks.specs.Blocks.{itemsOf}
 use Rattle.entries.specs.Build.{pick}
 use Rattle.entries.specs.Bulletins.{shareb}
 use Rattle.entries.proofs.Values.{true≢false}

@@ -7,7 +7,7 @@ use Rattle.entries.specs.Entries.{valueAt}
 use Rattle.entries.specs.Build.{pick}
 use Rattle.entries.specs.Sets.{has}
 use Rattle.entries.specs.Questions.{meeting, whollyBelow}
-use Rattle.answers.specs.Answers.{Outcome, outcome, given, refuse, judged}
+use Rattle.answers.specs.Answers.{Outcome, outcome, given, judged}
 use Rattle.blocks.specs.Blocks.{entriesOf, verdict}
 
 -- where the part of a window begins in the block, and how many words it takes

@@ -1,6 +1,3 @@
-use denote.Ref.{now}
-use mathlib.Core.Path.{refl}
-use Rattle.sweeps.proofs.Tables.{fit-set}
 use Rattle.bulletins.proofs.Amending.{shared-yes, shared-no}
 use borrow.Author.Needs.{needs}
 use native.Mathlib.Omega.{arith}

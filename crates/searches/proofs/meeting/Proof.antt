@@ -1,4 +1,4 @@
-use mathlib.Core.Path.{_≡_, _∙_, sym, ap₂}
+use mathlib.Core.Path.{_≡_, _∙_, ap₂}
 use Prim.Native.Nat.{ℕ, _+_, _-_}
 use lib.ListN.{take, drop}
 use denote.Ref.{now}

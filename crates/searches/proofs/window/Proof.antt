@@ -1,4 +1,4 @@
-use mathlib.Core.Path.{_≡_, sym, _∙_}
+use mathlib.Core.Path.{sym, _∙_}
 use denote.Ref.{now}
 use Rattle.searches.proofs.Windows.{judged-window, call-empty, call-part}
 use native.Mathlib.Omega.{arith}
