@@ -1,10 +1,9 @@
 // Results made by the sweep into an output: inputs judged in turn, then the output, then its room.
 ghost use mathlib.Core.Path.{_≡_};
 ghost use mathlib.Core.List.{[], _∷_};
-ghost use Prim.Native.Nat.{_+_, _-_, _≤_, _<_};
+ghost use Prim.Native.Nat.{_≤_, _<_};
 ghost use lib.Dec.{ltb};
 ghost use lib.ListN.{length};
-ghost use Rattle.entries.specs.Build.{pick};
 ghost use Rattle.entries.specs.Bulletins.{shareb};
 ghost use Rattle.blocks.specs.Blocks.{entriesOf};
 ghost use Rattle.answers.specs.Answers.{outcome};
@@ -63,22 +62,6 @@ pub fn any_of_two(a: &[u64], b: &[u64], plan: Plan) -> bool
     sweeps::any(a, b, &none, plan)
 }
 
-// The place p, or that of the next range.
-fn past(go: bool, p: usize) -> usize
-    requires { ⌜ p < 18446744073709551614 ⌝ }
-    ensures { λ r. ⌜ r ≡ pick go (p + 2) p ⌝ }
-{
-    if go { p + 2 } else { p }
-}
-
-// n, or one less.
-fn fewer(go: bool, n: usize) -> usize
-    requires { ⌜ 0 < n ⌝ }
-    ensures { λ r. ⌜ r ≡ pick go (n - 1) n ⌝ }
-{
-    if go { n - 1 } else { n }
-}
-
 // Whether two judged sets share a number: at each step one range is wholly below another and is passed, or they share one.
 pub fn share_number(a: &[u64], b: &[u64]) -> bool
     requires { ⌜ Input 2 (now a) × Input 2 (now b) ⌝ }
@@ -97,10 +80,10 @@ pub fn share_number(a: &[u64], b: &[u64]) -> bool
         if below == above {
             return true;
         }
-        i = past(below, i);
-        left = fewer(below, left);
-        j = past(above, j);
-        others = fewer(above, others);
+        i = sweeps::moved(below, i + 2, i);
+        left = sweeps::moved(below, left - 1, left);
+        j = sweeps::moved(above, j + 2, j);
+        others = sweeps::moved(above, others - 1, others);
     }
     false
 }

@@ -232,8 +232,8 @@ fn least(a: u64, b: u64) -> u64
     if a < b { a } else { b }
 }
 
-// The place of a cursor behind a segment: that behind its run, where the run ends there too.
-fn moved(ends: bool, next: usize, p: usize) -> usize
+// The place of a cursor behind a segment: that behind its run, where the run ends there too. A choice without a branch.
+pub fn moved(ends: bool, next: usize, p: usize) -> usize
     ensures { λ r. ⌜ r ≡ pick ends next p ⌝ }
 {
     if ends { next } else { p }

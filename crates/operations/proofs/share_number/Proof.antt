@@ -11,9 +11,8 @@ use Rattle.operations.proofs.share_number.Tie as tie
 use Rattle.operations.proofs.share_number.Reads as reads
 use Rattle.operations.proofs.share_number.Lts as lts
 use Rattle.blocks.proofs.word.Reads as word-reads
-use Rattle.operations.proofs.fewer.Reads as fewer-reads
-use Rattle.operations.proofs.past.Reads as past-reads
 use Rattle.searches.proofs.count_of.Reads as count-of-reads
+use Rattle.sweeps.proofs.moved.Reads as moved-reads
 
 abbrev Inv-loop : tie.InvT-loop
 Inv-loop a b i₀ left₀ j₀ others₀ i left j others =
@@ -55,23 +54,35 @@ word-requires-4 c κs = search needs
 returns-2 : tie.Need-returns-2 Inv-loop μ-loop
 returns-2 c = let a = c .before .before .before .before .before .before .before .before .before .before .before .before in let l = c .before .before .before .before .before .before .before .loop in met (in-words (now (a .args .a))) (in-words (now (a .args .b))) (l .inv .2) (omega (arith, c .before .before .before .before .before .before .loop-test .taken)) (omega (arith, c .before .before .before .before .before .if1 .left)) (ltb (c .before .before .before .before .word .result) (c .before .before .before .word2 .result)) (ltb (c .before .before .word3 .result) (c .before .word4 .result)) (ap₂ ltb (c .before .before .before .before .word .ensures) (c .before .before .before .word2 .ensures)) (ap₂ ltb (c .before .before .word3 .ensures) (c .before .word4 .ensures)) (same-answer (ltb (c .before .before .before .before .word .result) (c .before .before .before .word2 .result)) (ltb (c .before .before .word3 .result) (c .before .word4 .result)) (c .if2 .taken))
 
-past-requires : tie.Need-past-requires Inv-loop μ-loop
-past-requires c κs = search needs
+add-moved : tie.Need-add-moved Inv-loop μ-loop
+add-moved c = search needs
 
-fewer-requires : tie.Need-fewer-requires Inv-loop μ-loop
-fewer-requires c κs = search needs
+moved-requires : tie.Need-moved-requires Inv-loop μ-loop
+moved-requires c κs = search needs
 
-past-requires-2 : tie.Need-past-requires-2 Inv-loop μ-loop
-past-requires-2 c κs = search needs
+sub-moved : tie.Need-sub-moved Inv-loop μ-loop
+sub-moved c = search needs
 
-fewer-requires-2 : tie.Need-fewer-requires-2 Inv-loop μ-loop
-fewer-requires-2 c κs = search needs
+moved-requires-2 : tie.Need-moved-requires-2 Inv-loop μ-loop
+moved-requires-2 c κs = search needs
+
+add-moved-2 : tie.Need-add-moved-2 Inv-loop μ-loop
+add-moved-2 c = search needs
+
+moved-requires-3 : tie.Need-moved-requires-3 Inv-loop μ-loop
+moved-requires-3 c κs = search needs
+
+sub-moved-2 : tie.Need-sub-moved-2 Inv-loop μ-loop
+sub-moved-2 c = search needs
+
+moved-requires-4 : tie.Need-moved-requires-4 Inv-loop μ-loop
+moved-requires-4 c κs = search needs
 
 loop-less : tie.Need-loop-less Inv-loop μ-loop
-loop-less c = let l = c .before .before .before .before .before .before .before .before .before .before .before .loop in walks-on (ltb (c .before .before .before .before .before .before .before .before .word .result) (c .before .before .before .before .before .before .before .word2 .result)) (ltb (c .before .before .before .before .before .before .word3 .result) (c .before .before .before .before .before .word4 .result)) (l .left) (l .others) (c .before .before .fewer .result) (c .fewer2 .result) (other-answer (ltb (c .before .before .before .before .before .before .before .before .word .result) (c .before .before .before .before .before .before .before .word2 .result)) (ltb (c .before .before .before .before .before .before .word3 .result) (c .before .before .before .before .before .word4 .result)) (c .before .before .before .before .if2 .left)) (omega (arith, c .before .before .before .before .before .before .before .before .before .before .loop-test .taken)) (omega (arith, c .before .before .before .before .before .before .before .before .before .if1 .left)) (c .before .before .fewer .ensures) (c .fewer2 .ensures)
+loop-less c = let l = c .before .before .before .before .before .before .before .before .before .before .before .loop in walks-on (ltb (c .before .before .before .before .before .before .before .before .word .result) (c .before .before .before .before .before .before .before .word2 .result)) (ltb (c .before .before .before .before .before .before .word3 .result) (c .before .before .before .before .before .word4 .result)) (l .left) (l .others) (c .before .before .moved2 .result) (c .moved4 .result) (other-answer (ltb (c .before .before .before .before .before .before .before .before .word .result) (c .before .before .before .before .before .before .before .word2 .result)) (ltb (c .before .before .before .before .before .before .word3 .result) (c .before .before .before .before .before .word4 .result)) (c .before .before .before .before .if2 .left)) (omega (arith, c .before .before .before .before .before .before .before .before .before .before .loop-test .taken)) (omega (arith, c .before .before .before .before .before .before .before .before .before .if1 .left)) (c .before .before .moved2 .ensures) (c .moved4 .ensures)
 
 loop-again : tie.Need-loop-again Inv-loop μ-loop
-loop-again c = let a = c .before .before .before .before .before .before .before .before .before .before .before .before .before .before .before .before in let l = c .before .before .before .before .before .before .before .before .before .before .before .loop in (walks-within (ltb (c .before .before .before .before .before .before .before .before .word .result) (c .before .before .before .before .before .before .before .word2 .result)) (l .i) (l .left) (length (now (a .args .a))) (c .before .before .before .past .result) (c .before .before .fewer .result) (omega (arith, c .before .before .before .before .before .before .before .before .before .before .loop-test .taken)) (l .inv .0) (c .before .before .before .past .ensures) (c .before .before .fewer .ensures), walks-within (ltb (c .before .before .before .before .before .before .word3 .result) (c .before .before .before .before .before .word4 .result)) (l .j) (l .others) (length (now (a .args .b))) (c .before .past2 .result) (c .fewer2 .result) (omega (arith, c .before .before .before .before .before .before .before .before .before .if1 .left)) (l .inv .1) (c .before .past2 .ensures) (c .fewer2 .ensures), stepped (in-words (now (a .args .a))) (in-words (now (a .args .b))) (l .inv .2) (omega (arith, c .before .before .before .before .before .before .before .before .before .before .loop-test .taken)) (omega (arith, c .before .before .before .before .before .before .before .before .before .if1 .left)) (ltb (c .before .before .before .before .before .before .before .before .word .result) (c .before .before .before .before .before .before .before .word2 .result)) (ltb (c .before .before .before .before .before .before .word3 .result) (c .before .before .before .before .before .word4 .result)) (ap₂ ltb (c .before .before .before .before .before .before .before .before .word .ensures) (c .before .before .before .before .before .before .before .word2 .ensures)) (ap₂ ltb (c .before .before .before .before .before .before .word3 .ensures) (c .before .before .before .before .before .word4 .ensures)) (other-answer (ltb (c .before .before .before .before .before .before .before .before .word .result) (c .before .before .before .before .before .before .before .word2 .result)) (ltb (c .before .before .before .before .before .before .word3 .result) (c .before .before .before .before .before .word4 .result)) (c .before .before .before .before .if2 .left)) (c .before .before .before .past .result) (c .before .before .fewer .result) (c .before .past2 .result) (c .fewer2 .result) (c .before .before .before .past .ensures) (c .before .before .fewer .ensures) (c .before .past2 .ensures) (c .fewer2 .ensures))
+loop-again c = let a = c .before .before .before .before .before .before .before .before .before .before .before .before .before .before .before .before in let l = c .before .before .before .before .before .before .before .before .before .before .before .loop in (walks-within (ltb (c .before .before .before .before .before .before .before .before .word .result) (c .before .before .before .before .before .before .before .word2 .result)) (l .i) (l .left) (length (now (a .args .a))) (c .before .before .before .moved .result) (c .before .before .moved2 .result) (omega (arith, c .before .before .before .before .before .before .before .before .before .before .loop-test .taken)) (l .inv .0) (c .before .before .before .moved .ensures) (c .before .before .moved2 .ensures), walks-within (ltb (c .before .before .before .before .before .before .word3 .result) (c .before .before .before .before .before .word4 .result)) (l .j) (l .others) (length (now (a .args .b))) (c .before .moved3 .result) (c .moved4 .result) (omega (arith, c .before .before .before .before .before .before .before .before .before .if1 .left)) (l .inv .1) (c .before .moved3 .ensures) (c .moved4 .ensures), stepped (in-words (now (a .args .a))) (in-words (now (a .args .b))) (l .inv .2) (omega (arith, c .before .before .before .before .before .before .before .before .before .before .loop-test .taken)) (omega (arith, c .before .before .before .before .before .before .before .before .before .if1 .left)) (ltb (c .before .before .before .before .before .before .before .before .word .result) (c .before .before .before .before .before .before .before .word2 .result)) (ltb (c .before .before .before .before .before .before .word3 .result) (c .before .before .before .before .before .word4 .result)) (ap₂ ltb (c .before .before .before .before .before .before .before .before .word .ensures) (c .before .before .before .before .before .before .before .word2 .ensures)) (ap₂ ltb (c .before .before .before .before .before .before .word3 .ensures) (c .before .before .before .before .before .word4 .ensures)) (other-answer (ltb (c .before .before .before .before .before .before .before .before .word .result) (c .before .before .before .before .before .before .before .word2 .result)) (ltb (c .before .before .before .before .before .before .word3 .result) (c .before .before .before .before .before .word4 .result)) (c .before .before .before .before .if2 .left)) (c .before .before .before .moved .result) (c .before .before .moved2 .result) (c .before .moved3 .result) (c .moved4 .result) (c .before .before .before .moved .ensures) (c .before .before .moved2 .ensures) (c .before .moved3 .ensures) (c .moved4 .ensures))
 
 returns-3 : tie.Need-returns-3 Inv-loop μ-loop
 returns-3 c = let a = c .before .before .before .before .before .before in none-left (in-words (now (a .args .a))) (in-words (now (a .args .b))) (c .before .loop .inv .2) (omega (arith, c .loop-test .left))
@@ -93,10 +104,14 @@ share-number-spec =
     word-requires-3
     word-requires-4
     returns-2
-    past-requires
-    fewer-requires
-    past-requires-2
-    fewer-requires-2
+    add-moved
+    moved-requires
+    sub-moved
+    moved-requires-2
+    add-moved-2
+    moved-requires-3
+    sub-moved-2
+    moved-requires-4
     loop-less
     loop-again
     returns-3)
