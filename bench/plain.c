@@ -122,13 +122,16 @@ static wimblorque_answer replace(uint64_t *w, size_t words, size_t i, size_t j, 
     return told(0, 0);
 }
 
-static wimblorque_answer set_insert(uint64_t *w, size_t words, uint64_t a, uint64_t b) {
+/* The refusal of a change of a..b in place, before its room is known, or 0. */
+static uint64_t judge_change(const uint64_t *w, size_t words, uint64_t a, uint64_t b) {
     uint64_t refusal = judge_set(w, words);
+    return refusal == 0 && a > b ? WIMBLORQUE_BACKWARDS : refusal;
+}
+
+static wimblorque_answer set_insert(uint64_t *w, size_t words, uint64_t a, uint64_t b) {
+    uint64_t refusal = judge_change(w, words, a, b);
     if (refusal) {
         return told(refusal, 0);
-    }
-    if (a > b) {
-        return told(WIMBLORQUE_BACKWARDS, 0);
     }
     /* the ranges from i up to j touch or meet a..b */
     size_t n = w[0];
@@ -144,12 +147,9 @@ static wimblorque_answer set_insert(uint64_t *w, size_t words, uint64_t a, uint6
 }
 
 static wimblorque_answer set_remove(uint64_t *w, size_t words, uint64_t a, uint64_t b) {
-    uint64_t refusal = judge_set(w, words);
+    uint64_t refusal = judge_change(w, words, a, b);
     if (refusal) {
         return told(refusal, 0);
-    }
-    if (a > b) {
-        return told(WIMBLORQUE_BACKWARDS, 0);
     }
     /* the ranges from i up to j meet a..b; at most two pieces of them stay */
     size_t n = w[0], k = 0;
