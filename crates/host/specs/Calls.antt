@@ -22,12 +22,13 @@ asNumber (refused number place) t = 16 + number
 unfoldable pub memberOfFormCall : List ℕ → ℕ → ℕ
 memberOfFormCall bytes x = asNumber (formVerdict 0x01 0x10 2 setLimit bytes) (member (formEntries 2 bytes) x)
 
--- the count of a form that is accepted
+-- «count, 2 bytes»: of a form that is accepted
 abbrev pub counted : Answer → ℕ → Outcome
 counted (given xs) n = outcome (given (n ∷ [])) []
 counted (refused number place) n = outcome (refused number place) []
 
--- the byte form of a set judged, with no block: its count
+-- reading a set as far as «After the last record: 13», with nothing stored: «no block is needed». Its count, which stands behind the
+-- start's mark and kind
 unfoldable pub judgeFormCall : List ℕ → Outcome
 judgeFormCall bytes = counted (formVerdict 0x01 0x10 2 setLimit bytes) (num2 bytes 3)
 
