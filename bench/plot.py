@@ -15,14 +15,16 @@ GROWTH = 4.6
 
 
 def load(path):
-    """The remarks on the machine, and the rows of times."""
+    """The remarks on the machine, and the rows of times: of each contender the least of all passes."""
     lines = path.read_text().splitlines()
     machine = [line[2:].split(": ", 1) for line in lines if line.startswith("# ")]
-    rows = list(csv.DictReader(line for line in lines if not line.startswith("#")))
-    for row in rows:
+    rows = {}
+    for row in csv.DictReader(line for line in lines if not line.startswith("#")):
         row["ranges"] = int(row["ranges"])
         row.update({key: float(row[key]) for key, _, _, _ in CONTENDERS})
-    return machine, rows
+        least = rows.setdefault((row["shape"], row["measure"], row["ranges"]), row)
+        least.update({key: min(least[key], row[key]) for key, _, _, _ in CONTENDERS})
+    return machine, list(rows.values())
 
 
 def shown(ns):
