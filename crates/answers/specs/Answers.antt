@@ -1,10 +1,16 @@
 -- Answers in the paper's numbers, and outcomes: what a call answers and what it leaves in everything lent to it.
+use mathlib.Core.Path.{_≡_}
 use mathlib.Core.Bool.{Bool, true, false}
 use mathlib.Core.Option.{Option, none, some}
 use mathlib.Core.List.{List, [], _∷_}
 use Prim.Native.Nat.{ℕ, zero, suc, _-_}
 use lib.Dec.{eqb}
 use Rattle.entries.specs.Build.{pick}
+use Rattle.answers.specs.declared.Finding.{Finding}
+
+-- the highest number of the table of refusals: «15 NoSpace»
+abbrev pub lastNumber : ℕ
+lastNumber = 15
 
 -- given, with the values that the question asks for; or refused: «A refusal returns its number and a place.»
 pub data Answer : Type 0 where
@@ -24,6 +30,15 @@ abbrev pub judged : ℕ → ℕ → List (List ℕ) → Outcome → Outcome
 judged zero position lent x = x
 judged (suc v) position lent x = refuse (suc v) position lent
 
+-- a refusal that may apply: its place, and its number, or 0 where it does not apply
+abbrev pub at : ℕ → ℕ → Finding
+at place number = record { number = number; place = place }
+
+-- «If several apply, the first in this order is given»: the refusals that may apply, in their order, and what follows if none does
+abbrev pub inTurn : List Finding → List (List ℕ) → Outcome → Outcome
+inTurn [] lent x = x
+inTurn (f ∷ fs) lent x = judged (f .number) (f .place) lent (inTurn fs lent x)
+
 -- what an answer from a verdict says: 0, accepted with no value
 abbrev pub numberSays : ℕ → ℕ → Answer
 numberSays zero place = given []
@@ -42,3 +57,12 @@ optional none = given []
 -- «empty, or the size less one»
 abbrev pub lessOne : ℕ → Answer
 lessOne n = pick (eqb n 0) (given []) (given ((n - 1) ∷ []))
+
+-- a test that gives a refusal's number where it holds, and 0 where it does not
+abbrev pub applies : Bool → ℕ → ℕ
+applies t number = pick t number 0
+
+-- «It changes nothing lent to the call»: a refused outcome leaves what was lent
+abbrev pub Keeps : List (List ℕ) → Outcome → Type 0
+Keeps lent (outcome (given xs) after) = Unit {0}
+Keeps lent (outcome (refused n p) after) = after ≡ lent

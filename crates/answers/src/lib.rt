@@ -27,6 +27,12 @@ pub struct Refusal {
     pub place: usize,
 }
 
+// A refusal that may apply, as code finds it: its number in the table, or 0 where it does not apply, and its place.
+pub struct Finding {
+    pub number: u8,
+    pub place: usize,
+}
+
 // Whether a call was accepted; the answer of a change, and of the companion of a question that hands back a part.
 pub enum Judged {
     Accepted,

@@ -7,6 +7,7 @@ use lib.Dec.{leb, ltb, eqb}
 use lib.ListN.{length, getD, take, drop, replicate}
 use Rattle.entries.specs.Entries.{Entry, entry, Sound}
 use Rattle.entries.specs.Build.{pick, andb, sameWords}
+use Rattle.blocks.specs.declared.Layout.{Layout}
 
 -- the limits of 01 on the number of ranges of a set and of entries of a map
 abbrev pub setLimit : ℕ
@@ -14,6 +15,17 @@ setLimit = 4095
 
 abbrev pub mapLimit : ℕ
 mapLimit = 2730
+
+-- how a block is laid out: the words an item takes, and the limit on the number of items
+abbrev pub layout : ℕ → ℕ → Layout
+layout s limit = record { width = s; limit = limit }
+
+-- the layouts of 01's two kinds of blocks
+abbrev pub setLayout : Layout
+setLayout = layout 2 setLimit
+
+abbrev pub mapLayout : Layout
+mapLayout = layout 3 mapLimit
 
 -- «capacity for L words, L at least 1 | lesser of floor((L-1)/2) and 4,095 | lesser of floor((L-1)/3) and 2,730»
 abbrev pub capacity : ℕ → ℕ → ℕ → ℕ

@@ -7,6 +7,23 @@ ghost use Rattle.entries.specs.Build.{sameWords};
 ghost use Rattle.blocks.specs.Blocks.{itemsOf, capacity, fine, soundb, verdict};
 ghost use Rattle.blocks.specs.Steps.{itemFrom, Held, FirstFrom, Copied, Cleared, Spliced};
 
+// How a block is laid out: the words an item takes, and the most items that it holds.
+pub struct Layout {
+    pub width: usize,
+    pub limit: usize,
+}
+
+// A set: low and high of each range. A map: low, high and value of each entry.
+pub const SET: Layout = Layout {
+    width: 2,
+    limit: 4095,
+};
+
+pub const MAP: Layout = Layout {
+    width: 3,
+    limit: 2730,
+};
+
 // The most ranges of a set, and the most entries of a map.
 pub const SET_LIMIT: usize = 4095;
 

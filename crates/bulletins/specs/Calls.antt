@@ -7,18 +7,9 @@ use lib.ListN.{length}
 use Rattle.entries.specs.Entries.{Entry}
 use Rattle.entries.specs.Build.{pick}
 use Rattle.entries.specs.Bulletins.{amended, shareb}
-use Rattle.answers.specs.Answers.{Outcome, outcome, given, judged}
+use Rattle.answers.specs.Answers.{Outcome, outcome, given, at, inTurn}
 use Rattle.blocks.specs.Blocks.{setLimit, capacity, entriesOf, blockOf, verdict}
-use Rattle.bulletins.specs.declared.Finding.{Finding}
-
--- a refusal that may apply: its place, and its number, or 0 where it does not apply
-abbrev pub at : ℕ → ℕ → Finding
-at place number = record { number = number; place = place }
-
--- «If several apply, the first in this order is given»
-abbrev pub inTurn : List Finding → List (List ℕ) → Outcome → Outcome
-inTurn [] lent x = x
-inTurn (f ∷ fs) lent x = judged (f .number) (f .place) lent (inTurn fs lent x)
+use Rattle.answers.specs.declared.Finding.{Finding}
 
 -- «for each input block in turn 1, 2, 3»
 abbrev pub input : ℕ → List ℕ → Finding

@@ -2,23 +2,10 @@
 use mathlib.Core.Path.{_≡_}
 use mathlib.Core.List.{List, [], _∷_}
 use Prim.Native.Nat.{ℕ, _≤_, _<_}
-use Rattle.answers.specs.Answers.{Outcome, judged}
 use Rattle.entries.specs.Bulletins.{amended}
 use Rattle.blocks.specs.Blocks.{entriesOf}
 use Rattle.sweeps.specs.Sweeps.{Input, Inputs}
-use Rattle.bulletins.specs.declared.Finding.{Finding}
-use Rattle.bulletins.specs.Calls.{inTurn, noRoom}
-
--- no refusal applies
-abbrev pub Clear : List Finding → Type 0
-Clear [] = Unit {0}
-Clear (f ∷ fs) = (f .number ≡ 0) × Clear fs
-
--- r is the first of fs that applies, or none of them does and its number is 0
-pub record FirstOf (fs : List Finding) (r : Finding) : Type 0 where
-  pub turn : (lent : List (List ℕ)) (x : Outcome) → judged (r .number) (r .place) lent x ≡ inTurn fs lent x
-  pub clear : r .number ≡ 0 → Clear fs
-  pub small : r .number ≤ 15
+use Rattle.bulletins.specs.Calls.{noRoom}
 
 -- two judged sets
 pub record Two (a b : List ℕ) : Type 0 where

@@ -5,23 +5,19 @@ ghost use mathlib.Core.List.{[], _∷_};
 ghost use Prim.Native.Nat.{_+_, _<_};
 ghost use lib.ListN.{length};
 ghost use Rattle.entries.specs.Bulletins.{amended};
-ghost use Rattle.answers.specs.Answers.{outcome};
+ghost use Rattle.answers.specs.Answers.{outcome, at};
+ghost use Rattle.answers.specs.Steps.{FirstOf};
 ghost use Rattle.answers.specs.Says.{judgedSays};
 ghost use Rattle.blocks.specs.Blocks.{entriesOf, blockOf};
 ghost use Rattle.sweeps.specs.Sweeps.{Inputs};
-ghost use Rattle.bulletins.specs.Calls.{at, input, noBlock, overlap, noRoom, applyRefusals, applyCall, foldRefusals, foldCall};
-ghost use Rattle.bulletins.specs.Steps.{FirstOf, Two, Folds, Writes};
+ghost use Rattle.bulletins.specs.Calls.{input, noBlock, overlap, noRoom, applyRefusals, applyCall, foldRefusals, foldCall};
+ghost use Rattle.bulletins.specs.Steps.{Two, Folds, Writes};
+use answers::Finding;
 use answers::Judged;
 use sweeps::Plan;
 
 // The table of the sweep: bit a + 2b + 4c says whether a number is kept that is in the first (a), second (b) and third set (c).
 const WITHOUT_THIRD_JOINED_WITH_SECOND: u8 = 206;
-
-// A refusal's number and place; the number is 0 where there is none.
-pub struct Finding {
-    pub number: u8,
-    pub place: usize,
-}
 
 // 1 for an output of no words, else 0.
 fn no_block(words: usize) -> u8

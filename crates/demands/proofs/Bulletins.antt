@@ -17,18 +17,18 @@ use Rattle.entries.specs.Bulletins.{amended, shareb}
 use Rattle.entries.proofs.Values.{true≢false}
 use Rattle.entries.proofs.Plain.{set-canonical}
 use Rattle.entries.proofs.Bulletins.{amend, Apart, apart-sym, amended-is, amended-amended, amended-apart, amended-swap, effect-released, effect-withdrawn}
-use Rattle.answers.specs.Answers.{given, Outcome, outcome}
+use Rattle.answers.specs.Answers.{given, Outcome, outcome, Keeps, inTurn}
 use Rattle.blocks.specs.Blocks.{setLimit, entriesOf, blockOf, verdict}
 use Rattle.blocks.proofs.Judging.{verdict-sound, room}
 use Rattle.blocks.proofs.Canonical.{Zeros, entries-stored, length-stored, sound-stored, plain-shaped}
 use Rattle.sets.proofs.Asking.{entries-plain}
 use Rattle.sweeps.proofs.Tables.{bounded}
-use Rattle.bulletins.specs.Calls.{inTurn, noBlock, overlap, noRoom, applyRefusals, applyCall, foldRefusals, foldCall}
-use Rattle.bulletins.specs.Steps.{Clear}
+use Rattle.bulletins.specs.Calls.{noBlock, overlap, noRoom, applyRefusals, applyCall, foldRefusals, foldCall}
+use Rattle.answers.specs.Steps.{Clear}
 use Rattle.bulletins.proofs.Amending.{some-words, room-fits}
-use Rattle.demands.proofs.Accepting.{Keeps, judged-keeps, judged-accepted, SetLeft}
+use Rattle.answers.proofs.Turns.{turn-keeps, turn-accepted, clear-turn, clear-at}
+use Rattle.demands.proofs.Accepting.{SetLeft}
 use Rattle.demands.proofs.Sets.{one-form, disjoint-means, means-disjoint}
-use Rattle.bulletins.specs.declared.Finding.{Finding}
 
 -- accepted, with the words of each output as they then are
 abbrev pub accepted : List (List ℕ) → Outcome
@@ -41,28 +41,13 @@ pub record Bulletin (released withdrawn : List ℕ) : Type 0 where
   pub apart : Apart (entriesOf 2 released) (entriesOf 2 withdrawn)
 
 -- REFUSED: nothing lent is changed
-turn-keeps : (fs : List Finding) (lent : List (List ℕ)) (after : List (List ℕ)) → Keeps lent (inTurn fs lent (accepted after))
-turn-keeps [] lent after = tt
-turn-keeps (f ∷ fs) lent after = judged-keeps (f .number) (f .place) lent (inTurn fs lent (accepted after)) (turn-keeps fs lent after)
-
 pub apply-keeps : (list released withdrawn out : List ℕ) → Keeps (out ∷ []) (applyCall list released withdrawn out)
 unfolding applyCall
-apply-keeps list released withdrawn out = turn-keeps (applyRefusals list released withdrawn (length out)) (out ∷ []) _
+apply-keeps list released withdrawn out = turn-keeps (applyRefusals list released withdrawn (length out)) (out ∷ []) _ tt
 
 pub fold-keeps : (r₁ w₁ r₂ w₂ outR outW : List ℕ) → Keeps (outR ∷ outW ∷ []) (foldCall r₁ w₁ r₂ w₂ outR outW)
 unfolding foldCall
-fold-keeps r₁ w₁ r₂ w₂ outR outW = turn-keeps (foldRefusals r₁ w₁ r₂ w₂ (length outR) (length outW)) (outR ∷ outW ∷ []) _
-
--- ACCEPTED: no refusal applies, and then it is
-turn-accepted : (fs : List Finding) (lent : List (List ℕ)) (x : Outcome) (after : List (List ℕ)) → inTurn fs lent x ≡ accepted after → Clear fs × (x ≡ accepted after)
-turn-accepted [] lent x after e = (tt, e)
-turn-accepted (f ∷ fs) lent x after e =
-    let j = judged-accepted (f .number) (f .place) lent (inTurn fs lent x) [] after e in
-    let k = turn-accepted fs lent x after (j .1) in ((j .0, k .0), k .1)
-
-clear-turn : (fs : List Finding) (lent : List (List ℕ)) (x : Outcome) → Clear fs → inTurn fs lent x ≡ x
-clear-turn [] lent x c = refl
-clear-turn (f ∷ fs) lent x c = rw (c .0) (clear-turn fs lent x (c .1))
+fold-keeps r₁ w₁ r₂ w₂ outR outW = turn-keeps (foldRefusals r₁ w₁ r₂ w₂ (length outR) (length outW)) (outR ∷ outW ∷ []) _ tt
 
 overlap-apart : (r w : List Entry) → overlap r w ≡ 0 → Apart r w
 unfolding overlap shareb
@@ -105,7 +90,7 @@ record Applied (list released withdrawn out after : List ℕ) : Type 0 where
 applied : (list released withdrawn out after : List ℕ) → applyCall list released withdrawn out ≡ accepted (after ∷ []) → Applied list released withdrawn out after
 unfolding applyCall
 applied list released withdrawn out after e =
-    let k = turn-accepted (applyRefusals list released withdrawn (length out)) (out ∷ []) _ (after ∷ []) e in record { clear = k .0; words = same _ (k .1) }
+    let k = turn-accepted (applyRefusals list released withdrawn (length out)) (out ∷ []) _ [] (after ∷ []) e in record { clear = k .0; words = same _ (k .1) }
   where
     same : (l : List ℕ) → outcome (given []) (l ∷ []) ≡ accepted (after ∷ []) → after ≡ l
     same l d = cc
@@ -119,7 +104,7 @@ record Folded (r₁ w₁ r₂ w₂ outR outW R W : List ℕ) : Type 0 where
 folded : (r₁ w₁ r₂ w₂ outR outW R W : List ℕ) → foldCall r₁ w₁ r₂ w₂ outR outW ≡ accepted (R ∷ W ∷ []) → Folded r₁ w₁ r₂ w₂ outR outW R W
 unfolding foldCall
 folded r₁ w₁ r₂ w₂ outR outW R W e =
-    let k = turn-accepted (foldRefusals r₁ w₁ r₂ w₂ (length outR) (length outW)) (outR ∷ outW ∷ []) _ (R ∷ W ∷ []) e in record { clear = k .0; released = first _ _ (k .1); withdrawn = second _ _ (k .1) }
+    let k = turn-accepted (foldRefusals r₁ w₁ r₂ w₂ (length outR) (length outW)) (outR ∷ outW ∷ []) _ [] (R ∷ W ∷ []) e in record { clear = k .0; released = first _ _ (k .1); withdrawn = second _ _ (k .1) }
   where
     first : (l m : List ℕ) → outcome (given []) (l ∷ m ∷ []) ≡ accepted (R ∷ W ∷ []) → R ≡ l
     first l m d = cc

@@ -6,7 +6,7 @@ use Prim.Native.Nat.{ℕ, _+_, _*_, _-_, _≤_, _<_}
 use lib.Dec.{ltb, eqb}
 use lib.ListN.{length, take, drop}
 use Rattle.entries.specs.Entries.{Entry}
-use Rattle.answers.specs.Answers.{Answer, given, refused, Outcome, outcome, refuse}
+use Rattle.answers.specs.Answers.{Answer, given, refused, Outcome, outcome, refuse, Keeps}
 use Rattle.blocks.specs.Blocks.{setLimit, mapLimit, capacity, entriesOf, blockOf, verdict}
 use Rattle.blocks.proofs.Words.{Shaped}
 use Rattle.records.specs.Numbers.{Bytes, patch}
@@ -18,7 +18,8 @@ use Rattle.entries.specs.Bulletins.{shareb}
 use Rattle.bulletin_forms.specs.Bulletins.{bulletinForm, releasedIn, withdrawnIn, bulletinVerdict}
 use Rattle.bulletin_forms.specs.Calls.{readTwo, readBulletinCall, writeBulletinCall}
 use Rattle.bulletin_forms.proofs.Bulletins as of-bulletins
-use Rattle.demands.proofs.Accepting.{Keeps, judged-keeps, pick-keeps, stored-keeps}
+use Rattle.answers.proofs.Turns.{judged-keeps}
+use Rattle.demands.proofs.Accepting.{pick-keeps, stored-keeps}
 
 -- «accepts exactly the byte forms»: what is accepted is the byte form of the entries read, which are sound, in shape, and within the limit
 pub set-accepted : (b : List ℕ) → Bytes b → formVerdict 0x01 0x10 2 setLimit b ≡ given [] → sets-and-maps.Formed 0x01 0x10 2 setLimit b (formEntries 2 b)

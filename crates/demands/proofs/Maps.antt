@@ -17,16 +17,18 @@ use Rattle.entries.specs.Sets.{has, member}
 use Rattle.entries.specs.Maps.{keepIf, overlay, restriction, domain}
 use Rattle.entries.proofs.Limits.{domain-lists}
 use Rattle.answers.specs.Answers.{given, outcome}
-use Rattle.blocks.specs.Blocks.{mapLimit, entriesOf, blockOf, verdict}
+use Rattle.blocks.specs.Blocks.{mapLimit, entriesOf, blockOf, verdict, setLayout, mapLayout}
 use Rattle.blocks.proofs.Judging.{verdict-sound}
 use Rattle.blocks.proofs.Canonical.{Zeros, block-is, listed-shaped, shaped-value}
 use Rattle.entries.proofs.Canon.{canonical, none≢some}
 use Rattle.blocks.proofs.Words.{Shaped}
 use Rattle.edits.specs.Calls.{editCall}
-use Rattle.operations.specs.Calls.{Layout, setLayout, mapLayout, fromTwo}
+use Rattle.blocks.specs.declared.Layout.{Layout}
+use Rattle.operations.specs.Calls.{fromTwo}
 use Rattle.maps.specs.Calls.{assignCall, eraseCall, overlayCall, restrictionCall, domainCall}
 use Rattle.operations.proofs.Making.{entries-shaped}
-use Rattle.demands.proofs.Accepting.{judged-accepted, picked-accepted, Left, stored-left, SetLeft, set-left}
+use Rattle.answers.proofs.Turns.{judged-accepted}
+use Rattle.demands.proofs.Accepting.{picked-accepted, Left, stored-left, SetLeft, set-left}
 use Rattle.entries.proofs.Sets.{set-of}
 use Rattle.entries.proofs.Questions.{within}
 

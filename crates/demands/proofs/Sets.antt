@@ -11,7 +11,9 @@ use lib.ListN.{length}
 use borrow.Author.Tests.{eqb-false}
 use Rattle.entries.proofs.Plain.{mark-empty, set-canonical, listed-plain, plain-marks}
 use Rattle.entries.proofs.Sets.{has-mark, SetOf, union-is, intersection-is, difference-is, symmetric-is, complement-is}
-use Rattle.operations.specs.Calls.{Layout, fromTwo, fromOne, setLayout}
+use Rattle.blocks.specs.declared.Layout.{Layout}
+use Rattle.blocks.specs.Blocks.{setLayout, setLimit, entriesOf, blockOf, verdict}
+use Rattle.operations.specs.Calls.{fromTwo, fromOne}
 use Rattle.entries.specs.Entries.{Value, Entry, valueAt}
 use Rattle.entries.specs.Build.{pick, andb, put, with}
 use Rattle.entries.specs.Sets.{has, mark, M, Plain, member, orb, lessb, xorb, union, intersection, difference, symmetricDifference, complement}
@@ -19,15 +21,15 @@ use Rattle.entries.specs.Questions.{isEmpty}
 use Rattle.entries.proofs.Put.{put-is}
 use Rattle.entries.proofs.Questions.{empty-none, none-empty, within}
 use Rattle.entries.proofs.Values.{true≢false}
-use Rattle.answers.specs.Answers.{given, outcome, refuse}
-use Rattle.blocks.specs.Blocks.{setLimit, entriesOf, blockOf, verdict}
+use Rattle.answers.specs.Answers.{given, outcome, refuse, Keeps}
 use Rattle.blocks.proofs.Judging.{verdict-sound}
 use Rattle.blocks.proofs.Canonical.{Zeros, block-is}
 use Rattle.blocks.specs.Calls.{stored}
 use Rattle.edits.specs.Calls.{editCall}
 use Rattle.sets.specs.Calls.{insertCall, removeCall, makeEmptyCall, unionCall, intersectionCall, differenceCall, symmetricDifferenceCall, complementCall}
 use Rattle.sets.proofs.Asking.{entries-plain}
-use Rattle.demands.proofs.Accepting.{Keeps, judged-keeps, pick-keeps, stored-keeps, judged-accepted, picked-accepted, SetLeft, set-left}
+use Rattle.answers.proofs.Turns.{judged-keeps, judged-accepted}
+use Rattle.demands.proofs.Accepting.{pick-keeps, stored-keeps, picked-accepted, SetLeft, set-left}
 
 -- «One set has one stored form»: two sound blocks of the same length that name the same numbers and have zeros after have the same words
 pub one-form : (w v : List ℕ) → verdict 2 setLimit w ≡ 0 → verdict 2 setLimit v ≡ 0 → length w ≡ length v → Zeros 2 w → Zeros 2 v → ((x : ℕ) → member (entriesOf 2 w) x ≡ member (entriesOf 2 v) x) → w ≡ v

@@ -7,10 +7,10 @@ use Rattle.entries.specs.Build.{pick}
 use Rattle.entries.specs.Sets.{has}
 use Rattle.entries.specs.Maps.{overlay, restriction, domain}
 use Rattle.answers.specs.Answers.{Answer, given, refused, Outcome, outcome, judged}
-use Rattle.blocks.specs.Blocks.{mapLimit, entriesOf, verdict}
+use Rattle.blocks.specs.Blocks.{mapLimit, entriesOf, verdict, setLayout, mapLayout}
 use Rattle.edits.specs.Calls.{editCall}
 use Rattle.searches.specs.Calls.{windowCall, windowRefusalCall, entryPart}
-use Rattle.operations.specs.Calls.{setLayout, mapLayout, fromTwo, fromOne}
+use Rattle.operations.specs.Calls.{fromTwo, fromOne}
 
 -- a value's words, or none
 abbrev pub worth : Option Value → Answer

@@ -20,7 +20,8 @@ use Rattle.blocks.specs.Calls.{stored, writable}
 use Rattle.blocks.proofs.Judging.{verdict-sound, room, verdict-most}
 use Rattle.blocks.proofs.Words.{Shaped, items-shaped, items-length}
 use Rattle.sweeps.proofs.Tables.{none-input, input, bounded}
-use Rattle.operations.specs.Calls.{Layout, fromTwo, fromOne}
+use Rattle.blocks.specs.declared.Layout.{Layout}
+use Rattle.operations.specs.Calls.{fromTwo, fromOne}
 use Rattle.operations.specs.Steps.{AnyOk, StoreOk, Wrote, TwoFit, OneFit}
 
 -- a result within the capacity has its words

@@ -3,23 +3,9 @@ use mathlib.Core.List.{List, [], _∷_}
 use Prim.Native.Nat.{ℕ}
 use Rattle.entries.specs.Entries.{Entry}
 use Rattle.answers.specs.Answers.{Outcome, judged}
-use Rattle.blocks.specs.Blocks.{setLimit, mapLimit, entriesOf, verdict}
+use Rattle.blocks.specs.declared.Layout.{Layout}
+use Rattle.blocks.specs.Blocks.{entriesOf, verdict}
 use Rattle.blocks.specs.Calls.{stored, writable}
-
--- how a block is laid out: the words an item takes, and the limit on the number of items
-pub record Layout : Type 0 where
-  pub width : ℕ
-  pub limit : ℕ
-
-abbrev pub layout : ℕ → ℕ → Layout
-layout s limit = record { width = s; limit = limit }
-
--- the layouts of 01's two kinds of blocks
-abbrev pub setLayout : Layout
-setLayout = layout 2 setLimit
-
-abbrev pub mapLayout : Layout
-mapLayout = layout 3 mapLimit
 
 -- From two inputs: «for each input block in turn 1, 2, 3; then 1 for each output in turn; then .. 5 for each output in turn».
 -- «Positions count the lent word blocks from 0, inputs first in the order written here, then outputs.»

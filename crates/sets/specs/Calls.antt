@@ -10,10 +10,10 @@ use Rattle.entries.specs.Build.{pick}
 use Rattle.entries.specs.Sets.{M, member, union, intersection, difference, symmetricDifference, complement}
 use Rattle.entries.specs.Questions.{rangeAt, sizeOf, leastMember, leastFree, isEmpty}
 use Rattle.answers.specs.Answers.{Answer, given, Outcome, outcome, judged, truth, optional, lessOne}
-use Rattle.blocks.specs.Blocks.{setLimit, entriesOf, blockOf, verdict}
+use Rattle.blocks.specs.Blocks.{setLimit, entriesOf, blockOf, verdict, setLayout}
 use Rattle.blocks.specs.Calls.{writable}
 use Rattle.edits.specs.Calls.{editCall}
-use Rattle.operations.specs.Calls.{setLayout, fromTwo, fromOne}
+use Rattle.operations.specs.Calls.{fromTwo, fromOne}
 use Rattle.searches.specs.Calls.{windowCall, windowRefusalCall}
 
 -- a question about a set: 1, 2, 3 of its block, then the answer

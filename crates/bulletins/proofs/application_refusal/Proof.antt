@@ -4,7 +4,7 @@ use lib.ListN.{take, drop}
 use Rattle.entries.specs.Bulletins.{amended}
 use Rattle.blocks.specs.Blocks.{entriesOf}
 use Rattle.bulletins.specs.Calls.{overlap, noRoom, applyRefusals}
-use Rattle.bulletins.proofs.Turns.{stops, passes, ends, stops-in, passes-in}
+use Rattle.answers.proofs.Turns.{stops, passes, ends, stops-in, passes-in}
 use Rattle.bulletins.proofs.Amending.{judged-input, some-words, overlap-small, room-small}
 use native.Mathlib.Omega.{arith}
 use borrow.Author.Needs.{needs}

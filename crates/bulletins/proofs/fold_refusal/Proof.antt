@@ -3,7 +3,7 @@ use mathlib.Core.Path.{sym, _∙_}
 use lib.ListN.{take, drop}
 use Rattle.blocks.specs.Blocks.{entriesOf}
 use Rattle.bulletins.specs.Calls.{overlap, foldRefusals}
-use Rattle.bulletins.proofs.Turns.{stops, passes, stops-in, passes-in}
+use Rattle.answers.proofs.Turns.{stops, passes, stops-in, passes-in}
 use Rattle.bulletins.proofs.Amending.{judged-input, some-words, overlap-small}
 use native.Mathlib.Omega.{arith}
 use borrow.Author.Needs.{needs}

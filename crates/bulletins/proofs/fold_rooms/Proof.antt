@@ -3,7 +3,7 @@ use mathlib.Core.Path.{sym, _∙_}
 use Rattle.entries.specs.Bulletins.{amended}
 use Rattle.blocks.specs.Blocks.{entriesOf}
 use Rattle.bulletins.specs.Calls.{noRoom}
-use Rattle.bulletins.proofs.Turns.{stops, passes, ends}
+use Rattle.answers.proofs.Turns.{stops, passes, ends}
 use Rattle.bulletins.proofs.Amending.{room-small}
 use native.Mathlib.Omega.{arith}
 use borrow.Author.Needs.{needs}

@@ -2,7 +2,7 @@ use denote.Ref.{now}
 use mathlib.Core.Path.{sym, _∙_}
 use Prim.Native.Nat.{_+_}
 use Rattle.blocks.specs.Blocks.{verdict}
-use Rattle.bulletins.proofs.Turns.{stops, passes, ends}
+use Rattle.answers.proofs.Turns.{stops, passes, ends}
 use Rattle.bulletins.proofs.Amending.{verdict-small}
 use native.Mathlib.Omega.{arith}
 use borrow.Author.Needs.{needs}

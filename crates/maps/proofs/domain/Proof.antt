@@ -2,11 +2,10 @@ use denote.Ref.{now}
 use mathlib.Core.Path.{_∙_, refl}
 use mathlib.Core.List.{List, []}
 use Rattle.entries.specs.Entries.{Entry}
-use Rattle.blocks.specs.Blocks.{entriesOf}
+use Rattle.blocks.specs.Blocks.{entriesOf, setLayout, mapLayout}
 use Rattle.sweeps.specs.Sweeps.{result}
 use Rattle.entries.specs.Maps.{domain}
 use Rattle.sweeps.proofs.Tables.{domain-table, bounded}
-use Rattle.operations.specs.Calls.{setLayout, mapLayout}
 use Rattle.operations.proofs.Making.{one-as}
 use Rattle.maps.specs.Calls.{domainCall}
 use Rattle.maps.proofs.Operating.{domain-fit}

@@ -3,11 +3,10 @@ use mathlib.Core.Path.{_∙_, refl}
 use mathlib.Core.List.{List, []}
 use Rattle.entries.specs.Entries.{Entry}
 use Rattle.entries.specs.Sets.{complement}
-use Rattle.blocks.specs.Blocks.{entriesOf}
+use Rattle.blocks.specs.Blocks.{entriesOf, setLayout}
 use Rattle.sweeps.specs.Sweeps.{result}
 use Rattle.sweeps.proofs.Tables.{complement-table}
 use Rattle.operations.proofs.Making.{one-as}
-use Rattle.operations.specs.Calls.{setLayout}
 use Rattle.sets.specs.Calls.{complementCall}
 use Rattle.sets.proofs.Operating.{complement-fit}
 use native.Mathlib.Omega.{arith}

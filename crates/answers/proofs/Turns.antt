@@ -1,22 +1,23 @@
--- The first refusal that applies, put together from the tests of the code.
+-- Refusals in turn: the first that applies, put together from the tests of the code; and what an outcome that was accepted, or
+-- refused, says of all of them.
 use mathlib.Core.Path.{_≡_, refl, sym, _∙_, ap, ap₂}
+use mathlib.Core.Bool.{Bool, true, false}
 use mathlib.Core.List.{List, [], _∷_, _++_}
 use Prim.Native.Nat.{ℕ, zero, suc, _≤_}
 use native.Mathlib.Omega.{arith}
 use Rattle.answers.specs.declared.Judged.{Judged}
-use Rattle.answers.specs.Answers.{Answer, given, Outcome, outcome, judged, numberSays}
+use Rattle.answers.specs.Answers.{Answer, given, refused, Outcome, outcome, judged, numberSays, at, inTurn, lastNumber, applies, Keeps}
 use Rattle.answers.specs.Says.{judgedSays, judgedOf}
 use Rattle.answers.proofs.Numbers.{judged-says}
-use Rattle.bulletins.specs.declared.Finding.{Finding}
-use Rattle.bulletins.specs.Calls.{at, inTurn}
-use Rattle.bulletins.specs.Steps.{Clear, FirstOf}
+use Rattle.answers.specs.declared.Finding.{Finding}
+use Rattle.answers.specs.Steps.{Clear, FirstOf, numberAt}
 
 judged-again : (v p : ℕ) (lent : List (List ℕ)) (x y : Outcome) → (v ≡ 0 → ⊥) → judged v p lent x ≡ judged v p lent y
 judged-again zero p lent x y n = absurd (n refl)
 judged-again (suc v) p lent x y n = refl
 
 -- a test that refuses
-pub stops : (v k p : ℕ) (fs : List Finding) → v ≡ k → k ≤ 15 → (v ≡ 0 → ⊥) → FirstOf (at p k ∷ fs) (at p v)
+pub stops : (v k p : ℕ) (fs : List Finding) → v ≡ k → k ≤ lastNumber → (v ≡ 0 → ⊥) → FirstOf (at p k ∷ fs) (at p v)
 stops v k p fs e l n = record {
   turn = λ lent x. judged-again v p lent x (inTurn fs lent x) n ∙ ap (λ (m : ℕ). judged m p lent (inTurn fs lent x)) e;
   clear = λ z. absurd (n z);
@@ -32,7 +33,7 @@ passes k p fs r z f = record {
 }
 
 -- the last test
-pub ends : (v k p : ℕ) → v ≡ k → k ≤ 15 → FirstOf (at p k ∷ []) (at p v)
+pub ends : (v k p : ℕ) → v ≡ k → k ≤ lastNumber → FirstOf (at p k ∷ []) (at p v)
 ends v k p e l = record { turn = λ lent x. ap (λ (m : ℕ). judged m p lent x) e; clear = λ z. (sym e ∙ z, tt); small = omega arith }
 
 in-turn : (fs gs : List Finding) (lent : List (List ℕ)) (x : Outcome) → inTurn (fs ++ gs) lent x ≡ inTurn fs lent (inTurn gs lent x)
@@ -77,3 +78,47 @@ module _ (fs : List Finding) (r : Finding) (f : FirstOf fs r) (lent : List (List
 
 pub accepted-as : (place : ℕ) (x : Judged) (after due : List (List ℕ)) → x ≡ judgedOf 0 place → after ≡ due → outcome (judgedSays x) after ≡ outcome (given []) due
 accepted-as place x after due e q = ap₂ (λ (y : Judged) (l : List (List ℕ)). outcome (judgedSays y) l) e q
+
+-- REFUSED: nothing lent is changed
+pub judged-keeps : (v p : ℕ) (lent : List (List ℕ)) (o : Outcome) → Keeps lent o → Keeps lent (judged v p lent o)
+judged-keeps zero p lent o k = k
+judged-keeps (suc v) p lent o k = refl
+
+pub turn-keeps : (fs : List Finding) (lent : List (List ℕ)) (o : Outcome) → Keeps lent o → Keeps lent (inTurn fs lent o)
+turn-keeps [] lent o k = k
+turn-keeps (f ∷ fs) lent o k = judged-keeps (f .number) (f .place) lent (inTurn fs lent o) (turn-keeps fs lent o k)
+
+-- ACCEPTED: no refusal applies, and then it is
+pub refused≢given : {n p : ℕ} {l k : List (List ℕ)} {xs : List ℕ} → outcome (refused n p) l ≡ outcome (given xs) k → ⊥
+refused≢given e = let z : _≡_ {A = ℕ} 0 1 = cc in omega arith
+
+pub judged-accepted : (v p : ℕ) (lent : List (List ℕ)) (o : Outcome) (xs : List ℕ) (after : List (List ℕ))
+    → judged v p lent o ≡ outcome (given xs) after → (v ≡ 0) × (o ≡ outcome (given xs) after)
+judged-accepted zero p lent o xs after e = (refl, e)
+judged-accepted (suc v) p lent o xs after e = absurd (refused≢given e)
+
+pub turn-accepted : (fs : List Finding) (lent : List (List ℕ)) (o : Outcome) (xs : List ℕ) (after : List (List ℕ))
+    → inTurn fs lent o ≡ outcome (given xs) after → Clear fs × (o ≡ outcome (given xs) after)
+turn-accepted [] lent o xs after e = (tt, e)
+turn-accepted (f ∷ fs) lent o xs after e =
+    let j = judged-accepted (f .number) (f .place) lent (inTurn fs lent o) xs after e in
+    let k = turn-accepted fs lent o xs after (j .1) in ((j .0, k .0), k .1)
+
+pub clear-turn : (fs : List Finding) (lent : List (List ℕ)) (o : Outcome) → Clear fs → inTurn fs lent o ≡ o
+clear-turn [] lent o c = refl
+clear-turn (f ∷ fs) lent o c = rw (c .0) (clear-turn fs lent o (c .1))
+
+-- of refusals that are all clear, the one at index i
+pub clear-at : (fs : List Finding) → Clear fs → (i : ℕ) → numberAt fs i ≡ 0
+clear-at [] c i = refl
+clear-at (f ∷ fs) c zero = c .0
+clear-at (f ∷ fs) c (suc i) = clear-at fs (c .1) i
+
+-- a test that gives a number: it is clear exactly where it does not hold
+pub applies-clear : (t : Bool) (n : ℕ) → applies t (suc n) ≡ 0 → t ≡ false
+applies-clear true n e = absurd (omega arith)
+applies-clear false n e = refl
+
+pub applies-small : (t : Bool) (n : ℕ) → n ≤ lastNumber → applies t n ≤ lastNumber
+applies-small true n l = l
+applies-small false n l = omega arith
