@@ -1,4 +1,4 @@
-// The program over standard input: reads it as the byte form of a set, and writes its ranges or the refusal. What it writes is
+// The program: reads an input as the byte form of a set, and writes its ranges or the refusal to standard output. What it writes is
 // tested, not proved; all that it decides is decided by forms::read_set.
 use answers::Judged;
 use answers::Refusal;
@@ -47,10 +47,11 @@ fn refused(f: Refusal) {
     io::write_all(1, b"\n");
 }
 
-// At most 65,536 bytes of standard input, read into a block with room for the 3,120 ranges of the longest form of that size.
-pub fn run() {
+// Shows what stands in an open file: at most 65,536 bytes of it are read, into a block with room for the 3,120 ranges of the longest
+// form of that size; of a longer file it says so.
+pub fn run(input: i32) {
     let mut bytes = [0u8; 65537];
-    let n = io::read_full(0, &mut bytes);
+    let n = io::read_full(input, &mut bytes);
     if n > 65536 {
         io::write_all(1, b"input too long\n");
         return;
