@@ -14,6 +14,10 @@ toldIn (reply t lent) = t
 abbrev lentIn : Reply → List (List ℕ)
 lentIn (reply t lent) = lent
 
+-- what the code told of the case that it found is told of the answer
+pub as-told : {A : Type 0} (says : A → Answer) {a b : A} {t : Told} → t ≡ told (says b) → a ≡ b → t ≡ told (says a)
+as-told says e f = e ∙ ap (λ v. told (says v)) (sym f)
+
 -- an export's promise is one equation
 pub tells-reply : {r : Told} {lent : List (List ℕ)} {call : Outcome} → Tells r lent call → reply r lent ≡ inC call
 tells-reply {r} {lent} {call} t = ap (λ (s : Told). reply s lent) (t .as-told) ∙ ap inC (t .as-called)

@@ -2,10 +2,12 @@
 ghost use mathlib.Core.Path.{_≡_};
 ghost use mathlib.Core.List.{[], _∷_};
 ghost use Rattle.answers.specs.Answers.{given, refused};
-ghost use Rattle.answers.specs.Says.{judgedSays, truthSays, foundSays, rangedSays, sizedSays, placedSays, writtenSays, refusalSays};
+ghost use Rattle.answers.specs.Says.{judgedSays, truthSays, foundSays, rangedSays, sizedSays, partedSays, decidedSays, placedSays, writtenSays, refusalSays};
 ghost use Rattle.told.specs.Told.{told};
+use answers::Decided;
 use answers::Found;
 use answers::Judged;
+use answers::Parted;
 use answers::Placed;
 use answers::Ranged;
 use answers::Refusal;
@@ -153,6 +155,30 @@ pub fn tell_sized(a: Sized) -> Told
         Sized::Empty => accepted(),
         Sized::LessOne(n) => one_value(n),
         Sized::Refused(f) => tell_refusal(f),
+    }
+}
+
+// A part of a block, as its offset and its length, or none.
+pub fn tell_parted(a: Parted) -> Told
+    ensures { λ r. ⌜ r ≡ told (partedSays a) ⌝ }
+{
+    match a {
+        Parted::Part(place, words) => two_values(place as u64, words as u64),
+        Parted::Nothing => accepted(),
+        Parted::Refused(f) => tell_refusal(f),
+    }
+}
+
+// The deciding entry, as the offset and the length of its part and the position of its block, or none.
+pub fn tell_decided(a: Decided) -> Told
+    ensures { λ r. ⌜ r ≡ told (decidedSays a) ⌝ }
+{
+    match a {
+        Decided::Entry(place, words, position) => {
+            three_values(place as u64, words as u64, position as u64)
+        }
+        Decided::Nothing => accepted(),
+        Decided::Refused(f) => tell_refusal(f),
     }
 }
 
