@@ -1,6 +1,10 @@
-use mathlib.Core.Path.{sym, _∙_}
+use mathlib.Core.List.{[]}
+use Rattle.answers.specs.Answers.{at}
+use Rattle.answers.proofs.Turns.{refused-part, given-part}
+use Rattle.searches.specs.Calls.{windowPart, windowRefusals, windowCall}
+use mathlib.Core.Path.{_∙_}
 use denote.Ref.{now}
-use Rattle.searches.proofs.Windows.{judged-window, call-empty, call-part}
+use Rattle.searches.proofs.Windows.{clear-window}
 use native.Mathlib.Omega.{arith}
 use borrow.Author.Needs.{needs}
 use Rattle.searches.proofs.window.Statement.{statement}
@@ -23,13 +27,27 @@ part-result-end : tie.Need-part-result-end
 part-result-end c = search needs
 
 returns : tie.Need-returns
-returns c = call-empty _ _ _ _ _ (λ z. c .before .if1 .taken (c .before .before .window-verdict .ensures ∙ z))
+unfolding windowCall
+returns c =
+    let v = c .before .before in
+    let a = v .before .before in
+    refused-part (windowRefusals (a .args .layout) (now (a .args .block)) (a .args .a) (a .args .b)) (at 0 (v .window-verdict .result))
+    (v .window-verdict .ensures) [] [] [] (windowPart (a .args .layout .width) (now (a .args .block)) (a .args .a) (a .args .b)) (c .before .if1 .taken)
 
 meeting-requires : tie.Need-meeting-requires
-meeting-requires c κs = let a = c .before .before .before in judged-window (a .args .s) (a .args .limit) (now (a .args .block)) (a .args .a) (a .args .b) (a .pre) (sym (c .before .window-verdict .ensures) ∙ c .if1 .left)
+meeting-requires c κs =
+    let v = c .before in
+    let a = v .before .before in
+    clear-window (a .args .layout) (now (a .args .block)) (a .args .a) (a .args .b) (a .pre) (v .window-verdict .ensures .clear (c .if1 .left))
 
 returns-2 : tie.Need-returns-2
-returns-2 c = c .meeting .ensures ∙ call-part _ _ _ _ _ (sym (c .before .before .window-verdict .ensures) ∙ c .before .if1 .left)
+unfolding windowCall
+returns-2 c =
+    let v = c .before .before in
+    let a = v .before .before in
+    c .meeting .ensures
+    ∙ given-part (windowRefusals (a .args .layout) (now (a .args .block)) (a .args .a) (a .args .b)) (at 0 (v .window-verdict .result))
+    (v .window-verdict .ensures) [] [] [] (windowPart (a .args .layout .width) (now (a .args .block)) (a .args .a) (a .args .b)) (c .before .if1 .left)
 
 pub window-spec : {M : Type 1} → statement M
 window-spec =

@@ -13,7 +13,7 @@ use Rattle.blocks.specs.Blocks.{itemsOf}
 use Rattle.entries.specs.Build.{pick}
 use Rattle.entries.specs.Bulletins.{shareb}
 use Rattle.entries.proofs.Values.{true≢false}
-use Rattle.operations.proofs.Sharing.{crossb, cross-none, cross-left, cross-right, cross-found, cross-share}
+use Rattle.searches.proofs.Sharing.{crossb, cross-none, cross-left, cross-right, cross-found, cross-share}
 
 -- the code's test whether two answers are the same
 pub same-answer : (t u : Bool) → Bool·beq t u ≡ true → t ≡ u
