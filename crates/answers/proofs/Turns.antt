@@ -8,7 +8,7 @@ use native.Mathlib.Omega.{arith}
 use Rattle.answers.specs.declared.Judged.{Judged}
 use Rattle.answers.specs.Answers.{Answer, given, refused, Outcome, outcome, judged, numberSays, at, inTurn, lastNumber, applies, handed, Keeps}
 use Rattle.answers.specs.Says.{judgedSays, judgedOf}
-use Rattle.answers.proofs.Numbers.{judged-says}
+use Rattle.answers.proofs.Numbers.{judged-says, Small, judged-small}
 use Rattle.answers.specs.declared.Finding.{Finding}
 use Rattle.answers.specs.Steps.{Clear, FirstOf, numberAt, placeAt, Applies, Named}
 
@@ -101,6 +101,15 @@ judged-keeps (suc v) p lent o k = refl
 pub turn-keeps : (fs : List Finding) (lent : List (List ℕ)) (o : Outcome) → Keeps lent o → Keeps lent (inTurn fs lent o)
 turn-keeps [] lent o k = k
 turn-keeps (f ∷ fs) lent o k = judged-keeps (f .number) (f .place) lent (inTurn fs lent o) (turn-keeps fs lent o k)
+
+-- every number is one of the table, and so is that of the outcome
+abbrev pub AllSmall : List Finding → Type 0
+AllSmall [] = Unit {0}
+AllSmall (f ∷ fs) = (f .number ≤ lastNumber) × AllSmall fs
+
+pub turn-small : (fs : List Finding) (lent : List (List ℕ)) (o : Outcome) → AllSmall fs → Small o → Small (inTurn fs lent o)
+turn-small [] lent o a s = s
+turn-small (f ∷ fs) lent o a s = judged-small (f .number) (f .place) lent (inTurn fs lent o) (a .0) (turn-small fs lent o (a .1) s)
 
 -- ACCEPTED: no refusal applies, and then it is
 pub refused≢given : {n p : ℕ} {l k : List (List ℕ)} {xs : List ℕ} → outcome (refused n p) l ≡ outcome (given xs) k → ⊥

@@ -25,7 +25,8 @@ after-true : (p q : Entry) → afterb p q ≡ true → After p q
 after-true p q h =
     let k = and-true (ltb (p .high) (q .low)) (not (andb (eqb (q .low) (suc (p .high))) (sameWords (p .value) (q .value)))) h in (
       ltb-true (p .high) (q .low) (k .0),
-      λ e. words-false (p .value) (q .value) (not-and (eqb (q .low) (suc (p .high))) (sameWords (p .value) (q .value)) (k .1) (eq-eqb (q .low) (suc (p .high)) e)),
+      λ e. words-false (p .value) (q .value)
+          (not-and (eqb (q .low) (suc (p .high))) (sameWords (p .value) (q .value)) (k .1) (eq-eqb (q .low) (suc (p .high)) e)),
     )
 
 true-after : (p q : Entry) → After p q → afterb p q ≡ true

@@ -4,7 +4,7 @@ use Prim.Native.Nat.{ℕ}
 use lib.Dec.{ltb, eqb}
 use lib.ListN.{length}
 use Rattle.entries.specs.Entries.{Entry}
-use Rattle.answers.specs.Answers.{Outcome, outcome, given, at, applies}
+use Rattle.answers.specs.Answers.{Outcome, outcome, given, at, applies, inTurn}
 use Rattle.answers.specs.declared.Finding.{Finding}
 use Rattle.blocks.specs.declared.Layout.{Layout}
 use Rattle.blocks.specs.Blocks.{capacity, blockOf, verdict}
@@ -29,3 +29,7 @@ room position l words es = at position (applies (ltb (capacity l words) (length 
 -- accepted with no value, and the block w says es
 abbrev pub holding : List ℕ → List Entry → Outcome
 holding w es = outcome (given []) (blockOf (length w) es ∷ [])
+
+-- what remains of a call that has only room left to judge: es into the block w at a position
+abbrev pub stored : ℕ → Layout → List ℕ → List Entry → Outcome
+stored position l w es = inTurn (room position l (length w) es ∷ []) (w ∷ []) (holding w es)

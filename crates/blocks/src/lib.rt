@@ -1,6 +1,6 @@
 // Blocks of words: judged, and moved within. A layout says how many words an item takes, two in a set and three in a map.
 ghost use mathlib.Core.Path.{_≡_};
-ghost use Prim.Native.Nat.{ℕ, _+_, _*_, _<_, _≤_};
+ghost use Prim.Native.Nat.{_+_, _<_, _≤_};
 ghost use mathlib.Core.List.{[], _∷_};
 ghost use lib.ListN.{length, getD, take, drop};
 ghost use Rattle.entries.specs.Build.{pick, sameWords};
@@ -213,7 +213,8 @@ pub fn clear(block: &mut [u64], from: usize)
 // new. Then count is word 0, and every word behind them is 0.
 pub fn splice(block: &mut [u64], new: &[u64], at: usize, from: usize, end: usize, count: u64)
     requires { ⌜ (0 < at) × (from ≤ end) × (end ≤ length (now block)) × (end + at + length (now new) ≤ length (now block) + from) ⌝ }
-    ensures { λ _. ⌜ (length (now (block .exit)) ≡ length (now (block .entry))) × Spliced (now (block .entry)) (now (new .entry)) at from end count (now (block .exit)) ⌝ }
+    ensures { λ _. ⌜ (length (now (block .exit)) ≡ length (now (block .entry)))
+        × Spliced (now (block .entry)) (now (new .entry)) at from end count (now (block .exit)) ⌝ }
 {
     let to = at + new.len();
     let len = end - from;

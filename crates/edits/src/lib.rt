@@ -1,18 +1,18 @@
-// One edit in place for sets and maps: an entry put in, or a range taken out, of a block of s words an item.
+// One edit in place for sets and maps: an entry put into a block of any layout, or a range taken out of it.
 ghost use mathlib.Core.Path.{_≡_};
 ghost use mathlib.Core.Option.{none, some};
-ghost use Prim.Native.Nat.{ℕ, suc, _+_, _-_, _*_, _<_, _≤_, min, max};
+ghost use Prim.Native.Nat.{suc, _+_, _-_, _*_, _<_, _≤_, min, max};
 ghost use mathlib.Core.List.{_++_, [], _∷_};
 ghost use lib.Dec.{ltb};
 ghost use lib.ListN.{length, getD, take, drop};
-ghost use Rattle.entries.specs.Build.{put};
 ghost use Rattle.entries.proofs.Put.{trimEnd, trimStart, JoinsLeft, JoinsRight};
 ghost use Rattle.answers.specs.Answers.{outcome, numberSays};
-ghost use Rattle.blocks.specs.Blocks.{itemsOf, entriesOf, blockOf};
+ghost use Rattle.blocks.specs.Blocks.{itemsOf, blockOf};
 ghost use Rattle.blocks.specs.Steps.{zero-item};
 ghost use Rattle.blocks.specs.Calls.{stored};
-ghost use Rattle.edits.specs.Calls.{editCall};
-ghost use Rattle.edits.specs.Steps.{cutEnd, cutStart, update, CutOk, PlaceOk, SideOk, EditOk, roomSays};
+ghost use Rattle.edits.specs.Calls.{edited, editCall};
+ghost use Rattle.edits.specs.Steps.{cutEnd, cutStart, update, CutOk, PlaceOk, SideOk, EditOk, PutOk, valueOf, roomSays};
+use blocks::Layout;
 
 // The high end of an entry, brought below lo.
 fn below(high: u64, lo: u64) -> u64
@@ -84,7 +84,8 @@ fn place(
 )
     requires { ⌜ PlaceOk (now block) (now new) s n i j c hi ⌝ }
     ensures { λ _. ⌜ now (block .exit) ≡ blockOf (length (now (block .entry)))
-        (trimEnd lo (take i (itemsOf s n (drop 1 (now (block .entry))))) ++ (itemsOf s c (now (new .entry)) ++ trimStart hi (drop j (itemsOf s n (drop 1 (now (block .entry))))))) ⌝ }
+        (trimEnd lo (take i (itemsOf s n (drop 1 (now (block .entry)))))
+        ++ (itemsOf s c (now (new .entry)) ++ trimStart hi (drop j (itemsOf s n (drop 1 (now (block .entry))))))) ⌝ }
 {
     let m = i + c + (n - j);
     blocks::splice(
@@ -121,10 +122,11 @@ pub struct Side {
 // The new entry joins the entry that ends right before it or within it, if that has the same value.
 fn left_of(block: &[u64], new: &[u64], s: usize, n: usize) -> Side
     requires { ⌜ SideOk (now block) (now new) s n ⌝ }
-    ensures { λ r. ⌜ JoinsLeft zero-item (itemsOf s n (drop 1 (now (block .entry)))) (r .at) (r .end) (getD (now (new .entry)) 0 0) (take (s - 2) (drop 2 (now (new .entry)))) ⌝ }
+    ensures { λ r. ⌜ JoinsLeft zero-item (itemsOf s n (drop 1 (now (block .entry)))) (r .at) (r .end)
+        (getD (now (new .entry)) 0 0) (valueOf s (now (new .entry))) ⌝ }
 {
     let a = blocks::word(new, 0);
-    let i = blocks::first_from(block, s, 1, n, a);
+    let i = searches::first_from(block, s, 1, n, a);
     if i == 0 {
         return Side { at: 0, end: a };
     }
@@ -142,10 +144,11 @@ fn left_of(block: &[u64], new: &[u64], s: usize, n: usize) -> Side
 // The new entry joins the entry that begins right after it or within it, if that has the same value.
 fn right_of(block: &[u64], new: &[u64], s: usize, n: usize) -> Side
     requires { ⌜ SideOk (now block) (now new) s n ⌝ }
-    ensures { λ r. ⌜ JoinsRight zero-item (itemsOf s n (drop 1 (now (block .entry)))) (r .at) (r .end) (getD (now (new .entry)) 1 0) (take (s - 2) (drop 2 (now (new .entry)))) ⌝ }
+    ensures { λ r. ⌜ JoinsRight zero-item (itemsOf s n (drop 1 (now (block .entry)))) (r .at) (r .end)
+        (getD (now (new .entry)) 1 0) (valueOf s (now (new .entry))) ⌝ }
 {
     let b = blocks::word(new, 1);
-    let j = blocks::first_past(block, s, 2, n, b);
+    let j = searches::first_past(block, s, 2, n, b);
     if n <= j {
         return Side { at: j, end: b };
     }
@@ -171,20 +174,21 @@ fn set_ends(new: &mut [u64], lo: u64, hi: u64)
     new[1] = hi;
 }
 
-// Puts the new entry into a sound block of n items; false where there is no room.
-pub fn put_value(block: &mut [u64], new: &mut [u64], n: usize, limit: usize) -> bool
-    requires { ⌜ EditOk (now block) (length (now new)) limit n × (getD (now new) 0 0 ≤ getD (now new) 1 0) ⌝ }
-    ensures { λ r. ⌜ outcome (roomSays r) (now (block .exit) ∷ []) ≡ stored 0 (length (now (new .entry))) limit (now (block .entry))
-        (put (entriesOf (length (now (new .entry))) (now (block .entry))) (getD (now (new .entry)) 0 0) (getD (now (new .entry)) 1 0) (some (take (length (now (new .entry)) - 2) (drop 2 (now (new .entry)))))) ⌝ }
+// Puts the new entry into a sound block of n items; false where there is no room, and then nothing is changed.
+pub fn put_value(block: &mut [u64], new: &mut [u64], n: usize, layout: Layout) -> bool
+    requires { ⌜ PutOk (now block) (now new) layout n ⌝ }
+    ensures { λ r. ⌜ outcome (roomSays r) (now (block .exit) ∷ []) ≡ stored 0 layout (now (block .entry))
+        (edited layout (now (block .entry)) (getD (now (new .entry)) 0 0) (getD (now (new .entry)) 1 0)
+        (some (valueOf (layout .width) (now (new .entry))))) ⌝ }
 {
-    let s = new.len();
+    let s = layout.width;
     let l = left_of(block, new, s, n);
     let r = right_of(block, new, s, n);
     let i = l.at;
     let j = r.at;
     let lo = l.end;
     let hi = r.end;
-    if blocks::room_for(s, limit, block.len()) < i + 1 + (n - j) {
+    if blocks::room_for(layout, block.len()) < i + 1 + (n - j) {
         return false;
     }
     set_ends(new, lo, hi);
@@ -192,15 +196,15 @@ pub fn put_value(block: &mut [u64], new: &mut [u64], n: usize, limit: usize) -> 
     true
 }
 
-// Takes a..b out of a sound block of n items; false where there is no room.
-fn take_out(block: &mut [u64], s: usize, n: usize, limit: usize, a: u64, b: u64) -> bool
-    requires { ⌜ EditOk (now block) s limit n × (a ≤ b) ⌝ }
-    ensures { λ r. ⌜ outcome (roomSays r) (now (block .exit) ∷ []) ≡ stored 0 s limit (now (block .entry))
-        (put (entriesOf s (now (block .entry))) a b none) ⌝ }
+// Takes a..b out of a sound block of n items; false where there is no room, and then nothing is changed.
+fn take_out(block: &mut [u64], n: usize, layout: Layout, a: u64, b: u64) -> bool
+    requires { ⌜ EditOk (now block) layout n × (a ≤ b) ⌝ }
+    ensures { λ r. ⌜ outcome (roomSays r) (now (block .exit) ∷ []) ≡ stored 0 layout (now (block .entry)) (edited layout (now (block .entry)) a b none) ⌝ }
 {
-    let i = blocks::first_from(block, s, 1, n, a);
-    let j = blocks::first_past(block, s, 2, n, b);
-    if blocks::room_for(s, limit, block.len()) < i + (n - j) {
+    let s = layout.width;
+    let i = searches::first_from(block, s, 1, n, a);
+    let j = searches::first_past(block, s, 2, n, b);
+    if blocks::room_for(layout, block.len()) < i + (n - j) {
         return false;
     }
     let nothing = [0; 1];
@@ -208,12 +212,13 @@ fn take_out(block: &mut [u64], s: usize, n: usize, limit: usize, a: u64, b: u64)
     true
 }
 
-// The number of the refusal, or 0 and the new entry is in.
-pub fn edit_put(block: &mut [u64], new: &mut [u64], limit: usize) -> u8
-    requires { ⌜ 2 ≤ length (now new) ⌝ }
-    ensures { λ r. ⌜ outcome (numberSays r 0) (now (block .exit) ∷ []) ≡ editCall (length (now (new .entry))) limit (now (block .entry)) (getD (now (new .entry)) 0 0) (getD (now (new .entry)) 1 0) (some (take (length (now (new .entry)) - 2) (drop 2 (now (new .entry))))) ⌝ }
+// Gives the range new[0]..new[1] of any words lent as a block the value in the rest of new: 0, or the number of the refusal.
+pub fn edit_put(block: &mut [u64], new: &mut [u64], layout: Layout) -> u8
+    requires { ⌜ (2 ≤ layout .width) × (length (now new) ≡ layout .width) ⌝ }
+    ensures { λ r. ⌜ outcome (numberSays r 0) (now (block .exit) ∷ []) ≡ editCall layout (now (block .entry))
+        (getD (now (new .entry)) 0 0) (getD (now (new .entry)) 1 0) (some (valueOf (layout .width) (now (new .entry)))) ⌝ }
 {
-    let v = blocks::judge(block, new.len(), limit);
+    let v = blocks::judge(block, layout);
     if v != 0 {
         return v;
     }
@@ -221,18 +226,18 @@ pub fn edit_put(block: &mut [u64], new: &mut [u64], limit: usize) -> u8
         return 4;
     }
     let n = blocks::wide(blocks::word(block, 0));
-    if put_value(block, new, n, limit) {
+    if put_value(block, new, n, layout) {
         return 0;
     }
     5
 }
 
-// The number of the refusal, or 0 and a..b is out.
-pub fn edit_out(block: &mut [u64], s: usize, limit: usize, a: u64, b: u64) -> u8
-    requires { ⌜ 2 ≤ s ⌝ }
-    ensures { λ r. ⌜ outcome (numberSays r 0) (now (block .exit) ∷ []) ≡ editCall s limit (now (block .entry)) a b none ⌝ }
+// Takes the range a..b out of any words lent as a block: 0, or the number of the refusal.
+pub fn edit_out(block: &mut [u64], layout: Layout, a: u64, b: u64) -> u8
+    requires { ⌜ 2 ≤ layout .width ⌝ }
+    ensures { λ r. ⌜ outcome (numberSays r 0) (now (block .exit) ∷ []) ≡ editCall layout (now (block .entry)) a b none ⌝ }
 {
-    let v = blocks::judge(block, s, limit);
+    let v = blocks::judge(block, layout);
     if v != 0 {
         return v;
     }
@@ -240,7 +245,7 @@ pub fn edit_out(block: &mut [u64], s: usize, limit: usize, a: u64, b: u64) -> u8
         return 4;
     }
     let n = blocks::wide(blocks::word(block, 0));
-    if take_out(block, s, n, limit, a, b) {
+    if take_out(block, n, layout, a, b) {
         return 0;
     }
     5

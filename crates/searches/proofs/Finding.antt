@@ -1,5 +1,5 @@
 -- What a search over a block's words asks, that the words it looks at do not fall, and what it tells of the block's entries.
-use mathlib.Core.Path.{_≡_, sym, _∙_, ap}
+use mathlib.Core.Path.{_≡_, ap}
 use mathlib.Core.List.{List}
 use Prim.Native.Nat.{ℕ, _+_, _*_, _-_, _≤_, _<_}
 use native.Mathlib.Omega.{arith}
@@ -10,7 +10,7 @@ use Rattle.entries.proofs.Index.{rises, sound-ok}
 use Rattle.entries.proofs.Windows.{Passed, Begun}
 use Rattle.blocks.specs.declared.Layout.{Layout}
 use Rattle.blocks.specs.Blocks.{entriesOf, itemsOf, SoundBlock}
-use Rattle.blocks.specs.Steps.{zero-item, itemAt, Held}
+use Rattle.blocks.specs.Steps.{zero-item, Held}
 use Rattle.blocks.proofs.Words.{items-length}
 use Rattle.blocks.proofs.Moves.{entry-at}
 use Rattle.blocks.proofs.Items.{entries-count, entry-is, held}
@@ -90,6 +90,6 @@ module _ (s : ℕ) (two : 2 ≤ s) (w : List ℕ) (n : ℕ) (e : n ≡ getD w 0 
     within = omega (arith, f .within, entries-count s two w n e);
     before = λ k h. let m = f .before k h in rw (entry-is s two w n e k (omega (arith, f .within))) (omega arith);
     from = λ h.
-      let m : j < n = omega (arith, entries-count s two w n e) in
-      let g = f .from m in rw (entry-is s two w n e j m) (omega arith);
+        let m : j < n = omega (arith, entries-count s two w n e) in
+        let g = f .from m in rw (entry-is s two w n e j m) (omega arith);
   }

@@ -1,6 +1,5 @@
 // Finding a place in a judged block: where a number stands, the items that meet a window, and whether two sets share a number.
 ghost use mathlib.Core.Path.{_≡_};
-ghost use mathlib.Core.List.{[]};
 ghost use Prim.Native.Nat.{_+_, _≤_, _<_};
 ghost use lib.ListN.{length, getD};
 ghost use Rattle.entries.specs.Bulletins.{shareb};

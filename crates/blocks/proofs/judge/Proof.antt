@@ -28,37 +28,47 @@ room-for-requires c κs = search needs
 
 returns-2 : tie.Need-returns-2
 returns-2 c =
-    let r = c .before in
-    let w = r .before in
-    let s = w .before .before .before .before in
-    v2 (s .args .layout) (s .args .block .now) (w .before .before .if1 .left) (r .room-for .result) (w .wide .result)
-    (r .room-for .ensures) (w .wide .ensures ∙ w .before .word .ensures) (c .if2 .taken)
+    let at-room-for = c .before in
+    let at-wide = at-room-for .before in
+    let at-word = at-wide .before in
+    let at-if1 = at-word .before in
+    let start = at-if1 .before .before in
+    v2 (start .args .layout) (start .args .block .now) (at-if1 .if1 .left) (at-room-for .room-for .result) (at-wide .wide .result)
+    (at-room-for .room-for .ensures) (at-wide .wide .ensures ∙ at-word .word .ensures) (c .if2 .taken)
 
 all-sound-requires : tie.Need-all-sound-requires
 all-sound-requires c κs =
-    let w = c .before .before in
-    let s = w .before .before .before .before in
-    record { two = s .pre; held = room-words (s .args .layout) _ (w .wide .result) (omega arith) (omega arith) }
+    let at-wide = c .before .before in
+    let start = at-wide .before .before .before .before in
+    record { two = start .pre; held = room-words (start .args .layout) _ (at-wide .wide .result) (omega arith) (omega arith) }
 
 returns-3 : tie.Need-returns-3
 returns-3 c =
-    let r = c .before .before .before in
-    let w = r .before in
-    let s = w .before .before .before .before in
+    let at-all-sound = c .before in
+    let at-if2 = at-all-sound .before in
+    let at-room-for = at-if2 .before in
+    let at-wide = at-room-for .before in
+    let at-word = at-wide .before in
+    let at-if1 = at-word .before in
+    let start = at-if1 .before .before in
     sym (ap (λ (t : Bool). pick t 0 3) (c .if3 .taken))
-    ∙ v03 (s .args .layout) (s .args .block .now) (w .before .before .if1 .left) (r .room-for .result) (w .wide .result)
-    (r .room-for .ensures) (w .wide .ensures ∙ w .before .word .ensures) (c .before .before .if2 .left)
-    (c .before .all-sound .result) (c .before .all-sound .ensures)
+    ∙ v03 (start .args .layout) (start .args .block .now) (at-if1 .if1 .left) (at-room-for .room-for .result) (at-wide .wide .result)
+    (at-room-for .room-for .ensures) (at-wide .wide .ensures ∙ at-word .word .ensures) (at-if2 .if2 .left) (at-all-sound .all-sound .result)
+    (at-all-sound .all-sound .ensures)
 
 returns-4 : tie.Need-returns-4
 returns-4 c =
-    let r = c .before .before .before in
-    let w = r .before in
-    let s = w .before .before .before .before in
+    let at-all-sound = c .before in
+    let at-if2 = at-all-sound .before in
+    let at-room-for = at-if2 .before in
+    let at-wide = at-room-for .before in
+    let at-word = at-wide .before in
+    let at-if1 = at-word .before in
+    let start = at-if1 .before .before in
     sym (ap (λ (t : Bool). pick t 0 3) (c .if3 .left))
-    ∙ v03 (s .args .layout) (s .args .block .now) (w .before .before .if1 .left) (r .room-for .result) (w .wide .result)
-    (r .room-for .ensures) (w .wide .ensures ∙ w .before .word .ensures) (c .before .before .if2 .left)
-    (c .before .all-sound .result) (c .before .all-sound .ensures)
+    ∙ v03 (start .args .layout) (start .args .block .now) (at-if1 .if1 .left) (at-room-for .room-for .result) (at-wide .wide .result)
+    (at-room-for .room-for .ensures) (at-wide .wide .ensures ∙ at-word .word .ensures) (at-if2 .if2 .left) (at-all-sound .all-sound .result)
+    (at-all-sound .all-sound .ensures)
 
 pub judge-spec : {M : Type 1} → statement M
 judge-spec =

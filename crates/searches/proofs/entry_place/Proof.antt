@@ -13,29 +13,32 @@ spot-of-requires c κs = search needs
 
 mul-result : tie.Need-mul-result
 mul-result c =
-    let s = c .before .before .before in
-    let a = s .before .before in
-    let i = inside-is (a .pre .0) (a .pre .1) (s .spot-of .ensures) (c .before .before .if1 .taken) in
+    let at-if1 = c .before .before in
+    let at-spot-of = at-if1 .before in
+    let start = at-spot-of .before .before in
+    let i = inside-is (start .pre .0) (start .pre .1) (at-spot-of .spot-of .ensures) (at-if1 .if1 .taken) in
     record { fits = omega (arith, i .item .held) }
 
 add-result : tie.Need-add-result
 add-result c =
-    let s = c .before .before .before in
-    let a = s .before .before in
-    let i = inside-is (a .pre .0) (a .pre .1) (s .spot-of .ensures) (c .before .before .if1 .taken) in
+    let at-if1 = c .before .before in
+    let at-spot-of = at-if1 .before in
+    let start = at-spot-of .before .before in
+    let i = inside-is (start .pre .0) (start .pre .1) (at-spot-of .spot-of .ensures) (at-if1 .if1 .taken) in
     record { fits = omega (arith, i .item .held) }
 
 returns : tie.Need-returns
 returns c =
-    let s = c .before .before .before in
-    let a = s .before .before in
-    place-in (a .pre .0) (a .pre .1) (s .spot-of .ensures) (c .before .before .if1 .taken)
+    let at-if1 = c .before .before in
+    let at-spot-of = at-if1 .before in
+    let start = at-spot-of .before .before in
+    place-in (start .pre .0) (start .pre .1) (at-spot-of .spot-of .ensures) (at-if1 .if1 .taken)
 
 returns-2 : tie.Need-returns-2
 returns-2 c =
-    let s = c .before in
-    let a = s .before .before in
-    place-out (a .pre .0) (a .pre .1) (s .spot-of .ensures) (c .if1 .left)
+    let at-spot-of = c .before in
+    let start = at-spot-of .before .before in
+    place-out (start .pre .0) (start .pre .1) (at-spot-of .spot-of .ensures) (c .if1 .left)
 
 pub entry-place-spec : {M : Type 1} → statement M
 entry-place-spec = tie.close (tie.spec spot-of-requires mul-result add-result returns returns-2)

@@ -22,18 +22,21 @@ loop-holds c = (search needs, λ k h. absurd (omega arith))
 
 mul-word : tie.Need-mul-word Inv-loop μ-loop
 mul-word c =
-    let s = c .before .before .before in
-    omega (arith, item-in (s .args .s) (c .before .loop .i) (s .args .n) (c .loop-test .taken), s .pre .held)
+    let at-loop = c .before in
+    let start = at-loop .before .before in
+    omega (arith, item-in (start .args .s) (at-loop .loop .i) (start .args .n) (c .loop-test .taken), start .pre .held)
 
 add-word : tie.Need-add-word Inv-loop μ-loop
 add-word c =
-    let s = c .before .before .before in
-    omega (arith, item-in (s .args .s) (c .before .loop .i) (s .args .n) (c .loop-test .taken), s .pre .held)
+    let at-loop = c .before in
+    let start = at-loop .before .before in
+    omega (arith, item-in (start .args .s) (at-loop .loop .i) (start .args .n) (c .loop-test .taken), start .pre .held)
 
 word-requires : tie.Need-word-requires Inv-loop μ-loop
 word-requires c κs =
-    let s = c .before .before .before in
-    omega (arith, item-in (s .args .s) (c .before .loop .i) (s .args .n) (c .loop-test .taken), s .pre .held)
+    let at-loop = c .before in
+    let start = at-loop .before .before in
+    omega (arith, item-in (start .args .s) (at-loop .loop .i) (start .args .n) (c .loop-test .taken), start .pre .held)
 
 add-i : tie.Need-add-i Inv-loop μ-loop
 add-i c = search needs

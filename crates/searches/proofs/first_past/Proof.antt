@@ -9,10 +9,12 @@ use Rattle.searches.proofs.first_from.Reads as first-from-reads
 
 returns : tie.Need-returns
 returns c =
-    let a = c .before .before in
+    let at-shared-slice-known = c .before in
+    let start = at-shared-slice-known .before in
     record {
       within = omega arith;
-      before = λ k h. omega (arith, c .before .shared-slice-known .given (a .args .s * k + a .args .off));
+      before = λ k h. omega
+          (arith, at-shared-slice-known .shared-slice-known .given (start .args .s * k + start .args .off));
       from = λ h. absurd (omega arith);
     }
 

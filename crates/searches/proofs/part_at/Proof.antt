@@ -17,43 +17,70 @@ first-from-requires : tie.Need-first-from-requires
 first-from-requires c κs = let a = c .before .before in highs (a .pre .two) (a .pre .block) (c .count-of .ensures)
 
 first-past-requires : tie.Need-first-past-requires
-first-past-requires c κs = let a = c .before .before .before in lows (a .pre .two) (a .pre .block) (c .before .count-of .ensures)
+first-past-requires c κs =
+    let at-count-of = c .before in
+    let start = at-count-of .before .before in
+    lows (start .pre .two) (start .pre .block) (at-count-of .count-of .ensures)
 
 mul-from : tie.Need-mul-from
 mul-from c =
-    let p = c .before in
-    let n = p .before .before in
-    record { fits = omega (arith, spanned (n .before .before .pre) (n .count-of .ensures) (p .before .first-from .ensures) (p .first-past .ensures)) }
+    let at-first-past = c .before in
+    let at-first-from = at-first-past .before in
+    let at-count-of = at-first-from .before in
+    let start = at-count-of .before .before in
+    record {
+      fits = omega
+          (arith, spanned (start .pre) (at-count-of .count-of .ensures) (at-first-from .first-from .ensures) (at-first-past .first-past .ensures));
+    }
 
 add-from : tie.Need-add-from
 add-from c =
-    let p = c .before in
-    let n = p .before .before in
-    record { fits = omega (arith, spanned (n .before .before .pre) (n .count-of .ensures) (p .before .first-from .ensures) (p .first-past .ensures)) }
+    let at-first-past = c .before in
+    let at-first-from = at-first-past .before in
+    let at-count-of = at-first-from .before in
+    let start = at-count-of .before .before in
+    record {
+      fits = omega
+          (arith, spanned (start .pre) (at-count-of .count-of .ensures) (at-first-from .first-from .ensures) (at-first-past .first-past .ensures));
+    }
 
 mul-to : tie.Need-mul-to
 mul-to c =
-    let p = c .before .before in
-    let n = p .before .before in
-    record { fits = omega (arith, spanned (n .before .before .pre) (n .count-of .ensures) (p .before .first-from .ensures) (p .first-past .ensures)) }
+    let at-first-past = c .before .before in
+    let at-first-from = at-first-past .before in
+    let at-count-of = at-first-from .before in
+    let start = at-count-of .before .before in
+    record {
+      fits = omega
+          (arith, spanned (start .pre) (at-count-of .count-of .ensures) (at-first-from .first-from .ensures) (at-first-past .first-past .ensures));
+    }
 
 add-to : tie.Need-add-to
 add-to c =
-    let p = c .before .before in
-    let n = p .before .before in
-    record { fits = omega (arith, spanned (n .before .before .pre) (n .count-of .ensures) (p .before .first-from .ensures) (p .first-past .ensures)) }
+    let at-first-past = c .before .before in
+    let at-first-from = at-first-past .before in
+    let at-count-of = at-first-from .before in
+    let start = at-count-of .before .before in
+    record {
+      fits = omega
+          (arith, spanned (start .pre) (at-count-of .count-of .ensures) (at-first-from .first-from .ensures) (at-first-past .first-past .ensures));
+    }
 
 sub-t10 : tie.Need-sub-t10
 sub-t10 c =
-    let p = c .before .before in
-    let n = p .before .before in
-    omega (arith, spanned (n .before .before .pre) (n .count-of .ensures) (p .before .first-from .ensures) (p .first-past .ensures))
+    let at-first-past = c .before .before in
+    let at-first-from = at-first-past .before in
+    let at-count-of = at-first-from .before in
+    let start = at-count-of .before .before in
+    omega (arith, spanned (start .pre) (at-count-of .count-of .ensures) (at-first-from .first-from .ensures) (at-first-past .first-past .ensures))
 
 returns : tie.Need-returns
 returns c =
-    let p = c .before .before in
-    let n = p .before .before in
-    part-is (n .before .before .pre) (n .count-of .ensures) (p .before .first-from .ensures) (p .first-past .ensures)
+    let at-first-past = c .before .before in
+    let at-first-from = at-first-past .before in
+    let at-count-of = at-first-from .before in
+    let start = at-count-of .before .before in
+    part-is (start .pre) (at-count-of .count-of .ensures) (at-first-from .first-from .ensures) (at-first-past .first-past .ensures)
 
 pub part-at-spec : {M : Type 1} → statement M
 part-at-spec =

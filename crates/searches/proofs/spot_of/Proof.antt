@@ -18,49 +18,65 @@ first-from-requires c κs = let a = c .before .before in highs (a .pre .0) (a .p
 
 returns : tie.Need-returns
 returns c =
-    let f = c .before in
-    let n = f .before in
-    let a = n .before .before in
-    spot-end (a .pre .0) (a .pre .1) (n .count-of .ensures) (f .first-from .ensures) (c .if1 .taken)
+    let at-first-from = c .before in
+    let at-count-of = at-first-from .before in
+    let start = at-count-of .before .before in
+    spot-end (start .pre .0) (start .pre .1) (at-count-of .count-of .ensures) (at-first-from .first-from .ensures) (c .if1 .taken)
 
 mul-word : tie.Need-mul-word
 mul-word c =
-    let f = c .before .before in
-    let n = f .before in
-    let a = n .before .before in
-    record { fits = omega (arith, item-held (a .pre .0) (a .pre .1) (n .count-of .ensures) (f .first-from .ensures) (c .before .if1 .left)) }
+    let at-if1 = c .before in
+    let at-first-from = at-if1 .before in
+    let at-count-of = at-first-from .before in
+    let start = at-count-of .before .before in
+    record {
+      fits = omega
+          (arith, item-held (start .pre .0) (start .pre .1) (at-count-of .count-of .ensures) (at-first-from .first-from .ensures) (at-if1 .if1 .left));
+    }
 
 add-word : tie.Need-add-word
 add-word c =
-    let f = c .before .before in
-    let n = f .before in
-    let a = n .before .before in
-    record { fits = omega (arith, item-held (a .pre .0) (a .pre .1) (n .count-of .ensures) (f .first-from .ensures) (c .before .if1 .left)) }
+    let at-if1 = c .before in
+    let at-first-from = at-if1 .before in
+    let at-count-of = at-first-from .before in
+    let start = at-count-of .before .before in
+    record {
+      fits = omega
+          (arith, item-held (start .pre .0) (start .pre .1) (at-count-of .count-of .ensures) (at-first-from .first-from .ensures) (at-if1 .if1 .left));
+    }
 
 word-requires : tie.Need-word-requires
 word-requires c κs =
-    let f = c .before .before in
-    let n = f .before in
-    let a = n .before .before in
-    omega (arith, a .pre .0, item-held (a .pre .0) (a .pre .1) (n .count-of .ensures) (f .first-from .ensures) (c .before .if1 .left))
+    let at-if1 = c .before in
+    let at-first-from = at-if1 .before in
+    let at-count-of = at-first-from .before in
+    let start = at-count-of .before .before in
+    omega (
+      arith,
+      start .pre .0,
+      item-held (start .pre .0) (start .pre .1) (at-count-of .count-of .ensures) (at-first-from .first-from .ensures)
+          (at-if1 .if1 .left),
+    )
 
 returns-2 : tie.Need-returns-2
 returns-2 c =
-    let w = c .before in
-    let i = w .before .before in
-    let f = i .before in
-    let n = f .before in
-    let a = n .before .before in
-    spot-under (a .pre .0) (a .pre .1) (n .count-of .ensures) (f .first-from .ensures) (i .if1 .left) (w .word .result) (w .word .ensures) (c .if2 .taken)
+    let at-word = c .before in
+    let at-if1 = at-word .before .before in
+    let at-first-from = at-if1 .before in
+    let at-count-of = at-first-from .before in
+    let start = at-count-of .before .before in
+    spot-under (start .pre .0) (start .pre .1) (at-count-of .count-of .ensures) (at-first-from .first-from .ensures) (at-if1 .if1 .left)
+    (at-word .word .result) (at-word .word .ensures) (c .if2 .taken)
 
 returns-3 : tie.Need-returns-3
 returns-3 c =
-    let w = c .before in
-    let i = w .before .before in
-    let f = i .before in
-    let n = f .before in
-    let a = n .before .before in
-    spot-in (a .pre .0) (a .pre .1) (n .count-of .ensures) (f .first-from .ensures) (i .if1 .left) (w .word .result) (w .word .ensures) (c .if2 .left)
+    let at-word = c .before in
+    let at-if1 = at-word .before .before in
+    let at-first-from = at-if1 .before in
+    let at-count-of = at-first-from .before in
+    let start = at-count-of .before .before in
+    spot-in (start .pre .0) (start .pre .1) (at-count-of .count-of .ensures) (at-first-from .first-from .ensures) (at-if1 .if1 .left)
+    (at-word .word .result) (at-word .word .ensures) (c .if2 .left)
 
 pub spot-of-spec : {M : Type 1} → statement M
 spot-of-spec =

@@ -5,7 +5,6 @@ use Rattle.searches.specs.Calls.{windowPart, windowRefusals, windowCall}
 use mathlib.Core.Path.{_∙_}
 use denote.Ref.{now}
 use Rattle.searches.proofs.Windows.{clear-window}
-use native.Mathlib.Omega.{arith}
 use borrow.Author.Needs.{needs}
 use Rattle.searches.proofs.window.Statement.{statement}
 use Rattle.searches.proofs.window.Tie as tie
@@ -29,25 +28,29 @@ part-result-end c = search needs
 returns : tie.Need-returns
 unfolding windowCall
 returns c =
-    let v = c .before .before in
-    let a = v .before .before in
-    refused-part (windowRefusals (a .args .layout) (now (a .args .block)) (a .args .a) (a .args .b)) (at 0 (v .window-verdict .result))
-    (v .window-verdict .ensures) [] [] [] (windowPart (a .args .layout .width) (now (a .args .block)) (a .args .a) (a .args .b)) (c .before .if1 .taken)
+    let at-if1 = c .before in
+    let at-window-verdict = at-if1 .before in
+    let start = at-window-verdict .before .before in
+    refused-part (windowRefusals (start .args .layout) (now (start .args .block)) (start .args .a) (start .args .b))
+    (at 0 (at-window-verdict .window-verdict .result)) (at-window-verdict .window-verdict .ensures) [] [] []
+    (windowPart (start .args .layout .width) (now (start .args .block)) (start .args .a) (start .args .b)) (at-if1 .if1 .taken)
 
 meeting-requires : tie.Need-meeting-requires
 meeting-requires c κs =
-    let v = c .before in
-    let a = v .before .before in
-    clear-window (a .args .layout) (now (a .args .block)) (a .args .a) (a .args .b) (a .pre) (v .window-verdict .ensures .clear (c .if1 .left))
+    let at-window-verdict = c .before in
+    let start = at-window-verdict .before .before in
+    clear-window (start .args .layout) (now (start .args .block)) (start .args .a) (start .args .b) (start .pre)
+    (at-window-verdict .window-verdict .ensures .clear (c .if1 .left))
 
 returns-2 : tie.Need-returns-2
 unfolding windowCall
 returns-2 c =
-    let v = c .before .before in
-    let a = v .before .before in
-    c .meeting .ensures
-    ∙ given-part (windowRefusals (a .args .layout) (now (a .args .block)) (a .args .a) (a .args .b)) (at 0 (v .window-verdict .result))
-    (v .window-verdict .ensures) [] [] [] (windowPart (a .args .layout .width) (now (a .args .block)) (a .args .a) (a .args .b)) (c .before .if1 .left)
+    let at-if1 = c .before in
+    let at-window-verdict = at-if1 .before in
+    let start = at-window-verdict .before .before in
+    c .meeting .ensures ∙ given-part (windowRefusals (start .args .layout) (now (start .args .block)) (start .args .a) (start .args .b))
+    (at 0 (at-window-verdict .window-verdict .result)) (at-window-verdict .window-verdict .ensures) [] [] []
+    (windowPart (start .args .layout .width) (now (start .args .block)) (start .args .a) (start .args .b)) (at-if1 .if1 .left)
 
 pub window-spec : {M : Type 1} → statement M
 window-spec =
