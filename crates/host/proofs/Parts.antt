@@ -21,8 +21,8 @@ use Rattle.runs.specs.declared.FormRead.the-variants as form
 use Rattle.forms.specs.Forms.{formVerdict}
 use Rattle.forms.proofs.Whole.{form-bare}
 use Rattle.forms.proofs.Answering.{told-good, told-refused}
-use Rattle.host.specs.declared.Told.{Told}
-use Rattle.host.specs.Told.{told, reply, inC}
+use Rattle.told.specs.declared.Told.{Told}
+use Rattle.told.specs.Told.{told, reply, inC}
 use Rattle.host.specs.Calls.{counted, judgeFormCall, decidingAt, siteOverFactoryAtCall}
 
 -- a verdict that the code found, before what follows it

@@ -7,8 +7,8 @@ use Rattle.host.proofs.wimblorque_set_judge_form.Tie as tie
 use Rattle.host.proofs.wimblorque_set_judge_form.Reads as reads
 use Rattle.host.proofs.wimblorque_set_judge_form.Lts as lts
 use Rattle.forms.proofs.judge_set.Reads as judge-set-reads
-use Rattle.host.proofs.one_value.Reads as one-value-reads
-use Rattle.host.proofs.refused.Reads as refused-reads
+use Rattle.told.proofs.one_value.Reads as one-value-reads
+use Rattle.told.proofs.refused.Reads as refused-reads
 
 judge-set-requires : tie.Need-judge-set-requires
 judge-set-requires c κs = search needs
