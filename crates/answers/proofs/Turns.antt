@@ -7,8 +7,9 @@ use Prim.Native.Nat.{ℕ, zero, suc, _≤_, _<_}
 use native.Mathlib.Omega.{arith}
 use Rattle.answers.specs.declared.Judged.{Judged}
 use Rattle.answers.specs.Answers.{Answer, given, refused, Outcome, outcome, judged, numberSays, at, inTurn, lastNumber, applies, handed, Keeps}
-use Rattle.answers.specs.Says.{judgedSays, judgedOf}
-use Rattle.answers.proofs.Numbers.{judged-says, Small, judged-small}
+use Rattle.answers.specs.Says.{refusalSays, judgedSays, refusalOf, judgedOf}
+use Rattle.answers.specs.declared.Refusal.{Refusal}
+use Rattle.answers.proofs.Numbers.{refusal-says, judged-says, Small, judged-small}
 use Rattle.answers.specs.declared.Finding.{Finding}
 use Rattle.answers.specs.Steps.{Clear, FirstOf, numberAt, placeAt, Applies, Named}
 
@@ -73,22 +74,32 @@ module _ (fs : List Finding) (r : Finding) (f : FirstOf fs r) (lent : List (List
       go zero n = absurd (n refl)
       go (suc v) n = refl
 
+  -- the same for any kind of answer, whose refusal is f
+  pub refused-turn : (g : Refusal) → (r .number ≡ 0 → ⊥) → g ≡ refusalOf (r .number) (r .place) → outcome (refusalSays g) lent ≡ inTurn fs lent next
+  refused-turn g n e = go (r .number) n (f .small) e ∙ f .turn lent next
+    where
+      go : (v : ℕ) → (v ≡ 0 → ⊥) → v ≤ lastNumber → g ≡ refusalOf v (r .place) → outcome (refusalSays g) lent ≡ judged v (r .place) lent next
+      go zero n l e = absurd (n refl)
+      go (suc v) n l e =
+          ap (λ (h : Refusal). outcome (refusalSays h) lent) e
+          ∙ ap (λ (a : Answer). outcome a lent) (refusal-says (suc v) (r .place) (omega arith) l)
+
   pub given-by : (y : Outcome) → r .number ≡ 0 → y ≡ next → y ≡ inTurn fs lent next
   given-by y z q = q ∙ sym (ap (λ (m : ℕ). judged m (r .place) lent next) z) ∙ f .turn lent next
 
--- the part that a call hands back by the first refusal
-module _ (fs : List Finding) (r : Finding) (f : FirstOf fs r) (lent : List (List ℕ)) (xs : List ℕ) (after : List (List ℕ)) (part : List ℕ) where
-  pub refused-part : (r .number ≡ 0 → ⊥) → [] ≡ handed (inTurn fs lent (outcome (given xs) after)) part
-  refused-part n = go (r .number) n ∙ ap (λ (o : Outcome). handed o part) (f .turn lent (outcome (given xs) after))
+-- what a call hands back by the first refusal
+module _ {A : Type 0} (fs : List Finding) (r : Finding) (f : FirstOf fs r) (lent : List (List ℕ)) (xs : List ℕ) (after : List (List ℕ)) (part empty : A) where
+  pub refused-part : (r .number ≡ 0 → ⊥) → empty ≡ handed (inTurn fs lent (outcome (given xs) after)) part empty
+  refused-part n = go (r .number) n ∙ ap (λ (o : Outcome). handed o part empty) (f .turn lent (outcome (given xs) after))
     where
-      go : (v : ℕ) → (v ≡ 0 → ⊥) → [] ≡ handed (judged v (r .place) lent (outcome (given xs) after)) part
+      go : (v : ℕ) → (v ≡ 0 → ⊥) → empty ≡ handed (judged v (r .place) lent (outcome (given xs) after)) part empty
       go zero n = absurd (n refl)
       go (suc v) n = refl
 
-  pub given-part : r .number ≡ 0 → part ≡ handed (inTurn fs lent (outcome (given xs) after)) part
+  pub given-part : r .number ≡ 0 → part ≡ handed (inTurn fs lent (outcome (given xs) after)) part empty
   given-part z =
-      sym (ap (λ (m : ℕ). handed (judged m (r .place) lent (outcome (given xs) after)) part) z)
-      ∙ ap (λ (o : Outcome). handed o part) (f .turn lent (outcome (given xs) after))
+      sym (ap (λ (m : ℕ). handed (judged m (r .place) lent (outcome (given xs) after)) part empty) z)
+      ∙ ap (λ (o : Outcome). handed o part empty) (f .turn lent (outcome (given xs) after))
 
 pub accepted-as : (place : ℕ) (x : Judged) (after due : List (List ℕ)) → x ≡ judgedOf 0 place → after ≡ due → outcome (judgedSays x) after ≡ outcome (given []) due
 accepted-as place x after due e q = ap₂ (λ (y : Judged) (l : List (List ℕ)). outcome (judgedSays y) l) e q

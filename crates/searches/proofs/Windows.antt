@@ -1,14 +1,17 @@
 -- The window of a block, from the two searches; and the words that it holds.
-use mathlib.Core.Path.{_≡_, refl, sym, _∙_, ap, ap₂}
+use mathlib.Core.Path.{_≡_, refl, sym, _∙_, ap, ap₂, subst}
+use mathlib.Core.Bool.{Bool, true, false}
 use mathlib.Core.List.{List, [], _∷_}
 use Prim.Native.Nat.{ℕ, zero, suc, _+_, _*_, _-_, _≤_, _<_}
 use native.Mathlib.Omega.{arith}
 use native.Mathlib.Nat.{mul-add, mul-le-mul-left}
-use lib.Dec.{ltb}
+use lib.Dec.{ltb, eqb}
 use lib.ListN.{length, getD, take, drop, length-drop}
 use lib.Seq.{length-take-le, drop-drop}
-use borrow.Author.Tests.{le-ltb, lt-ltb, ltb-false}
+use borrow.Author.Tests.{le-ltb, lt-ltb, ltb-false, eqb-true, eq-eqb, ne-eqb}
+use denote.Ref.{RefT, now}
 use Rattle.entries.specs.Entries.{Entry}
+use Rattle.entries.specs.Build.{pick}
 use Rattle.entries.specs.Questions.{meeting, whollyBelow}
 use Rattle.entries.proofs.Windows.{Passed, Begun, meeting-part, in-order}
 use Rattle.answers.specs.Answers.{Outcome, outcome, given, refused, judged, at, applies, handed}
@@ -22,6 +25,8 @@ use Rattle.blocks.proofs.Items.{entries-count, held}
 use Rattle.blocks.proofs.Judging.{verdict-small, verdict-sound}
 use Rattle.blocks.proofs.Words.{items-drop, items-take, write-back}
 use Rattle.searches.specs.Calls.{windowPlace, windowLength, windowPart, windowRefusals, windowCall, windowAtCall}
+use Rattle.searches.specs.declared.Part.{Part}
+use Rattle.searches.specs.Parts.{part, noPart, wordsAt, IsPart, partSays}
 use Rattle.searches.specs.Steps.{FirstFrom, Windowed, PartOf}
 use Rattle.searches.proofs.Finding.{passed, begun}
 use Rattle.searches.proofs.Spots.{below-is}
@@ -79,7 +84,7 @@ module _ {l : Layout} {w : List ℕ} {a b : ℕ} (g : Windowed l w a b) {n i j :
       }
 
   -- these are the words of the ranges that meet the window
-  pub words-are : windowPart (l .width) w a b ≡ wordsOf (meeting a b (entriesOf (l .width) w))
+  pub words-are : wordsAt w (windowPart (l .width) w a b) ≡ wordsOf (meeting a b (entriesOf (l .width) w))
   words-are =
       ap₂ (λ (x y : ℕ). take (s * x) (drop (1 + s * y) w)) meeting-count below-count
       ∙ sym (ap wordsOf (meeting-is ∙ ap (take (j - i)) dropped ∙ items-take s (g .two) (n - i) (j - i) behind (omega (arith, q .within)))
@@ -111,18 +116,52 @@ module _ (l : Layout) (w : List ℕ) (a b : ℕ) {v : ℕ} (e : v ≡ verdict l 
 pub clear-window : (l : Layout) (w : List ℕ) (a b : ℕ) → 2 ≤ l .width → Clear (windowRefusals l w a b) → Windowed l w a b
 clear-window l w a b two c = record { two = two; block = verdict-sound l w (c .0); order = ltb-false b a (applies-clear (ltb b a) 3 (c .1 .0)) }
 
--- the part that an outcome with an offset and a length names, none where it is refused
-abbrev pub partOf : Outcome → List ℕ → List ℕ
-partOf (outcome (given xs) lent) w = take (getD xs 1 0) (drop (getD xs 0 0) w)
-partOf (outcome (refused v p) lent) w = []
+-- the part that an answer with an offset and a length names, and where there are none, none
+abbrev pub partIn : Outcome → Part
+partIn (outcome (given []) lent) = noPart
+partIn (outcome (given (place ∷ [])) lent) = noPart
+partIn (outcome (given (place ∷ words ∷ xs)) lent) = part place words
+partIn (outcome (refused v p) lent) = noPart
 
--- the offset and the length name the window that is handed back
-pub part-of-window : (l : Layout) (w : List ℕ) (a b : ℕ) → partOf (windowAtCall l w a b) w ≡ windowCall l w a b
+said : (p : Part) → (t : Bool) → eqb (p .length) 0 ≡ t → partIn (outcome (pick t (given []) (given (p .place ∷ p .length ∷ []))) []) ≡ pick t noPart p
+said p true e = refl
+said p false e = refl
+
+-- the offset and the length name the words that are handed back
+pub part-of-window : (l : Layout) (w : List ℕ) (a b : ℕ) → wordsAt w (partIn (windowAtCall l w a b)) ≡ wordsAt w (windowCall l w a b)
 unfolding windowAtCall windowCall
 part-of-window l w a b = go (verdict l w) (applies (ltb b a) 4)
   where
-    go : (v u : ℕ) → partOf (judged v 0 [] (judged u 0 [] (outcome (given (windowPlace (l .width) w a ∷ windowLength (l .width) w a b ∷ [])) []))) w
-        ≡ handed (judged v 0 [] (judged u 0 [] (outcome (given []) []))) (windowPart (l .width) w a b)
-    go zero zero = refl
+    p : Part
+    p = windowPart (l .width) w a b
+
+    empty : (t : Bool) → eqb (p .length) 0 ≡ t → wordsAt w (pick t noPart p) ≡ wordsAt w p
+    empty true e = ap (λ (n : ℕ). take n (drop (p .place) w)) (sym (eqb-true (p .length) 0 e))
+    empty false e = refl
+
+    go : (v u : ℕ) → wordsAt w (partIn (judged v 0 [] (judged u 0 [] (outcome (partSays p) [])))) ≡ wordsAt w (handed (judged v 0 [] (judged u 0 [] (outcome (given []) []))) p noPart)
+    go zero zero = ap (wordsAt w) (said p (eqb (p .length) 0) refl) ∙ empty (eqb (p .length) 0) refl
     go zero (suc u) = refl
     go (suc v) u = refl
+
+-- a part that is one place by the code's account is that place by the definition's
+pub is-part : {w r : RefT (List ℕ)} {p q : Part} → IsPart w r p → p ≡ q → IsPart w r q
+is-part {w} {r} g e = subst (IsPart w r) e g
+
+-- no second part satisfies a contract: it lies at one place, and has its words
+pub part-only : {w r q : RefT (List ℕ)} {p : Part} → IsPart w r p → IsPart w q p → (r .ptr .0 ≡ q .ptr .0) × (r .ptr .1 ≡ q .ptr .1) × (now r ≡ now q)
+part-only g h = (g .block ∙ sym (h .block), g .offset ∙ sym (h .offset), g .words ∙ sym (h .words))
+
+-- a window as an answer, by the code's test
+module _ (l : Layout) (w : List ℕ) (a b : ℕ) {p : Part} (g : PartOf (l .width) w a b p) where
+  same : p ≡ windowPart (l .width) w a b
+  same = ap₂ part (g .place) (g .words)
+
+  said-as : (t : Bool) → eqb (p .length) 0 ≡ t → outcome (pick t (given []) (given (p .place ∷ p .length ∷ []))) [] ≡ outcome (partSays (windowPart (l .width) w a b)) []
+  said-as t e = ap (λ (u : Bool). outcome (pick u (given []) (given (p .place ∷ p .length ∷ []))) []) (sym e) ∙ ap (λ (q : Part). outcome (partSays q) []) same
+
+  pub part-empty : p .length ≡ 0 → outcome (given []) [] ≡ outcome (partSays (windowPart (l .width) w a b)) []
+  part-empty z = said-as true (eq-eqb (p .length) 0 z)
+
+  pub part-some : (p .length ≡ 0 → ⊥) → outcome (given (p .place ∷ p .length ∷ [])) [] ≡ outcome (partSays (windowPart (l .width) w a b)) []
+  part-some n = said-as false (ne-eqb (p .length) 0 n)

@@ -11,6 +11,8 @@ use Rattle.answers.specs.Answers.{Outcome, outcome, given, inTurn, handed}
 use Rattle.blocks.specs.declared.Layout.{Layout}
 use Rattle.blocks.specs.Blocks.{entriesOf}
 use Rattle.blocks.specs.Calls.{input, backwards}
+use Rattle.searches.specs.declared.Part.{Part}
+use Rattle.searches.specs.Parts.{part, noPart, partSays}
 
 -- where the part of a window begins in the block, and how many words it takes
 abbrev pub windowPlace : ℕ → List ℕ → ℕ → ℕ
@@ -22,8 +24,8 @@ windowLength s w a b = s * length (meeting a b (entriesOf s w))
 -- «Window a..b: all ranges that share a number with a..b, unclipped, handed back as that part of the caller's own block»: behind
 -- the count and the ranges wholly below a, as many words as the ranges that meet a..b take. (`words-are` in proofs/Windows: these
 -- are exactly the words of those ranges, in order.) «If there are none, an empty part.»
-abbrev pub windowPart : ℕ → List ℕ → ℕ → ℕ → List ℕ
-windowPart s w a b = take (windowLength s w a b) (drop (windowPlace s w a) w)
+abbrev pub windowPart : ℕ → List ℕ → ℕ → ℕ → Part
+windowPart s w a b = part (windowPlace s w a) (windowLength s w a b)
 
 -- 1, 2, 3 of the block, then 4
 abbrev pub windowRefusals : Layout → List ℕ → ℕ → ℕ → List Finding
@@ -33,14 +35,14 @@ windowRefusals l w a b = input 0 l w ∷ backwards a b ∷ []
 unfoldable pub windowRefusalCall : Layout → List ℕ → ℕ → ℕ → Outcome
 windowRefusalCall l w a b = inTurn (windowRefusals l w a b) [] (outcome (given []) [])
 
--- «Window a..b»
-unfoldable pub windowCall : Layout → List ℕ → ℕ → ℕ → List ℕ
-windowCall l w a b = handed (inTurn (windowRefusals l w a b) [] (outcome (given []) [])) (windowPart (l .width) w a b)
+-- «Window a..b»: the part that is handed back
+unfoldable pub windowCall : Layout → List ℕ → ℕ → ℕ → Part
+windowCall l w a b = handed (inTurn (windowRefusals l w a b) [] (outcome (given []) [])) (windowPart (l .width) w a b) noPart
 
--- The same part, for a host that is handed no slice: its offset in the block and its length. (`part-of-window` in proofs/Windows.)
+-- The same part, for a host that is handed no slice: its offset in the block and its length, or no values where it is empty.
+-- (`part-of-window` in proofs/Windows.)
 unfoldable pub windowAtCall : Layout → List ℕ → ℕ → ℕ → Outcome
-windowAtCall l w a b =
-    inTurn (windowRefusals l w a b) [] (outcome (given (windowPlace (l .width) w a ∷ windowLength (l .width) w a b ∷ [])) [])
+windowAtCall l w a b = inTurn (windowRefusals l w a b) [] (outcome (partSays (windowPart (l .width) w a b)) [])
 
 -- the place of the entry that holds x: behind the count and the entries wholly below x; 0 where there is none
 unfoldable pub entryPlace : ℕ → List ℕ → ℕ → ℕ

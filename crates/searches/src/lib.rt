@@ -1,13 +1,17 @@
 // Finding a place in a judged block: where a number stands, the items that meet a window, and whether two sets share a number.
 ghost use mathlib.Core.Path.{_≡_};
+ghost use mathlib.Core.List.{[]};
 ghost use Prim.Native.Nat.{_+_, _≤_, _<_};
 ghost use lib.ListN.{length, getD};
 ghost use Rattle.entries.specs.Bulletins.{shareb};
-ghost use Rattle.answers.specs.Answers.{at};
+ghost use Rattle.answers.specs.Answers.{at, outcome};
+ghost use Rattle.answers.specs.Says.{partedSays};
 ghost use Rattle.answers.specs.Steps.{FirstOf};
 ghost use Rattle.blocks.specs.Blocks.{SoundBlock, setLayout, entriesOf};
-ghost use Rattle.searches.specs.Calls.{windowPart, windowRefusals, windowCall, entryPlace};
+ghost use Rattle.searches.specs.Calls.{windowPart, windowRefusals, windowCall, windowAtCall, entryPlace};
+ghost use Rattle.searches.specs.Parts.{IsPart};
 ghost use Rattle.searches.specs.Steps.{Sorted, FirstFrom, SpotOf, Windowed, PartOf};
+use answers::Parted;
 use blocks::Layout;
 
 // A part of a block: where it begins, and its words.
@@ -128,7 +132,7 @@ pub fn part_at(block: &[u64], layout: Layout, a: u64, b: u64) -> Part
 // The part of a sound block with the items that share a number with a..b.
 fn meeting(block: &[u64], layout: Layout, a: u64, b: u64) -> &[u64]
     requires { ⌜ Windowed layout (now block) a b ⌝ }
-    ensures { λ r. ⌜ now r ≡ windowPart (layout .width) (now (block .entry)) a b ⌝ }
+    ensures { λ r. ⌜ IsPart (block .entry) r (windowPart (layout .width) (now (block .entry)) a b) ⌝ }
 {
     let p = part_at(block, layout, a, b);
     let from = p.place;
@@ -136,15 +140,31 @@ fn meeting(block: &[u64], layout: Layout, a: u64, b: u64) -> &[u64]
     &block[from..to]
 }
 
-// The part of the block with the items that share a number with a..b; refused, a part of no words.
+// The part of the block with the items that share a number with a..b; refused, the part of no words at its front.
 pub fn window(block: &[u64], layout: Layout, a: u64, b: u64) -> &[u64]
     requires { ⌜ 2 ≤ layout .width ⌝ }
-    ensures { λ r. ⌜ now r ≡ windowCall layout (now (block .entry)) a b ⌝ }
+    ensures { λ r. ⌜ IsPart (block .entry) r (windowCall layout (now (block .entry)) a b) ⌝ }
 {
     if window_verdict(block, layout, a, b) != 0 {
         return &block[0..0];
     }
     meeting(block, layout, a, b)
+}
+
+// The same part, as its place and its length; or that it is empty.
+pub fn window_at(block: &[u64], layout: Layout, a: u64, b: u64) -> Parted
+    requires { ⌜ 2 ≤ layout .width ⌝ }
+    ensures { λ r. ⌜ outcome (partedSays r) [] ≡ windowAtCall layout (now (block .entry)) a b ⌝ }
+{
+    let v = window_verdict(block, layout, a, b);
+    if v != 0 {
+        return Parted::Refused(answers::refusal_of(v, 0));
+    }
+    let p = part_at(block, layout, a, b);
+    if p.length == 0 {
+        return Parted::Nothing;
+    }
+    Parted::Part(p.place, p.length)
 }
 
 // Whether two sound sets share a number: at each step one range is wholly below another and is passed, or they share one.

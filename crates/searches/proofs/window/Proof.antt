@@ -2,9 +2,10 @@ use mathlib.Core.List.{[]}
 use Rattle.answers.specs.Answers.{at}
 use Rattle.answers.proofs.Turns.{refused-part, given-part}
 use Rattle.searches.specs.Calls.{windowPart, windowRefusals, windowCall}
-use mathlib.Core.Path.{_∙_}
+use mathlib.Core.Path.{refl}
 use denote.Ref.{now}
-use Rattle.searches.proofs.Windows.{clear-window}
+use Rattle.searches.proofs.Windows.{clear-window, is-part}
+use Rattle.searches.specs.Parts.{noPart}
 use borrow.Author.Needs.{needs}
 use Rattle.searches.proofs.window.Statement.{statement}
 use Rattle.searches.proofs.window.Tie as tie
@@ -31,9 +32,10 @@ returns c =
     let at-if1 = c .before in
     let at-window-verdict = at-if1 .before in
     let start = at-window-verdict .before .before in
-    refused-part (windowRefusals (start .args .layout) (now (start .args .block)) (start .args .a) (start .args .b))
+    is-part (record { block = refl; offset = refl; words = refl })
+    (refused-part (windowRefusals (start .args .layout) (now (start .args .block)) (start .args .a) (start .args .b))
     (at 0 (at-window-verdict .window-verdict .result)) (at-window-verdict .window-verdict .ensures) [] [] []
-    (windowPart (start .args .layout .width) (now (start .args .block)) (start .args .a) (start .args .b)) (at-if1 .if1 .taken)
+    (windowPart (start .args .layout .width) (now (start .args .block)) (start .args .a) (start .args .b)) noPart (at-if1 .if1 .taken))
 
 meeting-requires : tie.Need-meeting-requires
 meeting-requires c κs =
@@ -48,9 +50,9 @@ returns-2 c =
     let at-if1 = c .before in
     let at-window-verdict = at-if1 .before in
     let start = at-window-verdict .before .before in
-    c .meeting .ensures ∙ given-part (windowRefusals (start .args .layout) (now (start .args .block)) (start .args .a) (start .args .b))
+    is-part (c .meeting .ensures) (given-part (windowRefusals (start .args .layout) (now (start .args .block)) (start .args .a) (start .args .b))
     (at 0 (at-window-verdict .window-verdict .result)) (at-window-verdict .window-verdict .ensures) [] [] []
-    (windowPart (start .args .layout .width) (now (start .args .block)) (start .args .a) (start .args .b)) (at-if1 .if1 .left)
+    (windowPart (start .args .layout .width) (now (start .args .block)) (start .args .a) (start .args .b)) noPart (at-if1 .if1 .left))
 
 pub window-spec : {M : Type 1} → statement M
 window-spec =
