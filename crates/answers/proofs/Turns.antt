@@ -8,7 +8,7 @@ use native.Mathlib.Omega.{arith}
 use Rattle.answers.specs.declared.Judged.{Judged}
 use Rattle.answers.specs.Answers.{Answer, given, refused, Outcome, outcome, judged, numberSays, at, inTurn, lastNumber, applies, handed, Keeps}
 use Rattle.answers.specs.Says.{judgedSays, judgedOf}
-use Rattle.answers.proofs.Numbers.{judged-says, Small, judged-small}
+use Rattle.answers.proofs.Numbers.{judged-says, judged-as, Small, judged-small}
 use Rattle.answers.specs.declared.Finding.{Finding}
 use Rattle.answers.specs.Steps.{Clear, FirstOf, numberAt, placeAt, Applies, Named}
 
@@ -75,6 +75,11 @@ module _ (fs : List Finding) (r : Finding) (f : FirstOf fs r) (lent : List (List
 
   pub given-by : (y : Outcome) → r .number ≡ 0 → y ≡ next → y ≡ inTurn fs lent next
   given-by y z q = q ∙ sym (ap (λ (m : ℕ). judged m (r .place) lent next) z) ∙ f .turn lent next
+
+-- a question that asks only for the refusal
+pub answered-by : (fs : List Finding) (r : Finding) → FirstOf fs r → (lent : List (List ℕ)) (x : Judged) → x ≡ judgedOf (r .number) (r .place)
+    → outcome (judgedSays x) lent ≡ inTurn fs lent (outcome (given []) lent)
+answered-by fs r f lent x e = judged-as lent (r .place) (r .number) (r .number) x refl (f .small) e ∙ f .turn lent (outcome (given []) lent)
 
 -- the part that a call hands back by the first refusal
 module _ (fs : List Finding) (r : Finding) (f : FirstOf fs r) (lent : List (List ℕ)) (xs : List ℕ) (after : List (List ℕ)) (part : List ℕ) where
