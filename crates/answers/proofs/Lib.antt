@@ -1,4 +1,3 @@
 pub mod Numbers
 pub mod Unique
 pub mod Turns
-pub mod Exactly

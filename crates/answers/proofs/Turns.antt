@@ -9,7 +9,7 @@ use Rattle.answers.specs.declared.Judged.{Judged}
 use Rattle.answers.specs.Answers.{Answer, given, refused, Outcome, outcome, judged, numberSays, at, inTurn, lastNumber, applies, handed, Keeps}
 use Rattle.answers.specs.Says.{refusalSays, judgedSays, refusalOf, judgedOf}
 use Rattle.answers.specs.declared.Refusal.{Refusal}
-use Rattle.answers.proofs.Numbers.{refusal-says, judged-says, Small, judged-small}
+use Rattle.answers.proofs.Numbers.{refusal-says, judged-says, judged-as, Small, judged-small}
 use Rattle.answers.specs.declared.Finding.{Finding}
 use Rattle.answers.specs.Steps.{Clear, FirstOf, numberAt, placeAt, Applies, Named}
 
@@ -86,6 +86,11 @@ module _ (fs : List Finding) (r : Finding) (f : FirstOf fs r) (lent : List (List
 
   pub given-by : (y : Outcome) → r .number ≡ 0 → y ≡ next → y ≡ inTurn fs lent next
   given-by y z q = q ∙ sym (ap (λ (m : ℕ). judged m (r .place) lent next) z) ∙ f .turn lent next
+
+-- a question that asks only for the refusal
+pub answered-by : (fs : List Finding) (r : Finding) → FirstOf fs r → (lent : List (List ℕ)) (x : Judged) → x ≡ judgedOf (r .number) (r .place)
+    → outcome (judgedSays x) lent ≡ inTurn fs lent (outcome (given []) lent)
+answered-by fs r f lent x e = judged-as lent (r .place) (r .number) (r .number) x refl (f .small) e ∙ f .turn lent (outcome (given []) lent)
 
 -- what a call hands back by the first refusal
 module _ {A : Type 0} (fs : List Finding) (r : Finding) (f : FirstOf fs r) (lent : List (List ℕ)) (xs : List ℕ) (after : List (List ℕ)) (part empty : A) where
@@ -195,10 +200,10 @@ refused-named (f ∷ fs) lent xs after n p left e = go (f .number) refl e (λ d.
           place = r;
         }
 
--- where no other finding can have finding i's number, it is refused with that number exactly where i is the first that applies
+-- where no other finding can have finding i's number and place, it is refused with these exactly where i is the first that applies
 pub refused-only : (fs : List Finding) (lent : List (List ℕ)) (xs : List ℕ) (after : List (List ℕ)) (n p i : ℕ) (left : List (List ℕ))
-    → ((k : ℕ) → numberAt fs k ≡ n → k ≡ i) → inTurn fs lent (outcome (given xs) after) ≡ outcome (refused n p) left → Applies fs i
+    → ((k : ℕ) → numberAt fs k ≡ n → placeAt fs k ≡ p → k ≡ i) → inTurn fs lent (outcome (given xs) after) ≡ outcome (refused n p) left → Applies fs i
 refused-only fs lent xs after n p i left only e =
     let m = refused-named fs lent xs after n p left e in
-    let k = only (m .index) (m .number) in
+    let k = only (m .index) (m .number) (m .place) in
     record { before = λ j h. m .first .before j (omega arith); here = λ z. m .first .here (ap (numberAt fs) k ∙ z) }

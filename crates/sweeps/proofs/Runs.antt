@@ -11,6 +11,7 @@ use lib.ListN.{length, getD, take, drop}
 use lib.Seq.{drop-drop}
 use lib.Dec.{eqb}
 use borrow.Author.Tests.{eqb-true, eqb-false}
+use Rattle.entries.specs.Sets.{pastM, M}
 use Rattle.entries.specs.Entries.{Entry, valueAt, Link, Sound}
 use Rattle.entries.specs.Build.{pick}
 use Rattle.entries.proofs.Sides.{val-in, val-past, none-under}
@@ -139,12 +140,12 @@ module _ (s : ℕ) (w : List ℕ) (x : ℕ) (g : Input s w) where
     side-of : (p ≡ 1 + s * getD w 0 0 → ⊥) → x < getD w p 0
     side-of = subst (λ (b : ℕ). (b ≡ 1 + s * getD w 0 0 → ⊥) → x < getD w b 0) base-is (o .side)
 
-    pub turn-none : p ≡ end → x < 18446744073709551616 → TurnAt s w x (cursor p false end) (turn 18446744073709551615 (cursor p false end))
+    pub turn-none : p ≡ end → x < pastM → TurnAt s w x (cursor p false end) (turn M (cursor p false end))
     turn-none q f = record {
       from-x = omega arith;
       fits = omega arith;
       same = λ y h l. out-cur .rest y h ∙ ap (λ (k : ℕ). valueAt (items s k p w) y) z;
-      next = λ e h l. go e h (eqb 18446744073709551615 e);
+      next = λ e h l. go e h (eqb M e);
     }
       where
         at : p ≡ 1 + s * getD w 0 0
@@ -298,12 +299,12 @@ module _ (s : ℕ) (w : List ℕ) (x : ℕ) (g : Input s w) where
               (ap (λ (i : ℕ). getD w i 0) next-is ∙ omega (arith, next-later n) ∙ ap suc (sym high-is)))
 
   -- at the end, whatever the cursor says of itself
-  pub turn-end : {c : Cursor} → Point s w x c → c .place ≡ c .end → x < 18446744073709551616 → TurnAt s w x c (turn 18446744073709551615 c)
+  pub turn-end : {c : Cursor} → Point s w x c → c .place ≡ c .end → x < pastM → TurnAt s w x c (turn M c)
   turn-end {c} o e f = go (c .inside) refl
     where
-      go : (t : Bool) → c .inside ≡ t → TurnAt s w x c (turn 18446744073709551615 c)
+      go : (t : Bool) → c .inside ≡ t → TurnAt s w x c (turn M c)
       go true z = absurd (in-not-end (point-as true z o) e)
-      go false z = subst (λ (d : Cursor). TurnAt s w x d (turn 18446744073709551615 d)) (cursor-is c false z) (turn-none (point-as false z o) e f)
+      go false z = subst (λ (d : Cursor). TurnAt s w x d (turn M d)) (cursor-is c false z) (turn-none (point-as false z o) e f)
 
   -- before the end a word stands at the cursor
   pub word-here : {c : Cursor} → Point s w x c → (c .place ≡ c .end → ⊥) → c .place < length w

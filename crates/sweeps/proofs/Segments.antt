@@ -11,7 +11,7 @@ use lib.Dec.{eqb}
 use borrow.Author.Tests.{lt-ltb, eq-eqb, ne-eqb}
 use Rattle.entries.specs.Entries.{Value}
 use Rattle.entries.specs.Build.{pick, andb, sameWords}
-use Rattle.entries.specs.Sets.{has}
+use Rattle.entries.specs.Sets.{has, pastM}
 use Rattle.sweeps.specs.Sweeps.{accepts, mixed, swept, Input, Inputs, widthOf, Fit}
 use Rattle.sweeps.specs.declared.Cursor.{Cursor}
 use Rattle.sweeps.specs.Cursors.{cursor, turn, shown, valueOf, valueBehind, firstBehind, Point, TurnAt, PointsAt, SegmentAt}
@@ -157,7 +157,7 @@ module _ (plan : Plan) (a b c : List ℕ) (x : ℕ) (at : Places) (sides : Sides
         fits = omega (arith, t .0 .fits);
         same = λ y p q.
             rw (
-              lt-ltb y 18446744073709551616 (omega (arith, t .0 .fits)),
+              lt-ltb y pastM (omega (arith, t .0 .fits)),
               t .0 .same y p (omega arith),
               t .1 .same y p (omega arith),
               t .2 .same y p (omega arith),

@@ -10,6 +10,7 @@ use native.Mathlib.Numerals.{add-one}
 use lib.Dec.{eqb}
 use borrow.Author.Tests.{eqb-true}
 use lib.ListN.{length}
+use Rattle.entries.specs.Sets.{pastM, M}
 use Rattle.entries.specs.Entries.{Value, Entry, ListOf}
 use Rattle.entries.specs.Build.{pick, andb}
 use Rattle.entries.proofs.Values.{and-true}
@@ -60,7 +61,7 @@ room-made false s n l m h k = h
 
 -- the sweep stands at x: the cursors, the value right before x, the list made so far, and that it is stored
 pub record Standing (plan : Plan) (a b c : List ℕ) (keep : Bool) (x : ℕ) (at : Places) (sides : Sides) (ends : Places) (was : Bool) (v : Words) (n : ℕ) (o : List ℕ) : Type 0 where
-  pub fits : x < 18446744073709551616
+  pub fits : x < pastM
   pub points : PointsAt plan a b c x at sides ends
   pub before : shown was (valueOf (plan .out) v) ≡ prev (sweptOf plan a b c) x
   pub list : List Entry
@@ -101,7 +102,7 @@ module _ {plan : Plan} {a b c : List ℕ} {keep : Bool} {x : ℕ} {at : Places} 
     next-size : length (next (h .list)) ≡ n + begins (r .inside) q
     next-size = omega (arith, h .size, length-grow (r .inside) q (h .list) x (r .last) (valueOf (plan .out) (r .value)))
 
-    pub standing-room : (len : ℕ) → 2 ≤ plan .out → plan .out ≤ 4 → 1 + plan .out * pick keep (length (resultOf plan a b c)) 0 ≤ len → n < 18446744073709551615 → Addable keep (plan .out) n (r .inside) q len
+    pub standing-room : (len : ℕ) → 2 ≤ plan .out → plan .out ≤ 4 → 1 + plan .out * pick keep (length (resultOf plan a b c)) 0 ≤ len → n < M → Addable keep (plan .out) n (r .inside) q len
     standing-room len two four f w = record {
       two = two;
       four = four;
@@ -121,7 +122,7 @@ module _ {plan : Plan} {a b c : List ℕ} {keep : Bool} {x : ℕ} {at : Places} 
           go true y z = y ∙ ap next z
           go false y z = tt
 
-      pub standing-next : (r .last ≡ 18446744073709551615 → ⊥) → Standing plan a b c keep (r .last + 1) (r .at) (r .sides) ends (r .inside) (r .value) n′ o′
+      pub standing-next : (r .last ≡ M → ⊥) → Standing plan a b c keep (r .last + 1) (r .at) (r .sides) ends (r .inside) (r .value) n′ o′
       standing-next ne = record {
         fits = omega (arith, g .fits);
         points = g .points;
@@ -132,7 +133,7 @@ module _ {plan : Plan} {a b c : List ℕ} {keep : Bool} {x : ℕ} {at : Places} 
         holds = next-holds;
       }
 
-      pub stopped-end : (stop : ℕ) → n < stop → r .last ≡ 18446744073709551615 → Stopped keep (plan .out) stop (resultOf plan a b c) n′ o′
+      pub stopped-end : (stop : ℕ) → n < stop → r .last ≡ M → Stopped keep (plan .out) stop (resultOf plan a b c) n′ o′
       stopped-end stop l d = record {
         size = omega (arith, m .0, next-size, ap length whole, begins-one (r .inside) q);
         holds = λ z. subst (λ (es : List Entry). Holds keep (plan .out) n′ o′ es) whole next-holds;

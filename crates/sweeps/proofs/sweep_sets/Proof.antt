@@ -3,7 +3,6 @@ use mathlib.Core.Path.{sym, subst}
 use Rattle.sweeps.specs.Sweeps.{Inputs}
 use Rattle.sweeps.specs.Cursors.{PointsAt}
 use Rattle.sweeps.specs.declared.Plan.{Plan}
-use native.Mathlib.Omega.{arith}
 use borrow.Author.Needs.{needs}
 use Rattle.sweeps.proofs.sweep_sets.Statement.{statement}
 use Rattle.sweeps.proofs.sweep_sets.Tie as tie
