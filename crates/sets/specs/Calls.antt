@@ -14,7 +14,7 @@ use Rattle.blocks.specs.Calls.{input, output, holding}
 use Rattle.edits.specs.Calls.{editCall}
 use Rattle.operations.specs.Calls.{fromTwo, fromOne}
 use Rattle.searches.specs.declared.Part.{Part}
-use Rattle.searches.specs.Calls.{windowCall, windowRefusalCall}
+use Rattle.searches.specs.Calls.{windowCall, windowAtCall, windowRefusalCall}
 
 -- a question about a set: 1, 2, 3 of its block, then the answer
 abbrev pub asked : List ℕ → (List Entry → Answer) → Outcome
@@ -56,6 +56,10 @@ leastNonMemberCall w x = asked w (λ es. optional (nonMember es x))
 -- «Window a..b»: the part that is handed back, and its companion
 abbrev pub setWindowCall : List ℕ → ℕ → ℕ → Part
 setWindowCall w a b = windowCall setLayout w a b
+
+-- the same part as its place and its length
+abbrev pub setWindowAtCall : List ℕ → ℕ → ℕ → Outcome
+setWindowAtCall w a b = windowAtCall setLayout w a b
 
 -- «a companion question on the same inputs gives the refusal, or says that there is none»
 abbrev pub setWindowRefusalCall : List ℕ → ℕ → ℕ → Outcome

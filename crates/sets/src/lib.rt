@@ -10,13 +10,15 @@ ghost use Rattle.blocks.specs.Blocks.{setLayout, SoundBlock, entriesOf};
 ghost use Rattle.operations.specs.Calls.{fromTwo};
 ghost use Rattle.operations.specs.Steps.{TwoFit};
 ghost use Rattle.answers.specs.Answers.{outcome, truth, optional};
-ghost use Rattle.answers.specs.Says.{judgedSays, truthSays, foundSays, rangedSays, sizedSays};
+ghost use Rattle.answers.specs.Says.{judgedSays, truthSays, foundSays, rangedSays, sizedSays, partedSays};
+ghost use Rattle.searches.specs.Parts.{IsPart};
 ghost use Rattle.sets.specs.Calls.{makeEmptyCall, memberCall, ends, rangeAtCall, sizeCall, leastMemberCall, nonMember, leastNonMemberCall};
-ghost use Rattle.sets.specs.Calls.{setWindowCall, setWindowRefusalCall, insertCall, removeCall, askedTwo, equalCall, withinCall, disjointCall};
+ghost use Rattle.sets.specs.Calls.{setWindowCall, setWindowAtCall, setWindowRefusalCall, insertCall, removeCall, askedTwo, equalCall, withinCall, disjointCall};
 ghost use Rattle.sets.specs.Calls.{unionCall, intersectionCall, differenceCall, symmetricDifferenceCall, complementCall};
 ghost use Rattle.sets.specs.Steps.{Counted, setLayouts};
 use answers::Found;
 use answers::Judged;
+use answers::Parted;
 use answers::Ranged;
 use answers::Sized;
 use answers::Truth;
@@ -162,9 +164,16 @@ pub fn least_non_member(block: &[u64], x: u64) -> Found
 
 // The part of the block that holds the ranges which share a number with a..b; refused, a part of no words.
 pub fn window(block: &[u64], a: u64, b: u64) -> &[u64]
-    ensures { λ r. ⌜ now r ≡ setWindowCall (now (block .entry)) a b ⌝ }
+    ensures { λ r. ⌜ IsPart (block .entry) r (setWindowCall (now (block .entry)) a b) ⌝ }
 {
     searches::window(block, blocks::SET, a, b)
+}
+
+// The same part, as the place of its first word and the number of its words; or that no range shares a number with a..b.
+pub fn window_at(block: &[u64], a: u64, b: u64) -> Parted
+    ensures { λ r. ⌜ outcome (partedSays r) [] ≡ setWindowAtCall (now (block .entry)) a b ⌝ }
+{
+    searches::window_at(block, blocks::SET, a, b)
 }
 
 // The refusal of the window a..b, or that there is none.
