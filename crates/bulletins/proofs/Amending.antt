@@ -73,7 +73,7 @@ module _ (s r w : List ℕ) (i : Inputs 2 2 2 s r w) where
   )
 
   module _ (words cap : ℕ) (e : cap ≡ capacity setLayout words) (t : Bool)
-  (f : t ≡ leb (length (result amending 2 (entriesOf 2 s) (entriesOf 2 r) (entriesOf 2 w))) cap) where
+      (f : t ≡ leb (length (result amending 2 (entriesOf 2 s) (entriesOf 2 r) (entriesOf 2 w))) cap) where
     tested : t ≡ leb (length (amendedWith s r w)) (capacity setLayout words)
     tested = f ∙ ap (λ (l : List Entry). leb (length l) cap) swept-is ∙ ap (leb (length (amendedWith s r w))) e
 

@@ -13,19 +13,21 @@ entry-place-requires c κs = search needs
 
 add-result : tie.Need-add-result
 add-result c =
-    let at-entry-place = c .before in
+    let at-if1 = c .before in
+    let at-entry-place = at-if1 .before in
     let start = at-entry-place .before .before .before in
     record { fits = omega
     (arith, value-held (now (start .args .site)) (start .args .x) (start .pre .0) (at-entry-place .entry-place .result)
-    (at-entry-place .entry-place .ensures) (c .if1 .taken)) }
+    (at-entry-place .entry-place .ensures) (at-if1 .if1 .taken)) }
 
 mul-result : tie.Need-mul-result
 mul-result c =
-    let at-entry-place = c .before in
+    let at-if1 = c .before in
+    let at-entry-place = at-if1 .before in
     let start = at-entry-place .before .before .before in
     record { fits = omega
     (arith, value-held (now (start .args .site)) (start .args .x) (start .pre .0) (at-entry-place .entry-place .result)
-    (at-entry-place .entry-place .ensures) (c .if1 .taken)) }
+    (at-entry-place .entry-place .ensures) (at-if1 .if1 .taken)) }
 
 sub-result : tie.Need-sub-result
 sub-result c = search needs
@@ -35,14 +37,15 @@ part-result-start c = search needs
 
 part-result-end : tie.Need-part-result-end
 part-result-end c =
-    let at-entry-place = c .before in
+    let at-if1 = c .before in
+    let at-entry-place = at-if1 .before in
     let start = at-entry-place .before .before .before in
     omega (arith, value-held (now (start .args .site)) (start .args .x) (start .pre .0) (at-entry-place .entry-place .result)
-    (at-entry-place .entry-place .ensures) (c .if1 .taken))
+    (at-entry-place .entry-place .ensures) (at-if1 .if1 .taken))
 
 returns : tie.Need-returns
 returns c =
-    let at-if1 = c .before in
+    let at-if1 = c .before .before in
     let at-entry-place = at-if1 .before in
     let start = at-entry-place .before .before .before in
     site-decides (now (start .args .site)) (now (start .args .factory)) (start .args .x) _
@@ -56,19 +59,21 @@ entry-place-requires-2 c κs = search needs
 
 add-result-2 : tie.Need-add-result-2
 add-result-2 c =
-    let at-entry-place2 = c .before in
+    let at-if2 = c .before in
+    let at-entry-place2 = at-if2 .before in
     let start = at-entry-place2 .before .before .before .before .before in
     record { fits = omega
     (arith, value-held (now (start .args .factory)) (start .args .x) (start .pre .1) (at-entry-place2 .entry-place2 .result)
-    (at-entry-place2 .entry-place2 .ensures) (c .if2 .taken)) }
+    (at-entry-place2 .entry-place2 .ensures) (at-if2 .if2 .taken)) }
 
 mul-result-2 : tie.Need-mul-result-2
 mul-result-2 c =
-    let at-entry-place2 = c .before in
+    let at-if2 = c .before in
+    let at-entry-place2 = at-if2 .before in
     let start = at-entry-place2 .before .before .before .before .before in
     record { fits = omega
     (arith, value-held (now (start .args .factory)) (start .args .x) (start .pre .1) (at-entry-place2 .entry-place2 .result)
-    (at-entry-place2 .entry-place2 .ensures) (c .if2 .taken)) }
+    (at-entry-place2 .entry-place2 .ensures) (at-if2 .if2 .taken)) }
 
 sub-result-2 : tie.Need-sub-result-2
 sub-result-2 c = search needs
@@ -78,14 +83,15 @@ part-result-start-2 c = search needs
 
 part-result-end-2 : tie.Need-part-result-end-2
 part-result-end-2 c =
-    let at-entry-place2 = c .before in
+    let at-if2 = c .before in
+    let at-entry-place2 = at-if2 .before in
     let start = at-entry-place2 .before .before .before .before .before in
     omega (arith, value-held (now (start .args .factory)) (start .args .x) (start .pre .1) (at-entry-place2 .entry-place2 .result)
-    (at-entry-place2 .entry-place2 .ensures) (c .if2 .taken))
+    (at-entry-place2 .entry-place2 .ensures) (at-if2 .if2 .taken))
 
 returns-2 : tie.Need-returns-2
 returns-2 c =
-    let at-if2 = c .before in
+    let at-if2 = c .before .before in
     let at-entry-place2 = at-if2 .before in
     let at-if1 = at-entry-place2 .before in
     let at-entry-place = at-if1 .before in

@@ -1,3 +1,10 @@
+use Rattle.maps.specs.Calls.{siteRefusals, deciding, siteOverFactoryCall}
+use Rattle.blocks.proofs.Judging.{verdict-sound}
+use Rattle.blocks.specs.Blocks.{mapLayout}
+use Rattle.answers.proofs.Turns.{refused-part, given-part}
+use mathlib.Core.List.{[]}
+use mathlib.Core.Path.{_∙_}
+use denote.Ref.{now}
 use native.Mathlib.Omega.{arith}
 use borrow.Author.Needs.{needs}
 use Rattle.maps.proofs.site_over_factory.Statement.{statement}
@@ -20,13 +27,28 @@ part-result-end : tie.Need-part-result-end
 part-result-end c = search needs
 
 returns : tie.Need-returns
-returns c = search needs
+unfolding siteOverFactoryCall
+returns c =
+    let j = c .before .before .before in
+    let start = j .before .before .before in
+    refused-part (siteRefusals (now (start .args .site)) (now (start .args .factory))) (j .judge-two .result) (j .judge-two .ensures) [] [] []
+    (deciding (now (start .args .site)) (now (start .args .factory)) (start .args .x)) (c .before .if1 .taken)
 
 decided-requires : tie.Need-decided-requires
-decided-requires c κs = search needs
+decided-requires c κs =
+    let j = c .before .before in
+    let start = j .before .before .before in
+    let k = j .judge-two .ensures .clear (c .if1 .left) in
+    (verdict-sound mapLayout (now (start .args .site)) (k .0), verdict-sound mapLayout (now (start .args .factory)) (k .1 .0))
 
 returns-2 : tie.Need-returns-2
-returns-2 c = search needs
+unfolding siteOverFactoryCall
+returns-2 c =
+    let j = c .before .before .before in
+    let start = j .before .before .before in
+    c .decided .ensures
+    ∙ given-part (siteRefusals (now (start .args .site)) (now (start .args .factory))) (j .judge-two .result) (j .judge-two .ensures) [] [] []
+    (deciding (now (start .args .site)) (now (start .args .factory)) (start .args .x)) (c .before .if1 .left)
 
 pub site-over-factory-spec : {M : Type 1} → statement M
 site-over-factory-spec =

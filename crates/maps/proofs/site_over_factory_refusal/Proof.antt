@@ -1,3 +1,7 @@
+use Rattle.maps.specs.Calls.{siteRefusals, siteRefusalCall}
+use Rattle.answers.proofs.Turns.{answered-by}
+use mathlib.Core.List.{[]}
+use denote.Ref.{now}
 use native.Mathlib.Omega.{arith}
 use borrow.Author.Needs.{needs}
 use Rattle.maps.proofs.site_over_factory_refusal.Statement.{statement}
@@ -14,7 +18,12 @@ judged-of-requires : tie.Need-judged-of-requires
 judged-of-requires c κs = search needs
 
 returns : tie.Need-returns
-returns c = search needs
+unfolding siteRefusalCall
+returns c =
+    let j = c .before in
+    let start = j .before .before .before in
+    answered-by (siteRefusals (now (start .args .site)) (now (start .args .factory))) (j .judge-two .result) (j .judge-two .ensures) []
+    (c .judged-of .result) (c .judged-of .ensures)
 
 pub site-over-factory-refusal-spec : {M : Type 1} → statement M
 site-over-factory-refusal-spec = tie.close (tie.spec judge-two-requires judged-of-requires returns)
