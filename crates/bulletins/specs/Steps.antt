@@ -1,7 +1,7 @@
 -- What the steps of the code promise each other. No public promise names these.
 use mathlib.Core.Path.{_≡_}
-use mathlib.Core.List.{List, [], _∷_}
-use Prim.Native.Nat.{ℕ, _≤_, _<_}
+use mathlib.Core.List.{List}
+use Prim.Native.Nat.{ℕ, _<_}
 use Rattle.blocks.specs.Blocks.{setLayout}
 use Rattle.blocks.specs.Calls.{noRoom}
 use Rattle.sweeps.specs.Sweeps.{Input, Inputs}

@@ -12,7 +12,7 @@ ghost use Rattle.blocks.specs.Calls.{noBlock, noRoom};
 ghost use Rattle.searches.specs.Calls.{overlapping};
 ghost use Rattle.sweeps.specs.Sweeps.{Inputs};
 ghost use Rattle.bulletins.specs.Calls.{amendedWith, applyRefusals, applyCall, foldRefusals, foldCall};
-ghost use Rattle.bulletins.specs.Steps.{Two, Folds, Writes};
+ghost use Rattle.bulletins.specs.Steps.{Folds, Writes};
 use answers::Finding;
 use answers::Judged;
 use sweeps::Plan;

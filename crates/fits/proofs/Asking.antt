@@ -1,9 +1,9 @@
 -- What the code's tests make of the questions' definition.
-use mathlib.Core.Path.{_≡_, refl, sym, _∙_, ap}
+use mathlib.Core.Path.{_≡_, sym, _∙_, ap}
 use mathlib.Core.Bool.{Bool, true, false}
 use mathlib.Core.Option.{Option, none, some}
 use mathlib.Core.List.{List, [], _∷_}
-use Prim.Native.Nat.{ℕ, zero, suc, _≤_}
+use Prim.Native.Nat.{ℕ, _≤_}
 use native.Mathlib.Omega.{arith}
 use lib.Dec.{eqb}
 use borrow.Author.Tests.{eqb-false, eq-eqb, ne-eqb, le-ltb}
@@ -22,7 +22,7 @@ use Rattle.searches.specs.Calls.{windowRefusals}
 use Rattle.searches.proofs.Windows.{clear-window}
 use Rattle.fits.specs.declared.Gap.{Gap}
 use Rattle.fits.specs.Fits.{gaps, fits, anywhere, startIn, placeIn}
-use Rattle.fits.specs.Calls.{zeroRun, gapless, noGap, placeOf, askRefusals, answered, fitCall}
+use Rattle.fits.specs.Calls.{zeroRun, gapless, placeOf, askRefusals, answered, fitCall}
 use Rattle.fits.specs.Steps.{chooser, fitter, gapOf, Asked}
 
 -- THE REFUSALS before a place is sought

@@ -24,7 +24,7 @@ use Rattle.blocks.specs.Calls.{stored}
 use Rattle.blocks.proofs.Judging.{sound-verdict}
 use Rattle.edits.specs.Calls.{edited, editCall}
 use Rattle.edits.specs.Steps.{roomSays}
-use Rattle.fits.specs.Calls.{askRefusals, fitRefusals, gapless, placeOf, answered, fitCall, reservedAt, reservedWith, reserveCall}
+use Rattle.fits.specs.Calls.{askRefusals, fitRefusals, gapless, placeOf, answered, fitCall, reservedAt, reserveCall}
 use Rattle.fits.specs.Meaning.{FirstOf as FirstPlace, BestOf, answering}
 use Rattle.fits.specs.Steps.{fitter, Placing, reserving}
 use Rattle.fits.proofs.Asking.{asked-right}

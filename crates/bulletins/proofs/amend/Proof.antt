@@ -15,10 +15,14 @@ use Rattle.sweeps.proofs.write.Reads as write-reads
 
 write-requires : tie.Need-write-requires
 write-requires c κs =
-    let start = c .before .before .before .before .before in
-    (start .pre .inputs,
-    (fit-set amending 2 2 2 (omega arith) (omega arith) (omega arith), write-fits (now (start .args .list)) (now (start .args .released))
-    (now (start .args .withdrawn)) _ (start .pre)))
+    let start = c .before .before .before .before .before in (
+      start .pre .inputs,
+      (
+        fit-set amending 2 2 2 (omega arith) (omega arith) (omega arith),
+        write-fits (now (start .args .list)) (now (start .args .released))
+            (now (start .args .withdrawn)) _ (start .pre),
+      ),
+    )
 
 same-length : tie.Need-same-length
 same-length c = search needs

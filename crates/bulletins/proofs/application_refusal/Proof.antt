@@ -1,12 +1,12 @@
 use denote.Ref.{now}
 use mathlib.Core.Path.{sym, _∙_}
 use lib.ListN.{take, drop}
+use Rattle.blocks.proofs.Judging.{verdict-sound}
 use Rattle.searches.specs.Calls.{overlapping}
 use Rattle.blocks.specs.Calls.{noRoom}
 use Rattle.bulletins.specs.Calls.{applyRefusals, amendedWith}
-use Rattle.entries.specs.Bulletins.{amended}
 use Rattle.blocks.specs.Blocks.{entriesOf, setLayout}
-use Rattle.answers.proofs.Turns.{stops, passes, ends, stops-in, passes-in}
+use Rattle.answers.proofs.Turns.{stops, passes, ends, stops-in, passes-in, clear-at}
 use Rattle.bulletins.proofs.Amending.{judged-input, overlap-small, room-small}
 use Rattle.blocks.proofs.Refusing.{some-words}
 use native.Mathlib.Omega.{arith}
@@ -32,12 +32,10 @@ returns c =
 shared-number-requires : tie.Need-shared-number-requires
 shared-number-requires c κs =
     let at-judge-application = c .before .before in
-    let at-shared-slice-known3 = at-judge-application .before in
-    let at-shared-slice-known2 = at-shared-slice-known3 .before in
-    let start = at-shared-slice-known2 .before .before in
-    let k = at-judge-application .judge-application .ensures .clear (c .if1 .left) in
-    record { first = judged-input (now (start .args .released)) (k .1 .0) (λ j. omega (arith, at-shared-slice-known2 .shared-slice-known2 .given j));
-    second = judged-input (now (start .args .withdrawn)) (k .1 .1 .0) (λ j. omega (arith, at-shared-slice-known3 .shared-slice-known3 .given j)) }
+    let start = at-judge-application .before .before .before .before in
+    let fs = applyRefusals (now (start .args .list)) (now (start .args .released)) (now (start .args .withdrawn)) (start .args .words) in
+    let k = clear-at (take 4 fs) (at-judge-application .judge-application .ensures .clear (c .if1 .left)) in
+    (verdict-sound setLayout (now (start .args .released)) (k 1), verdict-sound setLayout (now (start .args .withdrawn)) (k 2))
 
 returns-2 : tie.Need-returns-2
 returns-2 c =
@@ -49,7 +47,8 @@ returns-2 c =
     passes-in (take 4 fs) (drop 4 fs) _ _ (at-judge-application .judge-application .ensures) (at-if1 .if1 .left)
     (stops (at-shared-number .shared-number .result)
     (overlapping (entriesOf 2 (now (start .args .released))) (entriesOf 2 (now (start .args .withdrawn)))) 0 _
-    (at-shared-number .shared-number .ensures) (overlap-small _ _) (c .if2 .taken))
+    (at-shared-number .shared-number .ensures)
+    (overlap-small (entriesOf 2 (now (start .args .released))) (entriesOf 2 (now (start .args .withdrawn)))) (c .if2 .taken))
 
 no-room-requires : tie.Need-no-room-requires
 no-room-requires c κs =
@@ -59,11 +58,18 @@ no-room-requires c κs =
     let at-shared-slice-known2 = at-shared-slice-known3 .before in
     let at-shared-slice-known = at-shared-slice-known2 .before in
     let start = at-shared-slice-known .before in
-    let k = at-judge-application .judge-application .ensures .clear (at-if1 .if1 .left) in
-    (record { first = judged-input (now (start .args .list)) (k .0) (λ j. omega (arith, at-shared-slice-known .shared-slice-known .given j)); second
-    = judged-input (now (start .args .released)) (k .1 .0) (λ j. omega (arith, at-shared-slice-known2 .shared-slice-known2 .given j)); third =
-    judged-input (now (start .args .withdrawn)) (k .1 .1 .0) (λ j. omega (arith, at-shared-slice-known3 .shared-slice-known3 .given j)) }, some-words
-    (start .args .words) (k .1 .1 .1 .0))
+    let fs = applyRefusals (now (start .args .list)) (now (start .args .released)) (now (start .args .withdrawn)) (start .args .words) in
+    let k = clear-at (take 4 fs) (at-judge-application .judge-application .ensures .clear (at-if1 .if1 .left)) in (
+      record {
+        first = judged-input (now (start .args .list)) (k 0) (λ j. omega (arith, at-shared-slice-known .shared-slice-known .given j));
+        second =
+            judged-input (now (start .args .released)) (k 1) (λ j. omega (arith, at-shared-slice-known2 .shared-slice-known2 .given j));
+        third = judged-input
+            (now (start .args .withdrawn)) (k 2) (λ j. omega (arith, at-shared-slice-known3 .shared-slice-known3 .given j));
+      },
+      some-words
+          (start .args .words) (k 3),
+    )
 
 returns-3 : tie.Need-returns-3
 returns-3 c =
@@ -78,7 +84,8 @@ returns-3 c =
     (sym (at-shared-number .shared-number .ensures) ∙ at-if2 .if2 .left)
     (ends (c .no-room .result)
     (noRoom setLayout (start .args .words) (amendedWith (now (start .args .list)) (now (start .args .released)) (now (start .args .withdrawn)))) 3
-    (c .no-room .ensures) (room-small _ _)))
+    (c .no-room .ensures)
+    (room-small (start .args .words) (amendedWith (now (start .args .list)) (now (start .args .released)) (now (start .args .withdrawn))))))
 
 pub application-refusal-spec : {M : Type 1} → statement M
 application-refusal-spec =

@@ -4,7 +4,7 @@ use mathlib.Core.List.{List, [], _∷_}
 use Prim.Native.Nat.{ℕ}
 use lib.ListN.{length}
 use Rattle.bulletins.specs.Calls.{applyRefusals, applyCall}
-use Rattle.answers.proofs.Turns.{refused-by, given-by, accepted-as}
+use Rattle.answers.proofs.Turns.{refused-by, given-by, accepted-as, clear-at}
 use Rattle.bulletins.proofs.Amending.{judged-input}
 use Rattle.blocks.proofs.Refusing.{some-words}
 use native.Mathlib.Omega.{arith}
@@ -41,12 +41,20 @@ amend-requires c κs =
     let at-shared-slice-known2 = at-shared-slice-known3 .before in
     let at-shared-slice-known = at-shared-slice-known2 .before in
     let start = at-shared-slice-known .before in
-    let k = at-application-refusal .application-refusal .ensures .clear (at-if1 .if1 .left) in
-    record { inputs = record
-    { first = judged-input (now (start .args .list)) (k .0) (λ j. omega (arith, at-shared-slice-known .shared-slice-known .given j)); second =
-    judged-input (now (start .args .released)) (k .1 .0) (λ j. omega (arith, at-shared-slice-known2 .shared-slice-known2 .given j)); third =
-    judged-input (now (start .args .withdrawn)) (k .1 .1 .0) (λ j. omega (arith, at-shared-slice-known3 .shared-slice-known3 .given j)) }; some =
-    some-words (length (now (start .args .out))) (k .1 .1 .1 .0); room = k .1 .1 .1 .1 .1 .0 }
+    let fs = applyRefusals (now (start .args .list)) (now (start .args .released)) (now (start .args .withdrawn)) (length (now (start .args .out))) in
+    let k = clear-at fs (at-application-refusal .application-refusal .ensures .clear (at-if1 .if1 .left)) in
+    record {
+      inputs = record {
+        first = judged-input (now (start .args .list)) (k 0) (λ j. omega (arith, at-shared-slice-known .shared-slice-known .given j));
+        second =
+            judged-input (now (start .args .released)) (k 1) (λ j. omega (arith, at-shared-slice-known2 .shared-slice-known2 .given j));
+        third = judged-input
+            (now (start .args .withdrawn)) (k 2) (λ j. omega (arith, at-shared-slice-known3 .shared-slice-known3 .given j));
+      };
+      some = some-words
+          (length (now (start .args .out))) (k 3);
+      room = k 5;
+    }
 
 judged-of-requires-2 : tie.Need-judged-of-requires-2
 judged-of-requires-2 c κs = search needs

@@ -4,7 +4,7 @@ use mathlib.Core.List.{List, [], _∷_}
 use Prim.Native.Nat.{ℕ}
 use lib.ListN.{length}
 use Rattle.bulletins.specs.Calls.{foldRefusals, foldCall}
-use Rattle.answers.proofs.Turns.{refused-by, given-by, accepted-as}
+use Rattle.answers.proofs.Turns.{refused-by, given-by, accepted-as, clear-at}
 use Rattle.bulletins.proofs.Amending.{judged-input}
 use Rattle.blocks.proofs.Refusing.{some-words}
 use native.Mathlib.Omega.{arith}
@@ -42,12 +42,21 @@ amend-requires c κs =
     let at-shared-slice-known3 = at-shared-slice-known4 .before in
     let at-shared-slice-known = at-shared-slice-known3 .before .before in
     let start = at-shared-slice-known .before in
-    let k = at-fold-refusal .fold-refusal .ensures .clear (at-if1 .if1 .left) in
-    record { inputs = record
-    { first = judged-input (now (start .args .released1)) (k .0) (λ j. omega (arith, at-shared-slice-known .shared-slice-known .given j)); second =
-    judged-input (now (start .args .released2)) (k .1 .1 .0) (λ j. omega (arith, at-shared-slice-known3 .shared-slice-known3 .given j)); third =
-    judged-input (now (start .args .withdrawn2)) (k .1 .1 .1 .0) (λ j. omega (arith, at-shared-slice-known4 .shared-slice-known4 .given j)) }; some =
-    some-words (length (now (start .args .released))) (k .1 .1 .1 .1 .0); room = k .1 .1 .1 .1 .1 .1 .1 .1 .0 }
+    let fs = foldRefusals (now (start .args .released1)) (now (start .args .withdrawn1)) (now (start .args .released2))
+    (now (start .args .withdrawn2)) (length (now (start .args .released))) (length (now (start .args .withdrawn))) in
+    let k = clear-at fs (at-fold-refusal .fold-refusal .ensures .clear (at-if1 .if1 .left)) in
+    record {
+      inputs = record {
+        first = judged-input (now (start .args .released1)) (k 0) (λ j. omega (arith, at-shared-slice-known .shared-slice-known .given j));
+        second =
+            judged-input (now (start .args .released2)) (k 2) (λ j. omega (arith, at-shared-slice-known3 .shared-slice-known3 .given j));
+        third =
+            judged-input (now (start .args .withdrawn2)) (k 3) (λ j. omega (arith, at-shared-slice-known4 .shared-slice-known4 .given j));
+      };
+      some =
+          some-words (length (now (start .args .released))) (k 4);
+      room = k 8;
+    }
 
 amend-requires-2 : tie.Need-amend-requires-2
 amend-requires-2 c κs =
@@ -57,12 +66,21 @@ amend-requires-2 c κs =
     let at-shared-slice-known3 = at-shared-slice-known4 .before in
     let at-shared-slice-known2 = at-shared-slice-known3 .before in
     let start = at-shared-slice-known2 .before .before in
-    let k = at-fold-refusal .fold-refusal .ensures .clear (at-if1 .if1 .left) in
-    record { inputs = record
-    { first = judged-input (now (start .args .withdrawn1)) (k .1 .0) (λ j. omega (arith, at-shared-slice-known2 .shared-slice-known2 .given j));
-    second = judged-input (now (start .args .withdrawn2)) (k .1 .1 .1 .0) (λ j. omega (arith, at-shared-slice-known4 .shared-slice-known4 .given j));
-    third = judged-input (now (start .args .released2)) (k .1 .1 .0) (λ j. omega (arith, at-shared-slice-known3 .shared-slice-known3 .given j)) };
-    some = some-words (length (now (start .args .withdrawn))) (k .1 .1 .1 .1 .1 .0); room = k .1 .1 .1 .1 .1 .1 .1 .1 .1 .0 }
+    let fs = foldRefusals (now (start .args .released1)) (now (start .args .withdrawn1)) (now (start .args .released2))
+    (now (start .args .withdrawn2)) (length (now (start .args .released))) (length (now (start .args .withdrawn))) in
+    let k = clear-at fs (at-fold-refusal .fold-refusal .ensures .clear (at-if1 .if1 .left)) in
+    record {
+      inputs = record {
+        first = judged-input (now (start .args .withdrawn1)) (k 1) (λ j. omega (arith, at-shared-slice-known2 .shared-slice-known2 .given j));
+        second =
+            judged-input (now (start .args .withdrawn2)) (k 3) (λ j. omega (arith, at-shared-slice-known4 .shared-slice-known4 .given j));
+        third =
+            judged-input (now (start .args .released2)) (k 2) (λ j. omega (arith, at-shared-slice-known3 .shared-slice-known3 .given j));
+      };
+      some = some-words
+          (length (now (start .args .withdrawn))) (k 5);
+      room = k 9;
+    }
 
 judged-of-requires-2 : tie.Need-judged-of-requires-2
 judged-of-requires-2 c κs = search needs

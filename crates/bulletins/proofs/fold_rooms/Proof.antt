@@ -2,12 +2,9 @@ use denote.Ref.{now}
 use mathlib.Core.Path.{sym, _∙_}
 use Rattle.blocks.specs.Calls.{noRoom}
 use Rattle.bulletins.specs.Calls.{amendedWith}
-use Rattle.entries.specs.Bulletins.{amended}
-use Rattle.blocks.specs.Blocks.{entriesOf, setLayout}
+use Rattle.blocks.specs.Blocks.{setLayout}
 use Rattle.answers.proofs.Turns.{stops, passes, ends}
 use Rattle.bulletins.proofs.Amending.{room-small}
-use native.Mathlib.Omega.{arith}
-use borrow.Author.Needs.{needs}
 use Rattle.bulletins.proofs.fold_rooms.Statement.{statement}
 use Rattle.bulletins.proofs.fold_rooms.Tie as tie
 use Rattle.bulletins.proofs.fold_rooms.Reads as reads
@@ -26,7 +23,8 @@ returns c =
     stops (at-no-room .no-room .result)
     (noRoom setLayout (start .args .words4)
     (amendedWith (now (start .args .released1)) (now (start .args .released2)) (now (start .args .withdrawn2)))) 4 _ (at-no-room .no-room .ensures)
-    (room-small _ _) (c .if1 .taken)
+    (room-small (start .args .words4) (amendedWith (now (start .args .released1)) (now (start .args .released2)) (now (start .args .withdrawn2))))
+    (c .if1 .taken)
 
 no-room-requires-2 : tie.Need-no-room-requires-2
 no-room-requires-2 c κs =
@@ -44,7 +42,7 @@ returns-2 c =
     (ends (c .no-room2 .result)
     (noRoom setLayout (start .args .words5)
     (amendedWith (now (start .args .withdrawn1)) (now (start .args .withdrawn2)) (now (start .args .released2)))) 5 (c .no-room2 .ensures)
-    (room-small _ _))
+    (room-small (start .args .words5) (amendedWith (now (start .args .withdrawn1)) (now (start .args .withdrawn2)) (now (start .args .released2)))))
 
 pub fold-rooms-spec : {M : Type 1} → statement M
 fold-rooms-spec = tie.close (tie.spec no-room-requires returns no-room-requires-2 returns-2)

@@ -3,11 +3,9 @@ use mathlib.Core.Path.{sym, _∙_}
 use mathlib.Core.List.{[], _∷_}
 use Rattle.blocks.specs.Calls.{input, output, noBlock}
 use Rattle.blocks.specs.Blocks.{verdict, setLayout}
-use Rattle.answers.specs.Answers.{at}
 use Rattle.answers.proofs.Turns.{stops, passes, ends, stops-in, passes-in}
 use Rattle.bulletins.proofs.Amending.{block-small}
 use Rattle.blocks.proofs.Judging.{verdict-small}
-use native.Mathlib.Omega.{arith}
 use borrow.Author.Needs.{needs}
 use Rattle.bulletins.proofs.judge_application.Statement.{statement}
 use Rattle.bulletins.proofs.judge_application.Tie as tie

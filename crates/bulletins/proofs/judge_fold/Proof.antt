@@ -3,10 +3,8 @@ use mathlib.Core.Path.{sym, _∙_}
 use mathlib.Core.List.{[], _∷_}
 use Rattle.blocks.specs.Blocks.{setLayout}
 use Rattle.blocks.specs.Calls.{input, output, noBlock}
-use Rattle.answers.specs.Answers.{at}
 use Rattle.answers.proofs.Turns.{stops, passes, ends, stops-in, passes-in}
 use Rattle.bulletins.proofs.Amending.{block-small}
-use native.Mathlib.Omega.{arith}
 use borrow.Author.Needs.{needs}
 use Rattle.bulletins.proofs.judge_fold.Statement.{statement}
 use Rattle.bulletins.proofs.judge_fold.Tie as tie

@@ -35,11 +35,18 @@ fits-requires c κs =
     let at-count-of3 = c .before in
     let at-count-of2 = at-count-of3 .before in
     let at-count-of = at-count-of2 .before in
-    let start = at-count-of .before .before .before .before in
-    (start .pre .0, (fit-set amending 2 2 2 (omega arith) (omega arith) (omega arith),
-    (omega (arith, c .room-for .ensures), most (now (start .args .list)) (now (start .args .released)) (now (start .args .withdrawn)) (start .pre .0)
-    (at-count-of .count-of .result) (at-count-of2 .count-of2 .result) (at-count-of3 .count-of3 .result) (at-count-of .count-of .ensures)
-    (at-count-of2 .count-of2 .ensures) (at-count-of3 .count-of3 .ensures))))
+    let start = at-count-of .before .before .before .before in (
+      start .pre .0,
+      (
+        fit-set amending 2 2 2 (omega arith) (omega arith) (omega arith),
+        (
+          omega (arith, c .room-for .ensures),
+          most (now (start .args .list)) (now (start .args .released)) (now (start .args .withdrawn)) (start .pre .0)
+              (at-count-of .count-of .result) (at-count-of2 .count-of2 .result) (at-count-of3 .count-of3 .result) (at-count-of .count-of .ensures)
+              (at-count-of2 .count-of2 .ensures) (at-count-of3 .count-of3 .ensures),
+        ),
+      ),
+    )
 
 returns : tie.Need-returns
 returns c =

@@ -1,6 +1,5 @@
 use Rattle.bulletins.proofs.Amending.{shared-yes, shared-no}
 use borrow.Author.Needs.{needs}
-use native.Mathlib.Omega.{arith}
 use Rattle.bulletins.proofs.shared_number.Statement.{statement}
 use Rattle.bulletins.proofs.shared_number.Tie as tie
 use Rattle.bulletins.proofs.shared_number.Reads as reads

@@ -1,6 +1,5 @@
 use denote.Ref.{now}
 use Rattle.fits.proofs.Asking.{ask-window, ask-zero, ask-right}
-use native.Mathlib.Omega.{arith}
 use borrow.Author.Needs.{needs}
 use Rattle.fits.proofs.ask_verdict.Statement.{statement}
 use Rattle.fits.proofs.ask_verdict.Tie as tie

@@ -1,10 +1,9 @@
 use denote.Ref.{now}
-use mathlib.Core.Path.{refl, sym, _∙_}
+use mathlib.Core.Path.{refl}
 use mathlib.Core.Option.{none, some}
 use Rattle.blocks.specs.Blocks.{entriesOf}
 use Rattle.fits.specs.Steps.{fitter}
 use Rattle.fits.proofs.Asking.{asked-right, fit-refused, fit-answers, place-found, place-none, fit-none}
-use native.Mathlib.Omega.{arith}
 use borrow.Author.Needs.{needs}
 use Rattle.fits.proofs.fit.Statement.{statement}
 use Rattle.fits.proofs.fit.Tie as tie
@@ -31,9 +30,10 @@ returns c =
 
 gap-for-requires : tie.Need-gap-for-requires
 gap-for-requires c κs =
-    let at-ask = c .before in
-    let start = at-ask .before .before in
-    asked-right (now (start .args .block)) (start .args .a) (start .args .b) (start .args .k) (at-ask .ask-verdict .ensures .clear (c .if1 .left))
+    let at-ask-verdict = c .before in
+    let start = at-ask-verdict .before .before in
+    asked-right (now (start .args .block)) (start .args .a) (start .args .b) (start .args .k)
+    (at-ask-verdict .ask-verdict .ensures .clear (c .if1 .left))
 
 returns-2 : tie.Need-returns-2
 returns-2 c =

@@ -1,5 +1,4 @@
 use Rattle.fits.proofs.Walking.{before-none, before-cut, before-range}
-use native.Mathlib.Omega.{arith}
 use borrow.Author.Needs.{needs}
 use Rattle.fits.proofs.gap_before.Statement.{statement}
 use Rattle.fits.proofs.gap_before.Tie as tie

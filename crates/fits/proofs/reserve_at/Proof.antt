@@ -30,7 +30,8 @@ put-value-requires c κs =
     record {
       edit = record { two = omega arith; block = start .pre .block; count = at-count-of .count-of .ensures };
       whole = refl;
-      order = omega arith;
+      order = omega
+          arith;
     }
 
 same-length : tie.Need-same-length

@@ -1,6 +1,5 @@
 use Rattle.fits.proofs.Walking.{tried-short, tried-keep, tried-new}
 use mathlib.Core.Path.{refl, sym, _∙_}
-use native.Mathlib.Omega.{arith}
 use borrow.Author.Needs.{needs}
 use Rattle.fits.proofs.tried.Statement.{statement}
 use Rattle.fits.proofs.tried.Tie as tie

@@ -16,18 +16,26 @@ add-result c =
     let at-if1 = c .before in
     let at-entry-place = at-if1 .before in
     let start = at-entry-place .before .before .before in
-    record { fits = omega
-    (arith, value-held (now (start .args .site)) (start .args .x) (start .pre .0) (at-entry-place .entry-place .result)
-    (at-entry-place .entry-place .ensures) (at-if1 .if1 .taken)) }
+    record {
+      fits = omega (
+        arith,
+        value-held (now (start .args .site)) (start .args .x) (start .pre .0) (at-entry-place .entry-place .result)
+            (at-entry-place .entry-place .ensures) (at-if1 .if1 .taken),
+      );
+    }
 
 mul-result : tie.Need-mul-result
 mul-result c =
     let at-if1 = c .before in
     let at-entry-place = at-if1 .before in
     let start = at-entry-place .before .before .before in
-    record { fits = omega
-    (arith, value-held (now (start .args .site)) (start .args .x) (start .pre .0) (at-entry-place .entry-place .result)
-    (at-entry-place .entry-place .ensures) (at-if1 .if1 .taken)) }
+    record {
+      fits = omega (
+        arith,
+        value-held (now (start .args .site)) (start .args .x) (start .pre .0) (at-entry-place .entry-place .result)
+            (at-entry-place .entry-place .ensures) (at-if1 .if1 .taken),
+      );
+    }
 
 sub-result : tie.Need-sub-result
 sub-result c = search needs
@@ -40,8 +48,11 @@ part-result-end c =
     let at-if1 = c .before in
     let at-entry-place = at-if1 .before in
     let start = at-entry-place .before .before .before in
-    omega (arith, value-held (now (start .args .site)) (start .args .x) (start .pre .0) (at-entry-place .entry-place .result)
-    (at-entry-place .entry-place .ensures) (at-if1 .if1 .taken))
+    omega (
+      arith,
+      value-held (now (start .args .site)) (start .args .x) (start .pre .0) (at-entry-place .entry-place .result)
+          (at-entry-place .entry-place .ensures) (at-if1 .if1 .taken),
+    )
 
 returns : tie.Need-returns
 returns c =
@@ -62,18 +73,26 @@ add-result-2 c =
     let at-if2 = c .before in
     let at-entry-place2 = at-if2 .before in
     let start = at-entry-place2 .before .before .before .before .before in
-    record { fits = omega
-    (arith, value-held (now (start .args .factory)) (start .args .x) (start .pre .1) (at-entry-place2 .entry-place2 .result)
-    (at-entry-place2 .entry-place2 .ensures) (at-if2 .if2 .taken)) }
+    record {
+      fits = omega (
+        arith,
+        value-held (now (start .args .factory)) (start .args .x) (start .pre .1) (at-entry-place2 .entry-place2 .result)
+            (at-entry-place2 .entry-place2 .ensures) (at-if2 .if2 .taken),
+      );
+    }
 
 mul-result-2 : tie.Need-mul-result-2
 mul-result-2 c =
     let at-if2 = c .before in
     let at-entry-place2 = at-if2 .before in
     let start = at-entry-place2 .before .before .before .before .before in
-    record { fits = omega
-    (arith, value-held (now (start .args .factory)) (start .args .x) (start .pre .1) (at-entry-place2 .entry-place2 .result)
-    (at-entry-place2 .entry-place2 .ensures) (at-if2 .if2 .taken)) }
+    record {
+      fits = omega (
+        arith,
+        value-held (now (start .args .factory)) (start .args .x) (start .pre .1) (at-entry-place2 .entry-place2 .result)
+            (at-entry-place2 .entry-place2 .ensures) (at-if2 .if2 .taken),
+      );
+    }
 
 sub-result-2 : tie.Need-sub-result-2
 sub-result-2 c = search needs
@@ -86,8 +105,11 @@ part-result-end-2 c =
     let at-if2 = c .before in
     let at-entry-place2 = at-if2 .before in
     let start = at-entry-place2 .before .before .before .before .before in
-    omega (arith, value-held (now (start .args .factory)) (start .args .x) (start .pre .1) (at-entry-place2 .entry-place2 .result)
-    (at-entry-place2 .entry-place2 .ensures) (at-if2 .if2 .taken))
+    omega (
+      arith,
+      value-held (now (start .args .factory)) (start .args .x) (start .pre .1) (at-entry-place2 .entry-place2 .result)
+          (at-entry-place2 .entry-place2 .ensures) (at-if2 .if2 .taken),
+    )
 
 returns-2 : tie.Need-returns-2
 returns-2 c =

@@ -1,9 +1,9 @@
 use denote.Ref.{now}
-use mathlib.Core.Path.{_∙_, refl}
+use mathlib.Core.Path.{_∙_}
 use mathlib.Core.List.{List, []}
 use Rattle.maps.proofs.Looking.{width}
 use Rattle.entries.specs.Entries.{Entry}
-use Rattle.blocks.specs.Blocks.{entriesOf, setLayout, mapLayout}
+use Rattle.blocks.specs.Blocks.{setLayout, mapLayout}
 use Rattle.sweeps.specs.Sweeps.{result, inFirst}
 use Rattle.entries.specs.Maps.{domain}
 use Rattle.sweeps.proofs.Tables.{domain-table, bounded}

@@ -3,7 +3,6 @@ use mathlib.Core.Path.{sym, _∙_}
 use Rattle.blocks.specs.Blocks.{mapLayout}
 use Rattle.blocks.proofs.Judging.{verdict-sound}
 use Rattle.maps.proofs.Looking.{look-refused, look-given}
-use native.Mathlib.Omega.{arith}
 use borrow.Author.Needs.{needs}
 use Rattle.maps.proofs.look_up.Statement.{statement}
 use Rattle.maps.proofs.look_up.Tie as tie

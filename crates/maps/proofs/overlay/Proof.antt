@@ -1,9 +1,9 @@
 use denote.Ref.{now}
-use mathlib.Core.Path.{_∙_, refl}
+use mathlib.Core.Path.{_∙_}
 use mathlib.Core.List.{List, []}
 use Rattle.maps.proofs.Looking.{width}
 use Rattle.entries.specs.Entries.{Entry}
-use Rattle.blocks.specs.Blocks.{entriesOf, mapLayout}
+use Rattle.blocks.specs.Blocks.{mapLayout}
 use Rattle.sweeps.specs.Sweeps.{result, inEither}
 use Rattle.entries.specs.Maps.{overlay}
 use Rattle.sweeps.proofs.Tables.{overlay-table, bounded}

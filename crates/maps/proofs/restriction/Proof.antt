@@ -1,5 +1,5 @@
 use denote.Ref.{now}
-use mathlib.Core.Path.{_∙_, refl}
+use mathlib.Core.Path.{_∙_}
 use mathlib.Core.List.{List, []}
 use Rattle.maps.proofs.Looking.{width}
 use Rattle.entries.specs.Entries.{Entry}

@@ -5,7 +5,6 @@ use Rattle.answers.proofs.Turns.{refused-part, given-part}
 use mathlib.Core.List.{[]}
 use mathlib.Core.Path.{_∙_}
 use denote.Ref.{now}
-use native.Mathlib.Omega.{arith}
 use borrow.Author.Needs.{needs}
 use Rattle.maps.proofs.site_over_factory.Statement.{statement}
 use Rattle.maps.proofs.site_over_factory.Tie as tie
@@ -29,26 +28,29 @@ part-result-end c = search needs
 returns : tie.Need-returns
 unfolding siteOverFactoryCall
 returns c =
-    let j = c .before .before .before in
-    let start = j .before .before .before in
-    refused-part (siteRefusals (now (start .args .site)) (now (start .args .factory))) (j .judge-two .result) (j .judge-two .ensures) [] [] []
-    (deciding (now (start .args .site)) (now (start .args .factory)) (start .args .x)) (c .before .if1 .taken)
+    let at-if1 = c .before in
+    let at-judge-two = at-if1 .before .before in
+    let start = at-judge-two .before .before .before in
+    refused-part (siteRefusals (now (start .args .site)) (now (start .args .factory))) (at-judge-two .judge-two .result)
+    (at-judge-two .judge-two .ensures) [] [] [] (deciding (now (start .args .site)) (now (start .args .factory)) (start .args .x))
+    (at-if1 .if1 .taken)
 
 decided-requires : tie.Need-decided-requires
 decided-requires c κs =
-    let j = c .before .before in
-    let start = j .before .before .before in
-    let k = j .judge-two .ensures .clear (c .if1 .left) in
+    let at-judge-two = c .before .before in
+    let start = at-judge-two .before .before .before in
+    let k = at-judge-two .judge-two .ensures .clear (c .if1 .left) in
     (verdict-sound mapLayout (now (start .args .site)) (k .0), verdict-sound mapLayout (now (start .args .factory)) (k .1 .0))
 
 returns-2 : tie.Need-returns-2
 unfolding siteOverFactoryCall
 returns-2 c =
-    let j = c .before .before .before in
-    let start = j .before .before .before in
-    c .decided .ensures
-    ∙ given-part (siteRefusals (now (start .args .site)) (now (start .args .factory))) (j .judge-two .result) (j .judge-two .ensures) [] [] []
-    (deciding (now (start .args .site)) (now (start .args .factory)) (start .args .x)) (c .before .if1 .left)
+    let at-if1 = c .before in
+    let at-judge-two = at-if1 .before .before in
+    let start = at-judge-two .before .before .before in
+    c .decided .ensures ∙ given-part (siteRefusals (now (start .args .site)) (now (start .args .factory))) (at-judge-two .judge-two .result)
+    (at-judge-two .judge-two .ensures) [] [] [] (deciding (now (start .args .site)) (now (start .args .factory)) (start .args .x))
+    (at-if1 .if1 .left)
 
 pub site-over-factory-spec : {M : Type 1} → statement M
 site-over-factory-spec =

@@ -23,16 +23,23 @@ add-word : tie.Need-add-word
 add-word c =
     let at-entry-place = c .before in
     let start = at-entry-place .before .before in
-    record { fits = omega
-    (arith, value-held (now (start .args .block)) (start .args .x) (start .pre) (at-entry-place .entry-place .result)
-    (at-entry-place .entry-place .ensures) (c .if1 .left)) }
+    record {
+      fits = omega (
+        arith,
+        value-held (now (start .args .block)) (start .args .x) (start .pre) (at-entry-place .entry-place .result)
+            (at-entry-place .entry-place .ensures) (c .if1 .left),
+      );
+    }
 
 word-requires : tie.Need-word-requires
 word-requires c κs =
     let at-entry-place = c .before in
     let start = at-entry-place .before .before in
-    omega (arith, value-held (now (start .args .block)) (start .args .x) (start .pre) (at-entry-place .entry-place .result)
-    (at-entry-place .entry-place .ensures) (c .if1 .left))
+    omega (
+      arith,
+      value-held (now (start .args .block)) (start .args .x) (start .pre) (at-entry-place .entry-place .result)
+          (at-entry-place .entry-place .ensures) (c .if1 .left),
+    )
 
 returns-2 : tie.Need-returns-2
 returns-2 c =
