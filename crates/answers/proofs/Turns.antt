@@ -6,10 +6,10 @@ use mathlib.Core.List.{List, [], _∷_, _++_}
 use Prim.Native.Nat.{ℕ, zero, suc, _≤_, _<_}
 use native.Mathlib.Omega.{arith}
 use Rattle.answers.specs.declared.Judged.{Judged}
-use Rattle.answers.specs.Answers.{Answer, given, refused, Outcome, outcome, judged, numberSays, at, inTurn, lastNumber, applies, handed, Keeps}
-use Rattle.answers.specs.Says.{refusalSays, judgedSays, refusalOf, judgedOf}
 use Rattle.answers.specs.declared.Refusal.{Refusal}
-use Rattle.answers.proofs.Numbers.{refusal-says, judged-says, judged-as, Small, judged-small}
+use Rattle.answers.specs.Answers.{Answer, given, refused, Outcome, outcome, judged, numberSays, at, inTurn, lastNumber, applies, handed, Keeps}
+use Rattle.answers.specs.Says.{refusalSays, refusalOf, judgedSays, judgedOf}
+use Rattle.answers.proofs.Numbers.{judged-says, refused-as, judged-as, Small, judged-small}
 use Rattle.answers.specs.declared.Finding.{Finding}
 use Rattle.answers.specs.Steps.{Clear, FirstOf, numberAt, placeAt, Applies, Named}
 
@@ -74,18 +74,13 @@ module _ (fs : List Finding) (r : Finding) (f : FirstOf fs r) (lent : List (List
       go zero n = absurd (n refl)
       go (suc v) n = refl
 
-  -- the same for any kind of answer, whose refusal is f
-  pub refused-turn : (g : Refusal) → (r .number ≡ 0 → ⊥) → g ≡ refusalOf (r .number) (r .place) → outcome (refusalSays g) lent ≡ inTurn fs lent next
-  refused-turn g n e = go (r .number) n (f .small) e ∙ f .turn lent next
-    where
-      go : (v : ℕ) → (v ≡ 0 → ⊥) → v ≤ lastNumber → g ≡ refusalOf v (r .place) → outcome (refusalSays g) lent ≡ judged v (r .place) lent next
-      go zero n l e = absurd (n refl)
-      go (suc v) n l e =
-          ap (λ (h : Refusal). outcome (refusalSays h) lent) e
-          ∙ ap (λ (a : Answer). outcome a lent) (refusal-says (suc v) (r .place) (omega arith) l)
-
   pub given-by : (y : Outcome) → r .number ≡ 0 → y ≡ next → y ≡ inTurn fs lent next
   given-by y z q = q ∙ sym (ap (λ (m : ℕ). judged m (r .place) lent next) z) ∙ f .turn lent next
+
+-- the same of an answer that names the refusal itself
+pub refusal-by : (fs : List Finding) (r : Finding) → FirstOf fs r → (lent : List (List ℕ)) (next : Outcome) (x : Refusal) → (r .number ≡ 0 → ⊥)
+    → x ≡ refusalOf (r .number) (r .place) → outcome (refusalSays x) lent ≡ inTurn fs lent next
+refusal-by fs r f lent next x n e = refused-as lent (r .place) next (r .number) (r .number) x refl (f .small) n e ∙ f .turn lent next
 
 -- a question that asks only for the refusal
 pub answered-by : (fs : List Finding) (r : Finding) → FirstOf fs r → (lent : List (List ℕ)) (x : Judged) → x ≡ judgedOf (r .number) (r .place)

@@ -1,5 +1,5 @@
 -- The paper's number and values for each case of an answer.
-use mathlib.Core.List.{List, [], _∷_}
+use mathlib.Core.List.{[], _∷_}
 use Prim.Native.Nat.{ℕ, zero, suc}
 use lib.Dec.{eqb}
 use Rattle.entries.specs.Build.{pick}

@@ -5,3 +5,4 @@ pub mod Copying
 pub mod Tests
 pub mod Items
 pub mod Canonical
+pub mod Refusing

@@ -14,8 +14,11 @@ abbrev pub input : ℕ → Layout → List ℕ → Finding
 input position l w = at position (verdict l w)
 
 -- the block of so many words at a position, written: «then 1 for each output in turn». «An output's old words are not judged.»
+abbrev pub noBlock : ℕ → ℕ
+noBlock words = applies (eqb words 0) 1
+
 abbrev pub output : ℕ → ℕ → Finding
-output position words = at position (applies (eqb words 0) 1)
+output position words = at position (noBlock words)
 
 -- «4 Backwards: a range given as an argument has low above high»
 abbrev pub backwards : ℕ → ℕ → Finding
@@ -23,8 +26,11 @@ backwards a b = at 0 (applies (ltb b a) 4)
 
 -- the entries es into a block of so many words at a position: «5 Room: the result has more items than the written block's
 -- capacity». «Room looks at the result only.»
+abbrev pub noRoom : Layout → ℕ → List Entry → ℕ
+noRoom l words es = applies (ltb (capacity l words) (length es)) 5
+
 abbrev pub room : ℕ → Layout → ℕ → List Entry → Finding
-room position l words es = at position (applies (ltb (capacity l words) (length es)) 5)
+room position l words es = at position (noRoom l words es)
 
 -- accepted with no value, and the block w says es
 abbrev pub holding : List ℕ → List Entry → Outcome

@@ -5,7 +5,10 @@ ghost use mathlib.Core.List.{[], _∷_};
 ghost use lib.ListN.{length, getD, take, drop};
 ghost use Rattle.entries.specs.Build.{pick, sameWords};
 ghost use Rattle.blocks.specs.Blocks.{itemsOf, capacity, fine, soundb, verdict};
+ghost use Rattle.answers.specs.Steps.{FirstOf};
+ghost use Rattle.blocks.specs.Calls.{input};
 ghost use Rattle.blocks.specs.Steps.{itemFrom, Held, Copied, Cleared, Spliced};
+use answers::Finding;
 
 // The last number that a word says, 2^64 - 1.
 pub const M: u64 = 18446744073709551615;
@@ -148,6 +151,25 @@ pub fn judge(block: &[u64], layout: Layout) -> u8
         return 0;
     }
     3
+}
+
+// The first refusal of two blocks that are read, the first of which stands at a position.
+pub fn judge_two(a: &[u64], first: Layout, b: &[u64], second: Layout, position: usize) -> Finding
+    requires { ⌜ (2 ≤ first .width) × (2 ≤ second .width) × (position < 8) ⌝ }
+    ensures { λ r. ⌜ FirstOf (input position first (now (a .entry)) ∷ input (position + 1) second (now (b .entry)) ∷ []) r ⌝ }
+{
+    let v = judge(a, first);
+    if v != 0 {
+        return Finding {
+            number: v,
+            place: position,
+        };
+    }
+    let u = judge(b, second);
+    Finding {
+        number: u,
+        place: position + 1,
+    }
 }
 
 // Moves the len words from `from` on down to `to`.

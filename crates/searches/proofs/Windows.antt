@@ -13,14 +13,15 @@ use denote.Ref.{RefT, now}
 use Rattle.entries.specs.Entries.{Entry}
 use Rattle.entries.specs.Build.{pick}
 use Rattle.entries.specs.Questions.{meeting, whollyBelow}
-use Rattle.entries.proofs.Windows.{Passed, Begun, meeting-part, in-order}
+use Rattle.entries.proofs.Windows.{Passed, Begun, meeting-part, in-order as ends-in-order}
 use Rattle.answers.specs.Answers.{Outcome, outcome, given, refused, judged, at, applies, handed}
 use Rattle.answers.specs.Steps.{Clear, FirstOf}
-use Rattle.answers.proofs.Turns.{stops, passes, ends, applies-clear}
+use Rattle.answers.proofs.Turns.{stops, passes, ends}
 use Rattle.blocks.specs.declared.Layout.{Layout}
 use Rattle.blocks.specs.Blocks.{entriesOf, itemsOf, wordsOf, verdict}
 use Rattle.blocks.specs.Steps.{zero-item}
 use Rattle.blocks.specs.Calls.{backwards}
+use Rattle.blocks.proofs.Refusing.{in-order}
 use Rattle.blocks.proofs.Items.{entries-count, held}
 use Rattle.blocks.proofs.Judging.{verdict-small, verdict-sound}
 use Rattle.blocks.proofs.Words.{items-drop, items-take, write-back}
@@ -51,7 +52,7 @@ module _ {l : Layout} {w : List ℕ} {a b : ℕ} (g : Windowed l w a b) {n i j :
   upto = begun s (g .two) w n e b j q
 
   ordered : i ≤ j
-  ordered = in-order zero-item a b (g .order) es i j (g .block .sound) before upto
+  ordered = ends-in-order zero-item a b (g .order) es i j (g .block .sound) before upto
 
   count : length es ≡ n
   count = entries-count s (g .two) w n e
@@ -114,7 +115,7 @@ module _ (l : Layout) (w : List ℕ) (a b : ℕ) {v : ℕ} (e : v ≡ verdict l 
       (ends 0 (applies (ltb b a) 4) 0 (rw (le-ltb b a h)) (rw (le-ltb b a h) (omega arith)))
 
 pub clear-window : (l : Layout) (w : List ℕ) (a b : ℕ) → 2 ≤ l .width → Clear (windowRefusals l w a b) → Windowed l w a b
-clear-window l w a b two c = record { two = two; block = verdict-sound l w (c .0); order = ltb-false b a (applies-clear (ltb b a) 3 (c .1 .0)) }
+clear-window l w a b two c = record { two = two; block = verdict-sound l w (c .0); order = in-order a b (c .1 .0) }
 
 -- the part that an answer with an offset and a length names, and where there are none, none
 abbrev pub partIn : Outcome → Part

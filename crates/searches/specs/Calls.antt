@@ -1,13 +1,15 @@
--- Windows: what is handed back, and the refusal of the companion question. For sets and for maps.
+-- Windows: what is handed back, and the refusal of the companion question, for sets and for maps; the place of an entry; and the
+-- refusal of sets that share a number.
 use mathlib.Core.List.{List, [], _∷_}
 use Prim.Native.Nat.{ℕ, _+_, _*_}
 use lib.ListN.{length, take, drop}
-use Rattle.entries.specs.Entries.{valueAt}
+use Rattle.entries.specs.Entries.{Entry, valueAt}
 use Rattle.entries.specs.Build.{pick}
 use Rattle.entries.specs.Sets.{has}
 use Rattle.entries.specs.Questions.{meeting, whollyBelow}
+use Rattle.entries.specs.Bulletins.{shareb}
 use Rattle.answers.specs.declared.Finding.{Finding}
-use Rattle.answers.specs.Answers.{Outcome, outcome, given, inTurn, handed}
+use Rattle.answers.specs.Answers.{Outcome, outcome, given, at, applies, inTurn, handed}
 use Rattle.blocks.specs.declared.Layout.{Layout}
 use Rattle.blocks.specs.Blocks.{entriesOf}
 use Rattle.blocks.specs.Calls.{input, backwards}
@@ -43,6 +45,13 @@ windowCall l w a b = handed (inTurn (windowRefusals l w a b) [] (outcome (given 
 -- (`part-of-window` in proofs/Windows.)
 unfoldable pub windowAtCall : Layout → List ℕ → ℕ → ℕ → Outcome
 windowAtCall l w a b = inTurn (windowRefusals l w a b) [] (outcome (partSays (windowPart (l .width) w a b)) [])
+
+-- «14 Overlap: a bulletin's two sets share a number»
+abbrev pub overlapping : List Entry → List Entry → ℕ
+overlapping released withdrawn = applies (shareb released withdrawn) 14
+
+abbrev pub overlap : List ℕ → List ℕ → Finding
+overlap released withdrawn = at 0 (overlapping (entriesOf 2 released) (entriesOf 2 withdrawn))
 
 -- the place of the entry that holds x: behind the count and the entries wholly below x; 0 where there is none
 unfoldable pub entryPlace : ℕ → List ℕ → ℕ → ℕ

@@ -1,7 +1,5 @@
 use mathlib.Core.Path.{refl}
 use borrow.Author.Tests.{ne-eqb}
-use borrow.Author.Needs.{needs}
-use native.Mathlib.Omega.{arith}
 use Rattle.answers.proofs.refusal_of.Statement.{statement}
 use Rattle.answers.proofs.refusal_of.Tie as tie
 use Rattle.answers.proofs.refusal_of.Reads as reads

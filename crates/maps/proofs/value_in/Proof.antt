@@ -13,16 +13,41 @@ entry-place-requires : tie.Need-entry-place-requires
 entry-place-requires c κs = search needs
 
 returns : tie.Need-returns
-returns c = let a = c .before .before .before in value-none (now (a .args .block)) (a .args .x) (a .pre) (c .before .entry-place .result) (c .before .entry-place .ensures) (c .if1 .taken)
+returns c =
+    let at-entry-place = c .before in
+    let start = at-entry-place .before .before in
+    value-none (now (start .args .block)) (start .args .x) (start .pre) (at-entry-place .entry-place .result) (at-entry-place .entry-place .ensures)
+    (c .if1 .taken)
 
 add-word : tie.Need-add-word
-add-word c = let a = c .before .before .before in record { fits = omega (arith, value-held (now (a .args .block)) (a .args .x) (a .pre) (c .before .entry-place .result) (c .before .entry-place .ensures) (c .if1 .left)) }
+add-word c =
+    let at-entry-place = c .before in
+    let start = at-entry-place .before .before in
+    record {
+      fits = omega (
+        arith,
+        value-held (now (start .args .block)) (start .args .x) (start .pre) (at-entry-place .entry-place .result)
+            (at-entry-place .entry-place .ensures) (c .if1 .left),
+      );
+    }
 
 word-requires : tie.Need-word-requires
-word-requires c κs = let a = c .before .before .before in omega (arith, value-held (now (a .args .block)) (a .args .x) (a .pre) (c .before .entry-place .result) (c .before .entry-place .ensures) (c .if1 .left))
+word-requires c κs =
+    let at-entry-place = c .before in
+    let start = at-entry-place .before .before in
+    omega (
+      arith,
+      value-held (now (start .args .block)) (start .args .x) (start .pre) (at-entry-place .entry-place .result)
+          (at-entry-place .entry-place .ensures) (c .if1 .left),
+    )
 
 returns-2 : tie.Need-returns-2
-returns-2 c = let a = c .before .before .before .before in value-is (now (a .args .block)) (a .args .x) (a .pre) (c .before .before .entry-place .result) (c .before .before .entry-place .ensures) (c .before .if1 .left) (c .word .result) (c .word .ensures)
+returns-2 c =
+    let at-if1 = c .before in
+    let at-entry-place = at-if1 .before in
+    let start = at-entry-place .before .before in
+    value-is (now (start .args .block)) (start .args .x) (start .pre) (at-entry-place .entry-place .result) (at-entry-place .entry-place .ensures)
+    (at-if1 .if1 .left) (c .word .result) (c .word .ensures)
 
 pub value-in-spec : {M : Type 1} → statement M
 value-in-spec = tie.close (tie.spec entry-place-requires returns add-word word-requires returns-2)

@@ -1,8 +1,9 @@
 use denote.Ref.{now}
-use Rattle.searches.specs.Calls.{windowVerdict}
-use Rattle.searches.proofs.Windows.{window-most}
-use Rattle.answers.proofs.Numbers.{judged-as}
-use native.Mathlib.Omega.{arith}
+use mathlib.Core.List.{[]}
+use Rattle.answers.specs.Answers.{at}
+use Rattle.answers.proofs.Turns.{answered-by}
+use Rattle.blocks.specs.Blocks.{mapLayout}
+use Rattle.searches.specs.Calls.{windowRefusals, windowRefusalCall}
 use borrow.Author.Needs.{needs}
 use Rattle.maps.proofs.window_refusal.Statement.{statement}
 use Rattle.maps.proofs.window_refusal.Tie as tie
@@ -18,7 +19,12 @@ judged-of-requires : tie.Need-judged-of-requires
 judged-of-requires c κs = search needs
 
 returns : tie.Need-returns
-returns c = let a = c .before .before .before in judged-as _ 0 (c .before .window-verdict .result) (windowVerdict 3 2730 (now (a .args .block)) (a .args .a) (a .args .b)) (c .judged-of .result) (c .before .window-verdict .ensures) (window-most 3 2730 (now (a .args .block)) (a .args .a) (a .args .b)) (c .judged-of .ensures)
+unfolding windowRefusalCall
+returns c =
+    let at-window-verdict = c .before in
+    let start = at-window-verdict .before .before in
+    answered-by (windowRefusals mapLayout (now (start .args .block)) (start .args .a) (start .args .b))
+    (at 0 (at-window-verdict .window-verdict .result)) (at-window-verdict .window-verdict .ensures) [] (c .judged-of .result) (c .judged-of .ensures)
 
 pub window-refusal-spec : {M : Type 1} → statement M
 window-refusal-spec = tie.close (tie.spec window-verdict-requires judged-of-requires returns)

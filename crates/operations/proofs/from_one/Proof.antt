@@ -24,8 +24,8 @@ returns c =
     let at-if1 = c .before in
     let at-judge = at-if1 .before in
     let start = at-judge .before .before .before in
-    refused-here (start .args .first) (now (start .args .a)) 0 (now (start .args .o)) _ (at-judge .judge .result)
-    (at-judge .judge .ensures) _ (at-if1 .if1 .taken) (c .judged-of .ensures)
+    refused-here (start .args .first) (now (start .args .a)) 0 (now (start .args .o)) _ (at-judge .judge .result) (at-judge .judge .ensures) _
+    (at-if1 .if1 .taken) (c .judged-of .ensures)
 
 judged-of-requires-2 : tie.Need-judged-of-requires-2
 judged-of-requires-2 c κs = search needs
@@ -36,16 +36,15 @@ returns-2 c =
     let at-if1 = at-if2 .before in
     let at-judge = at-if1 .before in
     let start = at-judge .before .before .before in
-    passes (start .args .first) (now (start .args .a)) 0 (now (start .args .o)) _ (at-judge .judge .result)
-    (at-judge .judge .ensures) _ (at-if1 .if1 .left) (no-words 1 (now (start .args .o)) _ _ (at-if2 .if2 .taken) (c .judged-of2 .ensures))
+    passes (start .args .first) (now (start .args .a)) 0 (now (start .args .o)) _ (at-judge .judge .result) (at-judge .judge .ensures) _
+    (at-if1 .if1 .left) (no-words 1 (now (start .args .o)) _ _ (at-if2 .if2 .taken) (c .judged-of2 .ensures))
 
 count-of-requires : tie.Need-count-of-requires
 count-of-requires c κs =
     let at-if1 = c .before in
     let at-judge = at-if1 .before in
     let start = at-judge .before .before .before in
-    (verdict-sound (start .args .first) (now (start .args .a)) (sym (at-judge .judge .ensures) ∙ at-if1 .if1 .left))
-    .some
+    (verdict-sound (start .args .first) (now (start .args .a)) (sym (at-judge .judge .ensures) ∙ at-if1 .if1 .left)) .some
 
 add-bound : tie.Need-add-bound
 add-bound c =
@@ -60,10 +59,10 @@ store-one-requires c κs =
     let at-count-of = c .before in
     let at-if1 = at-count-of .before .before in
     let at-judge = at-if1 .before in
-    let at-known = at-judge .before .before in
-    let start = at-known .before in
+    let at-shared-slice-known = at-judge .before .before in
+    let start = at-shared-slice-known .before in
     one-ok (start .pre) (verdict-sound (start .args .first) (now (start .args .a)) (sym (at-judge .judge .ensures) ∙ at-if1 .if1 .left))
-    (at-count-of .count-of .ensures) _ (omega arith) (λ j. omega (arith, at-known .shared-slice-known .given j))
+    (at-count-of .count-of .ensures) _ (omega arith) (λ j. omega (arith, at-shared-slice-known .shared-slice-known .given j))
 
 judged-of-requires-3 : tie.Need-judged-of-requires-3
 judged-of-requires-3 c κs = search needs
@@ -79,9 +78,8 @@ returns-3 c =
     let at-if1 = at-if2 .before in
     let at-judge = at-if1 .before in
     let start = at-judge .before .before .before in
-    passes (start .args .first) (now (start .args .a)) 0 (now (start .args .o)) _ (at-judge .judge .result)
-    (at-judge .judge .ensures) _ (at-if1 .if1 .left)
-    (with-words 1 (now (start .args .o)) _ _ (at-if2 .if2 .left)
+    passes (start .args .first) (now (start .args .a)) 0 (now (start .args .o)) _ (at-judge .judge .result) (at-judge .judge .ensures) _
+    (at-if1 .if1 .left) (with-words 1 (now (start .args .o)) _ _ (at-if2 .if2 .left)
     (stored-yes 1 _ _ _ _ _ (at-store-one .store-one .ensures) _ (at-if3 .if3 .taken) (c .judged-of3 .ensures)))
 
 judged-of-requires-4 : tie.Need-judged-of-requires-4
@@ -98,9 +96,8 @@ returns-4 c =
     let at-if1 = at-if2 .before in
     let at-judge = at-if1 .before in
     let start = at-judge .before .before .before in
-    passes (start .args .first) (now (start .args .a)) 0 (now (start .args .o)) _ (at-judge .judge .result)
-    (at-judge .judge .ensures) _ (at-if1 .if1 .left)
-    (with-words 1 (now (start .args .o)) _ _ (at-if2 .if2 .left)
+    passes (start .args .first) (now (start .args .a)) 0 (now (start .args .o)) _ (at-judge .judge .result) (at-judge .judge .ensures) _
+    (at-if1 .if1 .left) (with-words 1 (now (start .args .o)) _ _ (at-if2 .if2 .left)
     (stored-no 1 _ _ _ _ _ (at-store-one .store-one .ensures) _ (at-if3 .if3 .left) (c .judged-of4 .ensures)))
 
 pub from-one-spec : {M : Type 1} → statement M

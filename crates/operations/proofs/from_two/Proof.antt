@@ -24,8 +24,8 @@ returns c =
     let at-if1 = c .before in
     let at-judge = at-if1 .before in
     let start = at-judge .before .before .before .before in
-    refused-here (start .args .layouts .first) (now (start .args .a)) 0 (now (start .args .o)) _ (at-judge .judge .result)
-    (at-judge .judge .ensures) _ (at-if1 .if1 .taken) (c .judged-of .ensures)
+    refused-here (start .args .layouts .first) (now (start .args .a)) 0 (now (start .args .o)) _ (at-judge .judge .result) (at-judge .judge .ensures)
+    _ (at-if1 .if1 .taken) (c .judged-of .ensures)
 
 judge-requires-2 : tie.Need-judge-requires-2
 judge-requires-2 c κs = search needs
@@ -40,9 +40,8 @@ returns-2 c =
     let at-if1 = at-judge2 .before in
     let at-judge = at-if1 .before in
     let start = at-judge .before .before .before .before in
-    passes (start .args .layouts .first) (now (start .args .a)) 0 (now (start .args .o)) _ (at-judge .judge .result)
-    (at-judge .judge .ensures) _ (at-if1 .if1 .left)
-    (refused-here (start .args .layouts .second) (now (start .args .b)) 1 (now (start .args .o)) _ (at-judge2 .judge2 .result)
+    passes (start .args .layouts .first) (now (start .args .a)) 0 (now (start .args .o)) _ (at-judge .judge .result) (at-judge .judge .ensures) _
+    (at-if1 .if1 .left) (refused-here (start .args .layouts .second) (now (start .args .b)) 1 (now (start .args .o)) _ (at-judge2 .judge2 .result)
     (at-judge2 .judge2 .ensures) _ (at-if2 .if2 .taken) (c .judged-of2 .ensures))
 
 judged-of-requires-3 : tie.Need-judged-of-requires-3
@@ -56,9 +55,8 @@ returns-3 c =
     let at-if1 = at-judge2 .before in
     let at-judge = at-if1 .before in
     let start = at-judge .before .before .before .before in
-    passes (start .args .layouts .first) (now (start .args .a)) 0 (now (start .args .o)) _ (at-judge .judge .result)
-    (at-judge .judge .ensures) _ (at-if1 .if1 .left)
-    (passes (start .args .layouts .second) (now (start .args .b)) 1 (now (start .args .o)) _ (at-judge2 .judge2 .result)
+    passes (start .args .layouts .first) (now (start .args .a)) 0 (now (start .args .o)) _ (at-judge .judge .result) (at-judge .judge .ensures) _
+    (at-if1 .if1 .left) (passes (start .args .layouts .second) (now (start .args .b)) 1 (now (start .args .o)) _ (at-judge2 .judge2 .result)
     (at-judge2 .judge2 .ensures) _ (at-if2 .if2 .left) (no-words 2 (now (start .args .o)) _ _ (at-if3 .if3 .taken) (c .judged-of3 .ensures)))
 
 count-of-requires : tie.Need-count-of-requires
@@ -66,30 +64,25 @@ count-of-requires c κs =
     let at-if1 = c .before .before .before in
     let at-judge = at-if1 .before in
     let start = at-judge .before .before .before .before in
-    (verdict-sound (start .args .layouts .first) (now (start .args .a)) (sym (at-judge .judge .ensures) ∙ at-if1 .if1 .left))
-    .some
+    (verdict-sound (start .args .layouts .first) (now (start .args .a)) (sym (at-judge .judge .ensures) ∙ at-if1 .if1 .left)) .some
 
 mul-bound : tie.Need-mul-bound
 mul-bound c =
-    let at-count-of = c in
-    let at-if2 = at-count-of .before .before in
+    let at-if2 = c .before .before in
     let at-judge2 = at-if2 .before in
     let at-if1 = at-judge2 .before in
     let at-judge = at-if1 .before in
-    let at-known2 = at-judge .before .before in
-    let at-known = at-known2 .before in
-    let start = at-known .before in
+    let start = at-judge .before .before .before .before in
     let sa = verdict-sound (start .args .layouts .first) (now (start .args .a)) (sym (at-judge .judge .ensures) ∙ at-if1 .if1 .left) in
     let sb = verdict-sound (start .args .layouts .second) (now (start .args .b)) (sym (at-judge2 .judge2 .ensures) ∙ at-if2 .if2 .left) in
-    record { fits = omega (arith, bound-fits (start .pre) sa sb (at-count-of .count-of .ensures) refl) }
+    record { fits = omega (arith, bound-fits (start .pre) sa sb (c .count-of .ensures) refl) }
 
 count-of-requires-2 : tie.Need-count-of-requires-2
 count-of-requires-2 c κs =
     let at-if2 = c .before .before in
     let at-judge2 = at-if2 .before in
     let start = at-judge2 .before .before .before .before .before .before in
-    (verdict-sound (start .args .layouts .second) (now (start .args .b))
-    (sym (at-judge2 .judge2 .ensures) ∙ at-if2 .if2 .left)) .some
+    (verdict-sound (start .args .layouts .second) (now (start .args .b)) (sym (at-judge2 .judge2 .ensures) ∙ at-if2 .if2 .left)) .some
 
 add-bound : tie.Need-add-bound
 add-bound c =
@@ -98,9 +91,7 @@ add-bound c =
     let at-judge2 = at-if2 .before in
     let at-if1 = at-judge2 .before in
     let at-judge = at-if1 .before in
-    let at-known2 = at-judge .before .before in
-    let at-known = at-known2 .before in
-    let start = at-known .before in
+    let start = at-judge .before .before .before .before in
     let sa = verdict-sound (start .args .layouts .first) (now (start .args .a)) (sym (at-judge .judge .ensures) ∙ at-if1 .if1 .left) in
     let sb = verdict-sound (start .args .layouts .second) (now (start .args .b)) (sym (at-judge2 .judge2 .ensures) ∙ at-if2 .if2 .left) in
     record { fits = omega (arith, bound-fits (start .pre) sa sb (at-count-of .count-of .ensures) (c .count-of2 .ensures)) }
@@ -113,13 +104,14 @@ store-two-requires c κs =
     let at-judge2 = at-if2 .before in
     let at-if1 = at-judge2 .before in
     let at-judge = at-if1 .before in
-    let at-known2 = at-judge .before .before in
-    let at-known = at-known2 .before in
-    let start = at-known .before in
+    let at-shared-slice-known2 = at-judge .before .before in
+    let at-shared-slice-known = at-shared-slice-known2 .before in
+    let start = at-shared-slice-known .before in
     let sa = verdict-sound (start .args .layouts .first) (now (start .args .a)) (sym (at-judge .judge .ensures) ∙ at-if1 .if1 .left) in
     let sb = verdict-sound (start .args .layouts .second) (now (start .args .b)) (sym (at-judge2 .judge2 .ensures) ∙ at-if2 .if2 .left) in
     two-ok (start .pre) sa sb (at-count-of .count-of .ensures) (at-count-of2 .count-of2 .ensures) _ (omega arith)
-    (λ j. omega (arith, at-known .shared-slice-known .given j)) (λ j. omega (arith, at-known2 .shared-slice-known2 .given j))
+    (λ j. omega (arith, at-shared-slice-known .shared-slice-known .given j))
+    (λ j. omega (arith, at-shared-slice-known2 .shared-slice-known2 .given j))
 
 judged-of-requires-4 : tie.Need-judged-of-requires-4
 judged-of-requires-4 c κs = search needs
@@ -137,9 +129,8 @@ returns-4 c =
     let at-if1 = at-judge2 .before in
     let at-judge = at-if1 .before in
     let start = at-judge .before .before .before .before in
-    passes (start .args .layouts .first) (now (start .args .a)) 0 (now (start .args .o)) _ (at-judge .judge .result)
-    (at-judge .judge .ensures) _ (at-if1 .if1 .left)
-    (passes (start .args .layouts .second) (now (start .args .b)) 1 (now (start .args .o)) _ (at-judge2 .judge2 .result)
+    passes (start .args .layouts .first) (now (start .args .a)) 0 (now (start .args .o)) _ (at-judge .judge .result) (at-judge .judge .ensures) _
+    (at-if1 .if1 .left) (passes (start .args .layouts .second) (now (start .args .b)) 1 (now (start .args .o)) _ (at-judge2 .judge2 .result)
     (at-judge2 .judge2 .ensures) _ (at-if2 .if2 .left)
     (with-words 2 (now (start .args .o)) _ _ (at-if3 .if3 .left)
     (stored-yes 2 _ _ _ _ _ (at-store-two .store-two .ensures) _ (at-if4 .if4 .taken) (c .judged-of4 .ensures))))
@@ -160,9 +151,8 @@ returns-5 c =
     let at-if1 = at-judge2 .before in
     let at-judge = at-if1 .before in
     let start = at-judge .before .before .before .before in
-    passes (start .args .layouts .first) (now (start .args .a)) 0 (now (start .args .o)) _ (at-judge .judge .result)
-    (at-judge .judge .ensures) _ (at-if1 .if1 .left)
-    (passes (start .args .layouts .second) (now (start .args .b)) 1 (now (start .args .o)) _ (at-judge2 .judge2 .result)
+    passes (start .args .layouts .first) (now (start .args .a)) 0 (now (start .args .o)) _ (at-judge .judge .result) (at-judge .judge .ensures) _
+    (at-if1 .if1 .left) (passes (start .args .layouts .second) (now (start .args .b)) 1 (now (start .args .o)) _ (at-judge2 .judge2 .result)
     (at-judge2 .judge2 .ensures) _ (at-if2 .if2 .left)
     (with-words 2 (now (start .args .o)) _ _ (at-if3 .if3 .left)
     (stored-no 2 _ _ _ _ _ (at-store-two .store-two .ensures) _ (at-if4 .if4 .left) (c .judged-of5 .ensures))))

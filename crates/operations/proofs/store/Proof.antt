@@ -25,12 +25,13 @@ fits-requires c κs =
 
 write-requires : tie.Need-write-requires
 write-requires c κs =
-    let at-fits2 = c .before .before in
+    let at-if1 = c .before in
+    let at-fits2 = at-if1 .before in
     let at-room-for = at-fits2 .before in
     let start = at-room-for .before .before .before .before .before in
     let room = has-room (layout (start .args .plan .out) (start .args .limit)) (length (now (start .args .o))) (at-room-for .room-for .result)
     (length (resultOf (start .args .plan) (now (start .args .a)) (now (start .args .b)) (now (start .args .c)))) (at-room-for .room-for .ensures)
-    (start .pre .1 .1 .2) (leb-true _ _ (sym (at-fits2 .fits2 .ensures) ∙ c .before .if1 .taken)) in
+    (start .pre .1 .1 .2) (leb-true _ _ (sym (at-fits2 .fits2 .ensures) ∙ at-if1 .if1 .taken)) in
     (start .pre .0, (start .pre .1 .0, room))
 
 same-length : tie.Need-same-length

@@ -1,7 +1,7 @@
 use denote.Ref.{now}
 use mathlib.Core.List.{[]}
 use Rattle.answers.specs.Answers.{at, outcome}
-use Rattle.answers.proofs.Turns.{refused-turn, given-by}
+use Rattle.answers.proofs.Turns.{refusal-by, given-by}
 use Rattle.searches.specs.Parts.{partSays}
 use Rattle.searches.specs.Calls.{windowPart, windowRefusals, windowAtCall}
 use Rattle.searches.proofs.Windows.{clear-window, part-empty, part-some}
@@ -26,7 +26,7 @@ unfolding windowAtCall
 returns c =
     let at-verdict = c .before .before in
     let start = at-verdict .before .before in
-    refused-turn (windowRefusals (start .args .layout) (now (start .args .block)) (start .args .a) (start .args .b))
+    refusal-by (windowRefusals (start .args .layout) (now (start .args .block)) (start .args .a) (start .args .b))
     (at 0 (at-verdict .window-verdict .result)) (at-verdict .window-verdict .ensures) []
     (outcome (partSays (windowPart (start .args .layout .width) (now (start .args .block)) (start .args .a) (start .args .b))) [])
     (c .refusal-of .result) (c .before .if1 .taken) (c .refusal-of .ensures)
