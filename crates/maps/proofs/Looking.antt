@@ -1,4 +1,4 @@
--- What the code's tests make of the definitions: looking up, and the deciding entry of two maps.
+-- What the code's tests make of the definition of looking up.
 use mathlib.Core.Path.{_≡_, sym, _∙_, ap}
 use mathlib.Core.Bool.{Bool, true, false}
 use mathlib.Core.Option.{Option}
@@ -17,9 +17,9 @@ use Rattle.answers.specs.Says.{refusalSays, refusalOf}
 use Rattle.answers.proofs.Numbers.{refused-as, given-as}
 use Rattle.blocks.specs.Blocks.{mapLayout, verdict, SoundBlock}
 use Rattle.blocks.proofs.Judging.{verdict-small}
-use Rattle.searches.specs.Calls.{entryPlace, entryPart}
-use Rattle.searches.proofs.Entries.{place-none, standing}
-use Rattle.maps.specs.Calls.{mapEntries, worth, lookUpCall, deciding}
+use Rattle.searches.specs.declared.Part.{Part}
+use Rattle.searches.specs.Steps.{EntryOf}
+use Rattle.maps.specs.Calls.{mapEntries, worth, lookUpCall}
 
 -- the words of an entry
 abbrev pub width : ℕ
@@ -34,39 +34,17 @@ pub look-given : (w : List ℕ) (x v : ℕ) (a : Answer) → v ≡ verdict mapLa
 unfolding lookUpCall
 look-given w x v a e z q = given-as [] 0 _ _ v (verdict mapLayout w) e z (ap (λ (b : Answer). outcome b []) q)
 
-module _ (w : List ℕ) (x : ℕ) (b : SoundBlock mapLayout w) (r : ℕ) (e : r ≡ entryPlace width w x) where
-  pub value-none : r ≡ 0 → given [] ≡ worth (valueAt (mapEntries w) x)
-  value-none z = sym (ap worth (place-none mapLayout w x (omega arith) b r e z))
+-- the value in the entry that the code found
+module _ {w : List ℕ} {x : ℕ} {r : Part} (g : EntryOf mapLayout w x r) where
+  pub value-none : r .length ≡ 0 → given [] ≡ worth (valueAt (mapEntries w) x)
+  value-none z = sym (ap worth (g .none z))
 
-  module _ (n : r ≡ 0 → ⊥) where
-    pub value-held : r + width ≤ length w
-    value-held = (standing mapLayout w x (omega arith) b r e n) .held
+  module _ (n : r .length ≡ 0 → ⊥) where
+    pub value-held : r .place + width ≤ length w
+    value-held = omega (arith, g .held, g .value n .1)
 
-    pub value-is : (v : ℕ) → v ≡ getD w (r + 2) 0 → given (v ∷ []) ≡ worth (valueAt (mapEntries w) x)
+    pub value-is : (v : ℕ) → v ≡ getD w (r .place + 2) 0 → given (v ∷ []) ≡ worth (valueAt (mapEntries w) x)
     value-is v q =
         ap (λ (y : ℕ). given (y ∷ [])) q
-        ∙ ap (λ (l : List ℕ). given (take 1 l)) (sym (drop-cons w (r + 2) 0 (omega (arith, value-held))))
-        ∙ sym (ap worth ((standing mapLayout w x (omega arith) b r e n) .value))
-
-    pub has-value : has (valueAt (mapEntries w) x) ≡ true
-    has-value = ap has ((standing mapLayout w x (omega arith) b r e n) .value)
-
-    pub part-here : take (r + width - r) (drop r w) ≡ entryPart width w x
-    part-here = let k : r + width - r ≡ width = omega arith in ap (λ (j : ℕ). take j (drop r w)) k ∙ (standing mapLayout w x (omega arith) b r e n) .part
-
-  pub no-part : r ≡ 0 → [] ≡ entryPart width w x
-  no-part z =
-      sym (ap (λ (o : Option Value). pick (has o) (take width (drop (1 + width * length (whollyBelow x (mapEntries w))) w)) [])
-      (place-none mapLayout w x (omega arith) b r e z))
-
-  pub no-value : r ≡ 0 → has (valueAt (mapEntries w) x) ≡ false
-  no-value z = ap has (place-none mapLayout w x (omega arith) b r e z)
-
--- the site map decides, or the factory map
-pub site-decides : (site factory : List ℕ) (x : ℕ) (p : List ℕ) → has (valueAt (mapEntries site) x) ≡ true → p ≡ entryPart width site x
-    → p ≡ deciding site factory x
-site-decides site factory x p h q = q ∙ sym (ap (λ (t : Bool). pick t (entryPart width site x) (entryPart width factory x)) h)
-
-pub factory-decides : (site factory : List ℕ) (x : ℕ) (p : List ℕ) → has (valueAt (mapEntries site) x) ≡ false → p ≡ entryPart width factory x
-    → p ≡ deciding site factory x
-factory-decides site factory x p h q = q ∙ sym (ap (λ (t : Bool). pick t (entryPart width site x) (entryPart width factory x)) h)
+        ∙ ap (λ (l : List ℕ). given (take 1 l)) (sym (drop-cons w (r .place + 2) 0 (omega (arith, value-held))))
+        ∙ sym (ap worth (g .value n .0))

@@ -4,12 +4,17 @@ ghost use mathlib.Core.Path.{_≡_};
 ghost use mathlib.Core.List.{[], _∷_};
 ghost use Rattle.entries.specs.Entries.{valueAt};
 ghost use Rattle.answers.specs.Answers.{outcome};
-ghost use Rattle.answers.specs.Says.{judgedSays, foundSays};
+ghost use Rattle.answers.specs.Says.{judgedSays, foundSays, partedSays, decidedSays};
 ghost use Rattle.blocks.specs.Blocks.{SoundBlock, mapLayout};
 ghost use Rattle.maps.specs.Calls.{mapEntries, worth, lookUpCall, assignCall, eraseCall, overlayCall, restrictionCall, domainCall};
-ghost use Rattle.maps.specs.Calls.{mapWindowCall, mapWindowRefusalCall, siteRefusalCall, deciding, siteOverFactoryCall};
+ghost use Rattle.maps.specs.Calls.{mapWindowCall, mapWindowAtCall, mapWindowRefusalCall, siteRefusalCall, atPosition};
+ghost use Rattle.maps.specs.Calls.{siteOverFactoryCall, siteOverFactoryAtCall};
+ghost use Rattle.maps.specs.Steps.{DecidingOf};
+ghost use Rattle.searches.specs.Parts.{part, IsPart};
+use answers::Decided;
 use answers::Found;
 use answers::Judged;
+use answers::Parted;
 use operations::Layouts;
 
 // The value of x in a sound map.
@@ -17,11 +22,11 @@ fn value_in(block: &[u64], x: u64) -> Found
     requires { ⌜ SoundBlock mapLayout (now block) ⌝ }
     ensures { λ r. ⌜ foundSays r ≡ worth (valueAt (mapEntries (now (block .entry))) x) ⌝ }
 {
-    let place = searches::entry_place(block, blocks::MAP, x);
-    if place == 0 {
+    let entry = searches::entry_part(block, blocks::MAP, x);
+    if entry.length == 0 {
         return Found::Nothing;
     }
-    Found::Number(blocks::word(block, place + 2))
+    Found::Number(blocks::word(block, entry.place + 2))
 }
 
 // The value of x, or none. A value is any word, 0 included.
@@ -85,9 +90,16 @@ pub fn domain(map: &[u64], out: &mut [u64]) -> Judged
 
 // The part of the block that holds the entries which share a number with a..b; refused, a part of no words.
 pub fn window(block: &[u64], a: u64, b: u64) -> &[u64]
-    ensures { λ r. ⌜ now r ≡ mapWindowCall (now (block .entry)) a b ⌝ }
+    ensures { λ r. ⌜ IsPart (block .entry) r (mapWindowCall (now (block .entry)) a b) ⌝ }
 {
     searches::window(block, blocks::MAP, a, b)
+}
+
+// The same part, as the place of its first word and the number of its words; or that no entry shares a number with a..b.
+pub fn window_at(block: &[u64], a: u64, b: u64) -> Parted
+    ensures { λ r. ⌜ outcome (partedSays r) [] ≡ mapWindowAtCall (now (block .entry)) a b ⌝ }
+{
+    searches::window_at(block, blocks::MAP, a, b)
 }
 
 // The refusal of the window a..b, or that there is none.
@@ -97,20 +109,32 @@ pub fn window_refusal(block: &[u64], a: u64, b: u64) -> Judged
     answers::judged_of(searches::window_verdict(block, blocks::MAP, a, b), 0)
 }
 
-// The deciding entry of x in two sound maps.
-fn decided<'a>(site: &'a [u64], factory: &'a [u64], x: u64) -> &'a [u64]
+// A part of one of two maps: the map's position, the place of the part's first word, and the number of its words.
+pub struct Deciding {
+    pub position: usize,
+    pub place: usize,
+    pub length: usize,
+}
+
+// The entry that decides x in two sound maps: the site map's where it has a value, else the factory map's, else its empty part.
+fn deciding_of(site: &[u64], factory: &[u64], x: u64) -> Deciding
     requires { ⌜ SoundBlock mapLayout (now site) × SoundBlock mapLayout (now factory) ⌝ }
-    ensures { λ r. ⌜ now r ≡ deciding (now (site .entry)) (now (factory .entry)) x ⌝ }
+    ensures { λ r. ⌜ DecidingOf (now (site .entry)) (now (factory .entry)) x r ⌝ }
 {
-    let a = searches::entry_place(site, blocks::MAP, x);
-    if a != 0 {
-        return &site[a..a + blocks::MAP.width];
+    let own = searches::entry_part(site, blocks::MAP, x);
+    if own.length != 0 {
+        return Deciding {
+            position: 0,
+            place: own.place,
+            length: own.length,
+        };
     }
-    let b = searches::entry_place(factory, blocks::MAP, x);
-    if b != 0 {
-        return &factory[b..b + blocks::MAP.width];
+    let other = searches::entry_part(factory, blocks::MAP, x);
+    Deciding {
+        position: 1,
+        place: other.place,
+        length: other.length,
     }
-    &factory[0..0]
 }
 
 // The refusal of the site map, else of the factory map, or that there is none.
@@ -123,11 +147,33 @@ pub fn site_over_factory_refusal(site: &[u64], factory: &[u64]) -> Judged
 
 // The three words of the entry that decides x: the site map's where it has a value, else the factory map's, else a part of no words.
 pub fn site_over_factory<'a>(site: &'a [u64], factory: &'a [u64], x: u64) -> &'a [u64]
-    ensures { λ r. ⌜ now r ≡ siteOverFactoryCall (now (site .entry)) (now (factory .entry)) x ⌝ }
+    ensures { λ r. ⌜ IsPart (atPosition (siteOverFactoryCall (now (site .entry)) (now (factory .entry)) x .position) (site .entry) (factory .entry)) r
+        (part (siteOverFactoryCall (now (site .entry)) (now (factory .entry)) x .place) (siteOverFactoryCall (now (site .entry)) (now (factory .entry)) x .length)) ⌝ }
 {
     let found = blocks::judge_two(site, blocks::MAP, factory, blocks::MAP, 0);
     if found.number != 0 {
         return &site[0..0];
     }
-    decided(site, factory, x)
+    let d = deciding_of(site, factory, x);
+    let from = d.place;
+    let to = d.place + d.length;
+    if d.position == 0 {
+        return &site[from..to];
+    }
+    &factory[from..to]
+}
+
+// The same entry, as the place and the length of its part and the position of its map; or that no entry decides.
+pub fn site_over_factory_at(site: &[u64], factory: &[u64], x: u64) -> Decided
+    ensures { λ r. ⌜ outcome (decidedSays r) [] ≡ siteOverFactoryAtCall (now (site .entry)) (now (factory .entry)) x ⌝ }
+{
+    let found = blocks::judge_two(site, blocks::MAP, factory, blocks::MAP, 0);
+    if found.number != 0 {
+        return Decided::Refused(answers::refusal_of(found.number, found.place));
+    }
+    let d = deciding_of(site, factory, x);
+    if d.length == 0 {
+        return Decided::Nothing;
+    }
+    Decided::Entry(d.place, d.length, d.position)
 }

@@ -53,10 +53,7 @@ overlapping released withdrawn = applies (shareb released withdrawn) 14
 abbrev pub overlap : List ℕ → List ℕ → Finding
 overlap released withdrawn = at 0 (overlapping (entriesOf 2 released) (entriesOf 2 withdrawn))
 
--- the place of the entry that holds x: behind the count and the entries wholly below x; 0 where there is none
-unfoldable pub entryPlace : ℕ → List ℕ → ℕ → ℕ
-entryPlace s w x = pick (has (valueAt (entriesOf s w) x)) (1 + s * length (whollyBelow x (entriesOf s w))) 0
-
--- «the three words of the deciding entry, as a part of whichever map holds it»: s words from there (`standing` in proofs/Entries)
-abbrev pub entryPart : ℕ → List ℕ → ℕ → List ℕ
-entryPart s w x = pick (has (valueAt (entriesOf s w) x)) (take s (drop (1 + s * length (whollyBelow x (entriesOf s w))) w)) []
+-- «the three words of the deciding entry, as a part of whichever map holds it»: behind the count and the entries wholly below x, the
+-- words of the entry that holds x; «else an empty part»
+unfoldable pub entryPart : ℕ → List ℕ → ℕ → Part
+entryPart s w x = pick (has (valueAt (entriesOf s w) x)) (part (1 + s * length (whollyBelow x (entriesOf s w))) s) noPart

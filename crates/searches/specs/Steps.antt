@@ -1,13 +1,14 @@
 -- What the steps of the code promise each other. No public promise names these.
 use mathlib.Core.Path.{_≡_}
+use mathlib.Core.Option.{none, some}
 use mathlib.Core.List.{List}
-use Prim.Native.Nat.{ℕ, _+_, _*_, _≤_, _<_}
-use lib.ListN.{length, getD}
+use Prim.Native.Nat.{ℕ, _+_, _*_, _-_, _≤_, _<_}
+use lib.ListN.{length, getD, take, drop}
 use Rattle.entries.specs.Entries.{valueAt}
 use Rattle.entries.specs.Sets.{has}
 use Rattle.blocks.specs.declared.Layout.{Layout}
 use Rattle.blocks.specs.Blocks.{entriesOf, SoundBlock}
-use Rattle.searches.specs.Calls.{windowPlace, windowLength}
+use Rattle.searches.specs.Calls.{windowPlace, windowLength, entryPart}
 use Rattle.searches.specs.declared.Part.{Part}
 use Rattle.searches.specs.declared.Spot.{Spot}
 
@@ -28,6 +29,13 @@ pub record FirstFrom (ws : List ℕ) (s off n x r : ℕ) : Type 0 where
 pub record SpotOf (l : Layout) (w : List ℕ) (x : ℕ) (r : Spot) : Type 0 where
   pub first : FirstFrom w (l .width) 2 (getD w 0 0) x (r .below)
   pub inside : r .inside ≡ has (valueAt (entriesOf (l .width) w) x)
+
+-- r is the entry of w that holds x, within its block; where it has words, they are its value's from the third on
+pub record EntryOf (l : Layout) (w : List ℕ) (x : ℕ) (r : Part) : Type 0 where
+  pub is : r ≡ entryPart (l .width) w x
+  pub held : r .place + r .length ≤ length w
+  pub none : r .length ≡ 0 → valueAt (entriesOf (l .width) w) x ≡ none
+  pub value : (r .length ≡ 0 → ⊥) → (valueAt (entriesOf (l .width) w) x ≡ some (take (l .width - 2) (drop (r .place + 2) w))) × (r .length ≡ l .width)
 
 -- a sound block and a window in order
 pub record Windowed (l : Layout) (w : List ℕ) (a b : ℕ) : Type 0 where

@@ -8,9 +8,9 @@ ghost use Rattle.answers.specs.Answers.{at, outcome};
 ghost use Rattle.answers.specs.Says.{partedSays};
 ghost use Rattle.answers.specs.Steps.{FirstOf};
 ghost use Rattle.blocks.specs.Blocks.{SoundBlock, setLayout, entriesOf};
-ghost use Rattle.searches.specs.Calls.{windowPart, windowRefusals, windowCall, windowAtCall, entryPlace};
+ghost use Rattle.searches.specs.Calls.{windowPart, windowRefusals, windowCall, windowAtCall};
 ghost use Rattle.searches.specs.Parts.{IsPart};
-ghost use Rattle.searches.specs.Steps.{Sorted, FirstFrom, SpotOf, Windowed, PartOf};
+ghost use Rattle.searches.specs.Steps.{Sorted, FirstFrom, SpotOf, EntryOf, Windowed, PartOf};
 use answers::Parted;
 use blocks::Layout;
 
@@ -86,16 +86,22 @@ pub fn spot_of(block: &[u64], layout: Layout, x: u64) -> Spot
     }
 }
 
-// The place of the first word of the entry of a sound block that holds x, or 0 where there is none.
-pub fn entry_place(block: &[u64], layout: Layout, x: u64) -> usize
+// The entry of a sound block that holds x, as a part of the block; the empty part at its front where there is none.
+pub fn entry_part(block: &[u64], layout: Layout, x: u64) -> Part
     requires { ⌜ (2 ≤ layout .width) × SoundBlock layout (now block) ⌝ }
-    ensures { λ r. ⌜ r ≡ entryPlace (layout .width) (now (block .entry)) x ⌝ }
+    ensures { λ r. ⌜ EntryOf layout (now (block .entry)) x r ⌝ }
 {
     let spot = spot_of(block, layout, x);
     if spot.inside {
-        return layout.width * spot.below + 1;
+        return Part {
+            place: layout.width * spot.below + 1,
+            length: layout.width,
+        };
     }
-    0
+    Part {
+        place: 0,
+        length: 0,
+    }
 }
 
 // The number of the first refusal of the window a..b of a block: 1, 2, 3 of the block, then 4; 0 where there is none.

@@ -1,26 +1,26 @@
 use Rattle.searches.proofs.Spots.{inside-is}
-use Rattle.searches.proofs.Entries.{place-in, place-out}
+use Rattle.searches.proofs.Entries.{entry-in, entry-out}
 use native.Mathlib.Omega.{arith}
 use borrow.Author.Needs.{needs}
-use Rattle.searches.proofs.entry_place.Statement.{statement}
-use Rattle.searches.proofs.entry_place.Tie as tie
-use Rattle.searches.proofs.entry_place.Reads as reads
-use Rattle.searches.proofs.entry_place.Lts as lts
+use Rattle.searches.proofs.entry_part.Statement.{statement}
+use Rattle.searches.proofs.entry_part.Tie as tie
+use Rattle.searches.proofs.entry_part.Reads as reads
+use Rattle.searches.proofs.entry_part.Lts as lts
 use Rattle.searches.proofs.spot_of.Reads as spot-of-reads
 
 spot-of-requires : tie.Need-spot-of-requires
 spot-of-requires c κs = search needs
 
-mul-result : tie.Need-mul-result
-mul-result c =
+mul-t6 : tie.Need-mul-t6
+mul-t6 c =
     let at-if1 = c .before .before in
     let at-spot-of = at-if1 .before in
     let start = at-spot-of .before .before in
     let i = inside-is (start .pre .0) (start .pre .1) (at-spot-of .spot-of .ensures) (at-if1 .if1 .taken) in
     record { fits = omega (arith, i .item .held) }
 
-add-result : tie.Need-add-result
-add-result c =
+add-t7 : tie.Need-add-t7
+add-t7 c =
     let at-if1 = c .before .before in
     let at-spot-of = at-if1 .before in
     let start = at-spot-of .before .before in
@@ -32,13 +32,13 @@ returns c =
     let at-if1 = c .before .before in
     let at-spot-of = at-if1 .before in
     let start = at-spot-of .before .before in
-    place-in (start .pre .0) (start .pre .1) (at-spot-of .spot-of .ensures) (at-if1 .if1 .taken)
+    entry-in (start .pre .0) (start .pre .1) (at-spot-of .spot-of .ensures) (at-if1 .if1 .taken)
 
 returns-2 : tie.Need-returns-2
 returns-2 c =
     let at-spot-of = c .before in
     let start = at-spot-of .before .before in
-    place-out (start .pre .0) (start .pre .1) (at-spot-of .spot-of .ensures) (c .if1 .left)
+    entry-out (start .pre .0) (start .pre .1) (at-spot-of .spot-of .ensures) (c .if1 .left)
 
-pub entry-place-spec : {M : Type 1} → statement M
-entry-place-spec = tie.close (tie.spec spot-of-requires mul-result add-result returns returns-2)
+pub entry-part-spec : {M : Type 1} → statement M
+entry-part-spec = tie.close (tie.spec spot-of-requires mul-t6 add-t7 returns returns-2)
