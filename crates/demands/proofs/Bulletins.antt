@@ -355,9 +355,9 @@ module _ (r w r′ w′ : List ℕ) (b : Bulletin r w) (b′ : Bulletin r′ w�
   pub same-effect : (entriesOf 2 r ≡ entriesOf 2 r′) × (entriesOf 2 w ≡ entriesOf 2 w′)
   same-effect = (
     set-canonical (entriesOf 2 r) (entriesOf 2 r′) (verdict-sound setLayout r (b .released-sound) .sound)
-    (verdict-sound setLayout r′ (b′ .released-sound) .sound) (entries-plain r) (entries-plain r′) released,
+        (verdict-sound setLayout r′ (b′ .released-sound) .sound) (entries-plain r) (entries-plain r′) released,
     set-canonical (entriesOf 2 w) (entriesOf 2 w′) (verdict-sound setLayout w (b .withdrawn-sound) .sound)
-    (verdict-sound setLayout w′ (b′ .withdrawn-sound) .sound) (entries-plain w) (entries-plain w′) withdrawn,
+        (verdict-sound setLayout w′ (b′ .withdrawn-sound) .sound) (entries-plain w) (entries-plain w′) withdrawn,
   )
     where
       released : (x : ℕ) → member (entriesOf 2 r) x ≡ member (entriesOf 2 r′) x
