@@ -94,7 +94,7 @@ pub fn window(block: &[u64], a: u64, b: u64) -> &[u64]
 pub fn window_refusal(block: &[u64], a: u64, b: u64) -> Judged
     ensures { λ r. ⌜ outcome (judgedSays r) [] ≡ mapWindowRefusalCall (now (block .entry)) a b ⌝ }
 {
-    answers::judged_of(searches::window_verdict(block, blocks::MAP, a, b), 0)
+    searches::window_refusal(block, blocks::MAP, a, b)
 }
 
 // The deciding entry of x in two sound maps.

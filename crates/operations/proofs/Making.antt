@@ -14,7 +14,7 @@ use Rattle.answers.specs.Answers.{Outcome, outcome, given, judged as judgedBy, 
 use Rattle.answers.specs.Says.{judgedSays, judgedOf}
 use Rattle.answers.proofs.Numbers.{judged-says}
 use Rattle.blocks.specs.declared.Layout.{Layout}
-use Rattle.blocks.specs.Blocks.{capacity, blockOf, entriesOf, verdict, SoundBlock}
+use Rattle.blocks.specs.Blocks.{setLayout, mapLayout, capacity, blockOf, entriesOf, verdict, SoundBlock}
 use Rattle.blocks.specs.Calls.{noBlock, stored}
 use Rattle.blocks.specs.Steps.{Lent}
 use Rattle.blocks.proofs.Judging.{verdict-sound, room-words, verdict-small}
@@ -24,7 +24,7 @@ use Rattle.sweeps.specs.Sweeps.{Inputs, Fit, resultOf}
 use Rattle.sweeps.proofs.Tables.{none-input, input, bounded}
 use Rattle.operations.specs.declared.Layouts.{Layouts}
 use Rattle.operations.specs.Calls.{fromTwo, fromOne}
-use Rattle.operations.specs.Steps.{many, AnyOk, StoreOk, Wrote, TwoFit, OneFit}
+use Rattle.operations.specs.Steps.{many, AnyOk, StoreOk, Wrote, Small, TwoFit, OneFit}
 
 -- a result within the capacity has its words
 pub has-room : (l : Layout) (L cap n : ℕ) → cap ≡ capacity l L → 0 < L → n ≤ cap → 1 + l .width * n ≤ L
@@ -81,6 +81,13 @@ module _ (position : ℕ) (o : List ℕ) (next : Outcome) where
 pub entries-shaped : (l : Layout) (w : List ℕ) → 2 ≤ l .width → SoundBlock l w → Shaped (l .width) (entriesOf (l .width) w)
 entries-shaped l w two b =
     items-shaped (l .width) two (getD w 0 0) (drop 1 w) (omega (arith, room-words l (length w) (getD w 0 0) (b .some) (b .fits), length-drop 1 w))
+
+-- the layouts of 01 are small
+pub set-small : Small setLayout
+set-small = record { two = omega arith; four = omega arith; few = omega arith }
+
+pub map-small : Small mapLayout
+map-small = record { two = omega arith; four = omega arith; few = omega arith }
 
 -- how many items two inputs can make
 small-mul : (k n : ℕ) → k ≤ 2 → k * n ≤ n + n

@@ -1,13 +1,16 @@
 // Finding a place in a judged block: where a number stands, the items that meet a window, and whether two sets share a number.
 ghost use mathlib.Core.Path.{_≡_};
+ghost use mathlib.Core.List.{[]};
 ghost use Prim.Native.Nat.{_+_, _≤_, _<_};
 ghost use lib.ListN.{length, getD};
 ghost use Rattle.entries.specs.Bulletins.{shareb};
-ghost use Rattle.answers.specs.Answers.{at};
+ghost use Rattle.answers.specs.Answers.{outcome, at};
+ghost use Rattle.answers.specs.Says.{judgedSays};
 ghost use Rattle.answers.specs.Steps.{FirstOf};
 ghost use Rattle.blocks.specs.Blocks.{SoundBlock, setLayout, entriesOf};
-ghost use Rattle.searches.specs.Calls.{windowPart, windowRefusals, windowCall, entryPlace};
+ghost use Rattle.searches.specs.Calls.{windowPart, windowRefusals, windowRefusalCall, windowCall, entryPlace};
 ghost use Rattle.searches.specs.Steps.{Sorted, FirstFrom, SpotOf, Windowed, PartOf};
+use answers::Judged;
 use blocks::Layout;
 
 // A part of a block: where it begins, and its words.
@@ -107,6 +110,14 @@ pub fn window_verdict(block: &[u64], layout: Layout, a: u64, b: u64) -> u8
         return 4;
     }
     0
+}
+
+// The refusal of the window a..b of any words lent as a block, or that there is none.
+pub fn window_refusal(block: &[u64], layout: Layout, a: u64, b: u64) -> Judged
+    requires { ⌜ 2 ≤ layout .width ⌝ }
+    ensures { λ r. ⌜ outcome (judgedSays r) [] ≡ windowRefusalCall layout (now (block .entry)) a b ⌝ }
+{
+    answers::judged_of(window_verdict(block, layout, a, b), 0)
 }
 
 // Where in a sound block the items that share a number with a..b stand, and how many words they take.
