@@ -1,16 +1,17 @@
 -- Reasons and the paper's numbers, either way.
 use mathlib.Core.Path.{_≡_, refl, sym, _∙_, ap, subst}
-use mathlib.Core.Bool.{Bool, true, false}
+use mathlib.Core.Bool.{Bool, true}
 use mathlib.Core.List.{List, []}
 use Prim.Native.Nat.{ℕ, zero, suc, _≤_, _<_}
 use native.Mathlib.Omega.{arith}
 use native.Mathlib.Decide.{decLt}
 use lib.Dec.{eqb}
 use borrow.Author.Tests.{eqb-true}
-use Rattle.entries.specs.Build.{andb, pick}
+use Rattle.entries.specs.Build.{andb}
 use Rattle.entries.proofs.Values.{and-true}
 use Rattle.answers.specs.declared.Reason.{Reason}
-use Rattle.answers.specs.declared.Reason.the-variants.{NoBlock, Count, Order, Backwards, Room, ZeroRun, NoGap, Short, Mark, Kind, Check, Content, Trailing, Overlap, NoSpace}
+use Rattle.answers.specs.declared.Reason.the-variants.{NoBlock, Count, Order, Backwards, Room, ZeroRun, NoGap, Short, Mark, Kind, Check}
+use Rattle.answers.specs.declared.Reason.the-variants.{Content, Trailing, Overlap, NoSpace}
 use Rattle.answers.specs.declared.Refusal.{Refusal}
 use Rattle.answers.specs.declared.Judged.{Judged}
 use Rattle.answers.specs.declared.Judged.the-variants as judged
@@ -32,7 +33,8 @@ each test (suc n) h k p = let a = and-true (test n) (below test n) h in go (a .0
 
 pub reason-number : (k : ℕ) → 1 ≤ k → k ≤ lastNumber → numberOf (reasonOf k) ≡ k
 reason-number zero h l = absurd (omega arith)
-reason-number (suc k) h l = eqb-true (numberOf (reasonOf (suc k))) (suc k) (each (λ k. eqb (numberOf (reasonOf (suc k))) (suc k)) lastNumber refl k (omega arith))
+reason-number (suc k) h l =
+    eqb-true (numberOf (reasonOf (suc k))) (suc k) (each (λ k. eqb (numberOf (reasonOf (suc k))) (suc k)) lastNumber refl k (omega arith))
 
 pub number-reason : (r : Reason) → reasonOf (numberOf r) ≡ r
 number-reason NoBlock = refl
@@ -85,15 +87,18 @@ given-as lent place x y v k e z q = go k (sym e ∙ z)
 pub judged-as : (lent : List (List ℕ)) (place v k : ℕ) (r : Judged) → v ≡ k → k ≤ lastNumber → r ≡ judgedOf v place
     → outcome (judgedSays r) lent ≡ judgedBy k place lent (outcome (given []) lent)
 judged-as lent place v k r e l q =
-    ap (λ (x : Judged). outcome (judgedSays x) lent) (q ∙ ap (λ (j : ℕ). judgedOf j place) e) ∙ ap (λ (a : Answer). outcome a lent) (judged-says k place l) ∙ go k
+    ap (λ (x : Judged). outcome (judgedSays x) lent) (q ∙ ap (λ (j : ℕ). judgedOf j place) e)
+    ∙ ap (λ (a : Answer). outcome a lent) (judged-says k place l) ∙ go k
   where
     go : (k : ℕ) → outcome (numberSays k place) lent ≡ judgedBy k place lent (outcome (given []) lent)
     go zero = refl
     go (suc m) = refl
 
 -- a number's answer in place of the number
-pub numbered-as : (place : ℕ) {lent : List (List ℕ)} {k : ℕ} {r : Judged} {o : Outcome} → r ≡ judgedOf k place → k ≤ lastNumber → outcome (numberSays k place) lent ≡ o → outcome (judgedSays r) lent ≡ o
-numbered-as place {lent} {k} {r} {o} q l e = ap (λ (x : Judged). outcome (judgedSays x) lent) q ∙ ap (λ (a : Answer). outcome a lent) (judged-says k place l) ∙ e
+pub numbered-as : (place : ℕ) {lent : List (List ℕ)} {k : ℕ} {r : Judged} {o : Outcome} → r ≡ judgedOf k place → k ≤ lastNumber
+    → outcome (numberSays k place) lent ≡ o → outcome (judgedSays r) lent ≡ o
+numbered-as place {lent} {k} {r} {o} q l e =
+    ap (λ (x : Judged). outcome (judgedSays x) lent) q ∙ ap (λ (a : Answer). outcome a lent) (judged-says k place l) ∙ e
 
 -- an outcome whose refusal, if it is one, has a number of the table
 abbrev pub Small : Outcome → Type 0
@@ -107,7 +112,3 @@ small-number (suc k) place lent o e s = subst Small (sym e) s
 pub judged-small : (v place : ℕ) (lent : List (List ℕ)) (o : Outcome) → v ≤ lastNumber → Small o → Small (judgedBy v place lent o)
 judged-small zero place lent o l s = s
 judged-small (suc v) place lent o l s = l
-
-pub pick-small : (t : Bool) (a b : Outcome) → Small a → Small b → Small (pick t a b)
-pick-small true a b s u = s
-pick-small false a b s u = u

@@ -56,7 +56,9 @@ stops-in fs gs r f n = record {
 -- or none does
 pub passes-in : (fs gs : List Finding) (r q : Finding) → FirstOf fs r → r .number ≡ 0 → FirstOf gs q → FirstOf (fs ++ gs) q
 passes-in fs gs r q f z g = record {
-  turn = λ lent x. g .turn lent x ∙ sym (ap (λ (m : ℕ). judged m (r .place) lent (inTurn gs lent x)) z) ∙ f .turn lent (inTurn gs lent x) ∙ sym (in-turn fs gs lent x);
+  turn =
+      λ lent x. g .turn lent x ∙ sym (ap (λ (m : ℕ). judged m (r .place) lent (inTurn gs lent x)) z) ∙ f .turn lent (inTurn gs lent x)
+      ∙ sym (in-turn fs gs lent x);
   clear = λ y. clear-both fs gs (f .clear z) (g .clear y);
   small = g .small;
 }
@@ -101,7 +103,8 @@ module _ {A : Type 0} (fs : List Finding) (r : Finding) (f : FirstOf fs r) (lent
       sym (ap (λ (m : ℕ). handed (judged m (r .place) lent (outcome (given xs) after)) part empty) z)
       ∙ ap (λ (o : Outcome). handed o part empty) (f .turn lent (outcome (given xs) after))
 
-pub accepted-as : (place : ℕ) (x : Judged) (after due : List (List ℕ)) → x ≡ judgedOf 0 place → after ≡ due → outcome (judgedSays x) after ≡ outcome (given []) due
+pub accepted-as : (place : ℕ) (x : Judged) (after due : List (List ℕ)) → x ≡ judgedOf 0 place → after ≡ due
+    → outcome (judgedSays x) after ≡ outcome (given []) due
 accepted-as place x after due e q = ap₂ (λ (y : Judged) (l : List (List ℕ)). outcome (judgedSays y) l) e q
 
 -- REFUSED: nothing lent is changed

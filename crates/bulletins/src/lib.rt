@@ -138,7 +138,8 @@ fn judge_fold(
     words4: usize,
     words5: usize,
 ) -> Finding
-    ensures { λ r. ⌜ FirstOf (take 6 (foldRefusals (now (released1 .entry)) (now (withdrawn1 .entry)) (now (released2 .entry)) (now (withdrawn2 .entry)) words4 words5)) r ⌝ }
+    ensures { λ r. ⌜ FirstOf
+        (take 6 (foldRefusals (now (released1 .entry)) (now (withdrawn1 .entry)) (now (released2 .entry)) (now (withdrawn2 .entry)) words4 words5)) r ⌝ }
 {
     let earlier = blocks::judge_two(released1, blocks::SET, withdrawn1, blocks::SET, 0);
     if earlier.number != 0 {
@@ -171,7 +172,8 @@ fn fold_rooms(
     words5: usize,
 ) -> Finding
     requires { ⌜ Folds (now released1) (now withdrawn1) (now released2) (now withdrawn2) words4 words5 ⌝ }
-    ensures { λ r. ⌜ FirstOf (drop 8 (foldRefusals (now (released1 .entry)) (now (withdrawn1 .entry)) (now (released2 .entry)) (now (withdrawn2 .entry)) words4 words5)) r ⌝ }
+    ensures { λ r. ⌜ FirstOf
+        (drop 8 (foldRefusals (now (released1 .entry)) (now (withdrawn1 .entry)) (now (released2 .entry)) (now (withdrawn2 .entry)) words4 words5)) r ⌝ }
 {
     let full = no_room(released1, released2, withdrawn2, words4);
     if full != 0 {
@@ -228,8 +230,8 @@ pub fn fold(
     released: &mut [u64],
     withdrawn: &mut [u64],
 ) -> Judged
-    ensures { λ r. ⌜ outcome (judgedSays r) (now (released .exit) ∷ now (withdrawn .exit) ∷ []) ≡ foldCall (now (released1 .entry)) (now (withdrawn1 .entry)) (now (released2 .entry)) (now (withdrawn2 .entry))
-        (now (released .entry)) (now (withdrawn .entry)) ⌝ }
+    ensures { λ r. ⌜ outcome (judgedSays r) (now (released .exit) ∷ now (withdrawn .exit) ∷ []) ≡ foldCall
+        (now (released1 .entry)) (now (withdrawn1 .entry)) (now (released2 .entry)) (now (withdrawn2 .entry)) (now (released .entry)) (now (withdrawn .entry)) ⌝ }
 {
     let found = fold_refusal(
         released1,

@@ -25,13 +25,12 @@ use Rattle.blocks.proofs.Judging.{verdict-sound}
 use Rattle.blocks.specs.declared.Layout.{Layout}
 use Rattle.searches.specs.Parts.{wordsAt, noPart}
 use Rattle.searches.specs.Calls.{windowPart, windowRefusals, windowCall}
-use Rattle.searches.specs.Steps.{FirstFrom}
-use Rattle.searches.proofs.Windows.{words-are}
+use Rattle.searches.proofs.Windows.{window-words}
 use Rattle.sets.specs.Calls.{asked, ends, nonMember, memberCall, rangeAtCall, sizeCall, leastMemberCall, leastNonMemberCall}
 use Rattle.sets.proofs.Sizes.{entries-under}
 use Rattle.d14.specs.Plain.{Iff, SoundSet, InRange, In, answers, yes, no}
 use Rattle.d14.specs.Questions.{Answers, InSet, Member, RangeAt, Size, LeastMember, LeastNonMember, SetWindow}
-use Rattle.d14.proofs.Words.{First, Found, found, InItem, in-item, item-in}
+use Rattle.d14.proofs.Words.{InItem, in-item, item-in}
 
 -- a number has a value or none
 has-some : (o : Option Value) → has o ≡ true → (P : Type 0) → ((v : Value) → o ≡ some v → P) → P
@@ -236,18 +235,13 @@ size-means w s lent = (record { to = empty; from = none-in }, λ k. record { to 
     counted k e = asked-here ∙ ap (λ (n : ℕ). outcome (lessOne n) []) (size ∙ sym e) ∙ less-one k
 
 -- A WINDOW of a sound block: the words of what it meets, in order
-module _ (l : Layout) (two : 2 ≤ l .width) (w : List ℕ) (a b : ℕ) (s : verdict l w ≡ 0) (order : a ≤ b) where
-  pub window-words : wordsAt w (windowCall l w a b) ≡ wordsOf (meeting a b (entriesOf (l .width) w))
-  unfolding windowCall
-  window-words =
-      let i = found (λ k. getD w (l .width * k + 2) 0) a (getD w 0 0) in
-      let j = found (λ k. getD w (l .width * k + 1) 0) (b + 1) (getD w 0 0) in
-      ap (λ (o : Outcome). wordsAt w (handed o (windowPart (l .width) w a b) noPart))
-      (clear-turn (windowRefusals l w a b) [] (outcome (given []) []) (s, (rw (le-ltb b a order), tt)))
-      ∙ words-are (record { two = two; block = verdict-sound l w s; order = order }) refl (first (i .is)) (first (j .is))
-    where
-      first : {off x r : ℕ} → First (λ k. getD w (l .width * k + off) 0) (getD w 0 0) x r → FirstFrom w (l .width) off (getD w 0 0) x r
-      first f = record { within = f .within; before = f .before; from = f .from }
+pub window-means : (l : Layout) → 2 ≤ l .width → (w : List ℕ) (a b : ℕ) → verdict l w ≡ 0 → a ≤ b
+    → wordsAt w (windowCall l w a b) ≡ wordsOf (meeting a b (entriesOf (l .width) w))
+unfolding windowCall
+window-means l two w a b s order =
+    ap (λ (o : Outcome). wordsAt w (handed o (windowPart (l .width) w a b) noPart))
+    (clear-turn (windowRefusals l w a b) [] (outcome (given []) []) (s, (rw (le-ltb b a order), tt)))
+    ∙ window-words (record { two = two; block = verdict-sound l w s; order = order })
 
 pub set-window-means : SetWindow
-set-window-means w a b s order = window-words setLayout (omega arith) w a b s order
+set-window-means w a b s order = window-means setLayout (omega arith) w a b s order

@@ -5,7 +5,6 @@ use mathlib.Core.Bool.{Bool, true, false}
 use mathlib.Core.List.{List, [], _∷_}
 use Prim.Native.Nat.{ℕ, zero, suc, _+_, _*_, _-_, _≤_, _<_}
 use native.Mathlib.Omega.{arith}
-use native.Mathlib.Decide.{decLt}
 use lib.ListN.{length, getD, take, drop}
 use Rattle.entries.specs.Entries.{Value, Entry, Sound, valueAt}
 use Rattle.entries.proofs.Sides.{Side, under, inside, past, side, val-in, val-past, val-under}
@@ -15,39 +14,6 @@ use Rattle.blocks.specs.Blocks.{entriesOf, verdict}
 use Rattle.blocks.specs.Steps.{zero-item, itemAt}
 use Rattle.blocks.proofs.Items.{entries-count, entry-is}
 use Rattle.blocks.proofs.Judging.{verdict-sound}
-
--- the first of n numbers that is at least x, or n
-pub record First (f : ℕ → ℕ) (n x r : ℕ) : Type 0 where
-  pub within : r ≤ n
-  pub before : (k : ℕ) → k < r → f k < x
-  pub from : r < n → x ≤ f r
-
-pub record Found (f : ℕ → ℕ) (n x : ℕ) : Type 0 where
-  pub r : ℕ
-  pub is : First f n x r
-
--- there is one: by recursion on n, it is the one before, or n, or past n
-pub found : (f : ℕ → ℕ) (x n : ℕ) → Found f n x
-found f x zero = record { r = 0; is = record { within = omega arith; before = λ k h. absurd (omega arith); from = λ h. absurd (omega arith) } }
-found f x (suc n) = go (found f x n)
-  where
-    go : Found f n x → Found f (suc n) x
-    go g = on (decLt (g .r) n) (decLt (f n) x)
-      where
-        below : f n < x → n ≤ g .r → (k : ℕ) → k < suc n → Dec (k < g .r) → f k < x
-        below q p k h (yes i) = g .is .before k i
-        below q p k h (no i) = let e : k ≡ n = omega arith in rw e q
-
-        on : Dec (g .r < n) → Dec (f n < x) → Found f (suc n) x
-        on (yes p) d = record { r = g .r; is = record { within = omega (arith, g .is .within); before = g .is .before; from = λ h. g .is .from p } }
-        on (no p) (yes q) = record {
-          r = suc n;
-          is = record { within = omega arith; before = λ k h. below q (omega arith) k h (decLt k (g .r)); from = λ h. absurd (omega arith) };
-        }
-        on (no p) (no q) = record {
-          r = n;
-          is = record { within = omega arith; before = λ k h. g .is .before k (omega arith); from = λ h. omega arith };
-        }
 
 -- entry i holds x, and has the value v
 pub record Held (es : List Entry) (x : ℕ) (v : Value) : Type 0 where

@@ -14,7 +14,8 @@ use native.Mathlib.Nat.{mul-one}
 use Rattle.entries.specs.Entries.{Entry, Sound, entry}
 use Rattle.entries.proofs.Canon.{unique}
 use Rattle.entries.specs.Build.{with, put, sameWords}
-use Rattle.entries.proofs.Put.{put-is, put-some, put-none, cap, trimEnd, trimStart, Left, Right, JoinsLeft, JoinsRight, cut-here, join-before, cut-there, join-after}
+use Rattle.entries.proofs.Put.{put-is, put-some, put-none, cap, trimEnd, trimStart, Left, Right, JoinsLeft, JoinsRight, cut-here, join-before}
+use Rattle.entries.proofs.Put.{cut-there, join-after}
 use Rattle.blocks.specs.declared.Layout.{Layout}
 use Rattle.blocks.specs.Blocks.{itemsOf, entriesOf, capacity, blockOf, verdict}
 use Rattle.blocks.proofs.Words.{items-length, items-shaped, items-take}

@@ -14,7 +14,7 @@ ghost use Rattle.edits.specs.Calls.{edited, editCall};
 ghost use Rattle.edits.specs.Steps.{cutEnd, cutStart, update, CutOk, PlaceOk, SideOk, EditOk, PutOk, valueOf, roomSays};
 use blocks::Layout;
 
-// The high end of an entry, brought below lo.
+// The high that an entry keeps when every number from lo on is cut off it.
 fn below(high: u64, lo: u64) -> u64
     ensures { λ r. ⌜ r ≡ min high (lo - 1) ⌝ }
 {
@@ -24,7 +24,7 @@ fn below(high: u64, lo: u64) -> u64
     if lo == 0 { 0 } else { lo - 1 }
 }
 
-// The least number at or above low that is past hi, for an hi below high.
+// The low that an entry keeps when every number up to hi is cut off it; its high is above hi, so some of it is left.
 pub fn above(low: u64, hi: u64, high: u64) -> u64
     requires { ⌜ hi < high ⌝ }
     ensures { λ r. ⌜ r ≡ max low (suc hi) ⌝ }
@@ -32,7 +32,7 @@ pub fn above(low: u64, hi: u64, high: u64) -> u64
     if hi < low { low } else { hi + 1 }
 }
 
-// Brings word `at` below lo.
+// Cuts the entry whose high is word `at`, so that it ends before lo.
 fn lower(block: &mut [u64], at: usize, lo: u64)
     requires { ⌜ at < length (now block) ⌝ }
     ensures { λ _. ⌜ now (block .exit) ≡ update (now (block .entry)) at (λ h. min h (lo - 1)) ⌝ }
@@ -40,7 +40,7 @@ fn lower(block: &mut [u64], at: usize, lo: u64)
     block[at] = below(block[at], lo);
 }
 
-// Brings word `at`, the low end of an item that ends past hi, past hi.
+// Cuts the entry whose low is word `at` and whose high is above hi, so that it begins after hi.
 fn raise(block: &mut [u64], at: usize, hi: u64)
     requires { ⌜ (at + 1 < length (now block)) × (hi < getD (now block) (at + 1) 0) ⌝ }
     ensures { λ _. ⌜ now (block .exit) ≡ update (now (block .entry)) at (λ l. max l (suc hi)) ⌝ }
@@ -48,7 +48,7 @@ fn raise(block: &mut [u64], at: usize, hi: u64)
     block[at] = above(block[at], hi, block[at + 1]);
 }
 
-// Brings the high end of item i - 1 below lo.
+// Cuts the last of the first i items, if there is one, so that it ends before lo.
 fn cut_end(block: &mut [u64], s: usize, i: usize, lo: u64)
     requires { ⌜ (2 ≤ s) × (1 + s * i ≤ length (now block)) ⌝ }
     ensures { λ _. ⌜ now (block .exit) ≡ cutEnd s i lo (now (block .entry)) ⌝ }
@@ -59,7 +59,7 @@ fn cut_end(block: &mut [u64], s: usize, i: usize, lo: u64)
     lower(block, s * (i - 1) + 2, lo);
 }
 
-// Brings the low end of item k of m past hi.
+// Cuts item k of m, if there is one, so that it begins after hi.
 fn cut_start(block: &mut [u64], s: usize, k: usize, m: usize, hi: u64)
     requires { ⌜ CutOk s k m hi (now block) ⌝ }
     ensures { λ _. ⌜ now (block .exit) ≡ cutStart s k m hi (now (block .entry)) ⌝ }
@@ -70,7 +70,8 @@ fn cut_start(block: &mut [u64], s: usize, k: usize, m: usize, hi: u64)
     raise(block, s * k + 1, hi);
 }
 
-// The first i items, cut below lo; then the c new ones; then the items from j on, cut past hi.
+// Rewrites a block of n items: the first i, the last of them cut before lo; then the c new ones; then those from j on, the first of
+// them cut after hi. Where i is above j, the item between them is split: a part of it stays on either side.
 fn place(
     block: &mut [u64],
     new: &[u64],
@@ -100,7 +101,7 @@ fn place(
     cut_start(block, s, i + c, m, hi);
 }
 
-// Whether y is beyond x + 1.
+// Whether a range that begins at y lies apart from one that ends at x: it neither shares a number with it nor touches it.
 fn beyond(x: u64, y: u64) -> bool
     ensures { λ r. ⌜ r ≡ ltb (suc x) y ⌝ }
 {
@@ -113,13 +114,14 @@ fn beyond(x: u64, y: u64) -> bool
     false
 }
 
-// Where the left or the right part of a list ends, and the end of the new entry there.
+// One side of an edit: how many items stay before the new entry, or the first that stays behind it; and the new entry's end there.
 pub struct Side {
     pub at: usize,
     pub end: u64,
 }
 
-// The new entry joins the entry that ends right before it or within it, if that has the same value.
+// The side before a new entry: the items that begin before it stay, but that the last of them is joined with it, and gives it its
+// low, if it touches or reaches into it and has the same value.
 fn left_of(block: &[u64], new: &[u64], s: usize, n: usize) -> Side
     requires { ⌜ SideOk (now block) (now new) s n ⌝ }
     ensures { λ r. ⌜ JoinsLeft zero-item (itemsOf s n (drop 1 (now (block .entry)))) (r .at) (r .end)
@@ -141,7 +143,8 @@ fn left_of(block: &[u64], new: &[u64], s: usize, n: usize) -> Side
     Side { at: i, end: a }
 }
 
-// The new entry joins the entry that begins right after it or within it, if that has the same value.
+// The side behind a new entry: the items that end after it stay, but that the first of them is joined with it, and gives it its
+// high, if it touches or begins in it and has the same value.
 fn right_of(block: &[u64], new: &[u64], s: usize, n: usize) -> Side
     requires { ⌜ SideOk (now block) (now new) s n ⌝ }
     ensures { λ r. ⌜ JoinsRight zero-item (itemsOf s n (drop 1 (now (block .entry)))) (r .at) (r .end)

@@ -7,14 +7,9 @@ use Rattle.blocks.specs.Blocks.{setLayout, mapLayout}
 use Rattle.sweeps.specs.Sweeps.{inEither, inBoth, inFirst}
 use Rattle.sweeps.proofs.Tables.{overlay-table, restriction-table, domain-table, fit-set, fit-overlay, fit-restriction}
 use Rattle.operations.specs.declared.Layouts.{Layouts}
+use Rattle.operations.proofs.Making.{set-small, map-small}
 use Rattle.operations.specs.Steps.{Small, TwoFit, OneFit}
 use Rattle.maps.proofs.Looking.{width}
-
-map-small : Small mapLayout
-map-small = record { two = omega arith; four = omega arith; few = omega arith }
-
-set-small : Small setLayout
-set-small = record { two = omega arith; four = omega arith; few = omega arith }
 
 -- two maps into a map, and a map and a set into a map
 abbrev mapLayouts : Layouts

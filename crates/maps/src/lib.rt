@@ -106,7 +106,7 @@ pub fn window_at(block: &[u64], a: u64, b: u64) -> Parted
 pub fn window_refusal(block: &[u64], a: u64, b: u64) -> Judged
     ensures { λ r. ⌜ outcome (judgedSays r) [] ≡ mapWindowRefusalCall (now (block .entry)) a b ⌝ }
 {
-    answers::judged_of(searches::window_verdict(block, blocks::MAP, a, b), 0)
+    searches::window_refusal(block, blocks::MAP, a, b)
 }
 
 // A part of one of two maps: the map's position, the place of the part's first word, and the number of its words.

@@ -4,18 +4,18 @@ use mathlib.Core.Bool.{Bool, true, false}
 use mathlib.Core.List.{List, [], _∷_}
 use Prim.Native.Nat.{ℕ, zero, suc, _+_, _*_, _-_, _≤_, _<_}
 use native.Mathlib.Omega.{arith}
-use lib.Dec.{leb, eqb}
+use lib.Dec.{leb}
 use lib.ListN.{length, getD, drop, length-drop}
 use borrow.Author.Tests.{leb-true, leb-false, le-ltb, lt-ltb, eq-eqb, ne-eqb}
 use Rattle.entries.specs.Entries.{Entry}
 use Rattle.entries.specs.Build.{pick}
 use Rattle.answers.specs.declared.Judged.{Judged}
-use Rattle.answers.specs.Answers.{Outcome, outcome, given, judged as judgedBy, applies, lastNumber}
+use Rattle.answers.specs.Answers.{Outcome, outcome, given, judged as judgedBy, lastNumber}
 use Rattle.answers.specs.Says.{judgedSays, judgedOf}
 use Rattle.answers.proofs.Numbers.{judged-says}
 use Rattle.blocks.specs.declared.Layout.{Layout}
-use Rattle.blocks.specs.Blocks.{capacity, blockOf, entriesOf, verdict, SoundBlock}
-use Rattle.blocks.specs.Calls.{stored}
+use Rattle.blocks.specs.Blocks.{setLayout, mapLayout, capacity, blockOf, entriesOf, verdict, SoundBlock}
+use Rattle.blocks.specs.Calls.{noBlock, stored}
 use Rattle.blocks.specs.Steps.{Lent}
 use Rattle.blocks.proofs.Judging.{verdict-sound, room-words, verdict-small}
 use Rattle.blocks.proofs.Words.{Shaped, items-shaped, items-length}
@@ -24,7 +24,7 @@ use Rattle.sweeps.specs.Sweeps.{Inputs, Fit, resultOf}
 use Rattle.sweeps.proofs.Tables.{none-input, input, bounded}
 use Rattle.operations.specs.declared.Layouts.{Layouts}
 use Rattle.operations.specs.Calls.{fromTwo, fromOne}
-use Rattle.operations.specs.Steps.{many, AnyOk, StoreOk, Wrote, TwoFit, OneFit}
+use Rattle.operations.specs.Steps.{many, AnyOk, StoreOk, Wrote, Small, TwoFit, OneFit}
 
 -- a result within the capacity has its words
 pub has-room : (l : Layout) (L cap n : ℕ) → cap ≡ capacity l L → 0 < L → n ≤ cap → 1 + l .width * n ≤ L
@@ -69,7 +69,7 @@ module _ (l : Layout) (w : List ℕ) (position : ℕ) (o : List ℕ) (next : Out
 -- the output
 module _ (position : ℕ) (o : List ℕ) (next : Outcome) where
   abbrev written : Outcome
-  written = judgedBy (applies (eqb (length o) 0) 1) position (o ∷ []) next
+  written = judgedBy (noBlock (length o)) position (o ∷ []) next
 
   pub no-words : (x : Judged) → length o ≡ 0 → x ≡ judgedOf 1 position → outcome (judgedSays x) (o ∷ []) ≡ written
   no-words x z q = rw (eq-eqb (length o) 0 z) (ap (λ (y : Judged). outcome (judgedSays y) (o ∷ [])) q)
@@ -81,6 +81,13 @@ module _ (position : ℕ) (o : List ℕ) (next : Outcome) where
 pub entries-shaped : (l : Layout) (w : List ℕ) → 2 ≤ l .width → SoundBlock l w → Shaped (l .width) (entriesOf (l .width) w)
 entries-shaped l w two b =
     items-shaped (l .width) two (getD w 0 0) (drop 1 w) (omega (arith, room-words l (length w) (getD w 0 0) (b .some) (b .fits), length-drop 1 w))
+
+-- the layouts of 01 are small
+pub set-small : Small setLayout
+set-small = record { two = omega arith; four = omega arith; few = omega arith }
+
+pub map-small : Small mapLayout
+map-small = record { two = omega arith; four = omega arith; few = omega arith }
 
 -- how many items two inputs can make
 small-mul : (k n : ℕ) → k ≤ 2 → k * n ≤ n + n
@@ -162,7 +169,7 @@ pub two-as : (first second out : Layout) (make by : List Entry → List Entry �
 two-as first second out make by w v o e = go (verdict first w) refl (verdict second v) refl
   where
     tail : List Entry → Outcome
-    tail l = judgedBy (applies (eqb (length o) 0) 1) 2 (o ∷ []) (stored 2 out o l)
+    tail l = judgedBy (noBlock (length o)) 2 (o ∷ []) (stored 2 out o l)
 
     made : (List Entry → List Entry → List Entry) → Outcome
     made f = tail (f (entriesOf (first .width) w) (entriesOf (second .width) v))
@@ -176,7 +183,7 @@ two-as first second out make by w v o e = go (verdict first w) refl (verdict sec
 pub one-as : (first out : Layout) (make by : List Entry → List Entry) (w o : List ℕ) → make (entriesOf (first .width) w) ≡ by (entriesOf (first .width) w)
     → fromOne first out make w o ≡ fromOne first out by w o
 one-as first out make by w o e =
-    ap (λ (l : List Entry). judgedBy (verdict first w) 0 (o ∷ []) (judgedBy (applies (eqb (length o) 0) 1) 1 (o ∷ []) (stored 1 out o l))) e
+    ap (λ (l : List Entry). judgedBy (verdict first w) 0 (o ∷ []) (judgedBy (noBlock (length o)) 1 (o ∷ []) (stored 1 out o l))) e
 
 module _ {plan : Plan} {a b : List ℕ} (g : AnyOk plan a b) where
   pub any-inputs : Inputs (plan .a) (plan .b) (plan .c) a b (0 ∷ [])

@@ -5,6 +5,7 @@ use mathlib.Core.List.{List, [], _∷_}
 use Prim.Native.Nat.{ℕ, zero, suc, _+_, _*_, _-_, _≤_, _<_}
 use native.Mathlib.Omega.{arith}
 use native.Mathlib.Nat.{mul-add, mul-le-mul-left}
+use native.Mathlib.Decide.{decLt}
 use lib.Dec.{ltb, eqb}
 use lib.ListN.{length, getD, take, drop, length-drop}
 use lib.Seq.{length-take-le, drop-drop}
@@ -85,7 +86,7 @@ module _ {l : Layout} {w : List ℕ} {a b : ℕ} (g : Windowed l w a b) {n i j :
       }
 
   -- these are the words of the ranges that meet the window
-  pub words-are : wordsAt w (windowPart (l .width) w a b) ≡ wordsOf (meeting a b (entriesOf (l .width) w))
+  words-are : wordsAt w (windowPart (l .width) w a b) ≡ wordsOf (meeting a b (entriesOf (l .width) w))
   words-are =
       ap₂ (λ (x y : ℕ). take (s * x) (drop (1 + s * y) w)) meeting-count below-count
       ∙ sym (ap wordsOf (meeting-is ∙ ap (take (j - i)) dropped ∙ items-take s (g .two) (n - i) (j - i) behind (omega (arith, q .within)))
@@ -98,6 +99,37 @@ module _ {l : Layout} {w : List ℕ} {a b : ℕ} (g : Windowed l w a b) {n i j :
 
       dropped : drop i es ≡ itemsOf s (n - i) behind
       dropped = ap (λ (k : ℕ). drop i (itemsOf s k (drop 1 w))) (sym e) ∙ items-drop s (g .two) n i (drop 1 w) (p .within)
+
+-- the first item from x on, whatever the words
+record Found (ws : List ℕ) (s off n x : ℕ) : Type 0 where
+  index : ℕ
+  first : FirstFrom ws s off n x index
+
+find : (ws : List ℕ) (s off n x : ℕ) → Found ws s off n x
+find ws s off zero x =
+    record { index = 0; first = record { within = omega arith; before = λ k h. absurd (omega arith); from = λ h. absurd (omega arith) } }
+find ws s off (suc n) x = go (find ws s off n x) (decLt (getD ws (s * n + off) 0) x)
+  where
+    go : Found ws s off n x → Dec (getD ws (s * n + off) 0 < x) → Found ws s off (suc n) x
+    go f d = split (decLt (f .index) n) d
+      where
+        last : (k : ℕ) → k < suc n → Dec (k < n) → n ≤ f .index → getD ws (s * n + off) 0 < x → getD ws (s * k + off) 0 < x
+        last k h (yes p) e q = f .first .before k (omega arith)
+        last k h (no p) e q = let i : k ≡ n = omega arith in omega (arith, ap (λ (m : ℕ). getD ws (s * m + off) 0) i)
+
+        split : Dec (f .index < n) → Dec (getD ws (s * n + off) 0 < x) → Found ws s off (suc n) x
+        split (yes p) d =
+            record { index = f .index; first = record { within = omega arith; before = f .first .before; from = λ h. f .first .from p } }
+        split (no p) (yes q) =
+            record { index = suc n; first = record { within = omega arith; before = λ k h. last k h (decLt k n) (omega arith) q; from = λ h. absurd (omega arith) } }
+        split (no p) (no q) =
+            record { index = n; first = record { within = omega arith; before = λ k h. f .first .before k (omega arith); from = λ h. omega arith } }
+
+-- THE WINDOW HOLDS exactly the words of the items that share a number with a..b, in order
+pub window-words : {l : Layout} {w : List ℕ} {a b : ℕ} → Windowed l w a b
+    → wordsAt w (windowPart (l .width) w a b) ≡ wordsOf (meeting a b (entriesOf (l .width) w))
+window-words {l} {w} {a} {b} g =
+    words-are g refl (find w (l .width) 2 (getD w 0 0) a .first) (find w (l .width) 1 (getD w 0 0) (b + 1) .first)
 
 -- the refusals of a window, by the tests of the code
 module _ (l : Layout) (w : List ℕ) (a b : ℕ) {v : ℕ} (e : v ≡ verdict l w) where

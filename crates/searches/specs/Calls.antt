@@ -24,7 +24,7 @@ abbrev pub windowLength : ℕ → List ℕ → ℕ → ℕ → ℕ
 windowLength s w a b = s * length (meeting a b (entriesOf s w))
 
 -- «Window a..b: all ranges that share a number with a..b, unclipped, handed back as that part of the caller's own block»: behind
--- the count and the ranges wholly below a, as many words as the ranges that meet a..b take. (`words-are` in proofs/Windows: these
+-- the count and the ranges wholly below a, as many words as the ranges that meet a..b take. (`window-words` in proofs/Windows: these
 -- are exactly the words of those ranges, in order.) «If there are none, an empty part.»
 abbrev pub windowPart : ℕ → List ℕ → ℕ → ℕ → Part
 windowPart s w a b = part (windowPlace s w a) (windowLength s w a b)

@@ -4,13 +4,14 @@ ghost use mathlib.Core.List.{[]};
 ghost use Prim.Native.Nat.{_+_, _≤_, _<_};
 ghost use lib.ListN.{length, getD};
 ghost use Rattle.entries.specs.Bulletins.{shareb};
-ghost use Rattle.answers.specs.Answers.{at, outcome};
-ghost use Rattle.answers.specs.Says.{partedSays};
+ghost use Rattle.answers.specs.Answers.{outcome, at};
+ghost use Rattle.answers.specs.Says.{judgedSays, partedSays};
 ghost use Rattle.answers.specs.Steps.{FirstOf};
 ghost use Rattle.blocks.specs.Blocks.{SoundBlock, setLayout, entriesOf};
-ghost use Rattle.searches.specs.Calls.{windowPart, windowRefusals, windowCall, windowAtCall};
+ghost use Rattle.searches.specs.Calls.{windowPart, windowRefusals, windowRefusalCall, windowCall, windowAtCall};
 ghost use Rattle.searches.specs.Parts.{IsPart};
 ghost use Rattle.searches.specs.Steps.{Sorted, FirstFrom, SpotOf, EntryOf, Windowed, PartOf};
+use answers::Judged;
 use answers::Parted;
 use blocks::Layout;
 
@@ -117,6 +118,14 @@ pub fn window_verdict(block: &[u64], layout: Layout, a: u64, b: u64) -> u8
         return 4;
     }
     0
+}
+
+// The refusal of the window a..b of any words lent as a block, or that there is none.
+pub fn window_refusal(block: &[u64], layout: Layout, a: u64, b: u64) -> Judged
+    requires { ⌜ 2 ≤ layout .width ⌝ }
+    ensures { λ r. ⌜ outcome (judgedSays r) [] ≡ windowRefusalCall layout (now (block .entry)) a b ⌝ }
+{
+    answers::judged_of(window_verdict(block, layout, a, b), 0)
 }
 
 // Where in a sound block the items that share a number with a..b stand, and how many words they take.

@@ -18,6 +18,7 @@ use Rattle.entries.proofs.Sets.{intersection-is}
 use Rattle.entries.proofs.Questions.{none-empty}
 use Rattle.sweeps.specs.Sweeps.{result, Bounded, inEither, inBoth, firstAlone, justOne, notFirst}
 use Rattle.sweeps.proofs.Tables.{union-table, intersection-table, difference-table, symmetric-table, complement-table, fit-set}
+use Rattle.operations.proofs.Making.{set-small}
 use Rattle.operations.specs.Steps.{TwoFit, OneFit, Small}
 use Rattle.answers.specs.Says.{refusalSays, refusalOf}
 use Rattle.answers.proofs.Numbers.{refused-as, given-as}
@@ -49,9 +50,6 @@ intersection-most : (es fs : List Entry) → Sound es → Sound fs → length (i
 intersection-most [] fs s t = omega (arith, intersection-none fs)
 intersection-most (e ∷ es) [] s t = omega (arith, none-intersection (e ∷ es))
 intersection-most (e ∷ es) (f ∷ fs) s t = omega (arith, intersection-bound e f es fs s t)
-
-set-small : Small setLayout
-set-small = record { two = omega arith; four = omega arith; few = omega arith }
 
 -- a table that makes an operation with at most n + m ranges
 fitting : (t : ℕ) (op : List Entry → List Entry → List Entry) → ((es fs : List Entry) → Bounded es → Bounded fs → result t 2 es fs [] ≡ op es fs)

@@ -180,7 +180,7 @@ pub fn window_at(block: &[u64], a: u64, b: u64) -> Parted
 pub fn window_refusal(block: &[u64], a: u64, b: u64) -> Judged
     ensures { λ r. ⌜ outcome (judgedSays r) [] ≡ setWindowRefusalCall (now (block .entry)) a b ⌝ }
 {
-    answers::judged_of(searches::window_verdict(block, blocks::SET, a, b), 0)
+    searches::window_refusal(block, blocks::SET, a, b)
 }
 
 // Inserts a..b: afterwards all of its numbers are members, and all others are as they were.

@@ -182,7 +182,8 @@ module _ (s : ℕ) (w : List ℕ) (x : ℕ) (g : Input s w) where
           f : Front s w x p g
           f = front-of s w x p g out-cur not-at
 
-          go : (e : ℕ) → x ≤ e → e ≤ getD w p 0 - 1 → (t : Bool) → eqb (getD w p 0 - 1) e ≡ t → Point s w (e + 1) (pick t (cursor (p + 1) true end) (cursor p false end))
+          go : (e : ℕ) → x ≤ e → e ≤ getD w p 0 - 1 → (t : Bool) → eqb (getD w p 0 - 1) e ≡ t
+              → Point s w (e + 1) (pick t (cursor (p + 1) true end) (cursor p false end))
           go e h k true q = record {
             base = p;
             place = refl;
@@ -227,14 +228,17 @@ module _ (s : ℕ) (w : List ℕ) (x : ℕ) (g : Input s w) where
     turn-in q then k d = record {
       from-x = f .ahead;
       fits = g .words (b + 1);
-      same = λ y h l. f .rest y h ∙ val-in (itemFrom s w b) (items s (f .more) (b + s) w) y (omega arith) l ∙ ap (λ (i : ℕ). some (take (s - 2) (drop i w))) two;
+      same =
+          λ y h l. f .rest y h ∙ val-in (itemFrom s w b) (items s (f .more) (b + s) w) y (omega arith) l
+          ∙ ap (λ (i : ℕ). some (take (s - 2) (drop i w))) two;
       next = λ e h l. go e h l (eqb (getD w (b + 1) 0) e) refl;
     }
       where
         two : b + 2 ≡ b + 1 + 1
         two = omega arith
 
-        go : (e : ℕ) → x ≤ e → e ≤ getD w (b + 1) 0 → (t : Bool) → eqb (getD w (b + 1) 0) e ≡ t → Point s w (e + 1) (pick t (cursor q then end) (cursor (b + 1) true end))
+        go : (e : ℕ) → x ≤ e → e ≤ getD w (b + 1) 0 → (t : Bool) → eqb (getD w (b + 1) 0) e ≡ t
+            → Point s w (e + 1) (pick t (cursor q then end) (cursor (b + 1) true end))
         go e h l true z =
             let y = eqb-true (getD w (b + 1) 0) e z in
             record { base = b + s; place = k; cur = pass s w x b g f e y; side = subst (λ (m : ℕ). Sided then s w (m + 1) (b + s)) y d; end = ee }

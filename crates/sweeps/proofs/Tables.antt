@@ -30,7 +30,8 @@ use Rattle.blocks.specs.Blocks.{itemOf, itemsOf, entriesOf, SoundBlock}
 use Rattle.blocks.proofs.Words.{Shaped}
 use Rattle.blocks.specs.declared.Layout.{Layout}
 use Rattle.blocks.proofs.Judging.{room-words}
-use Rattle.sweeps.specs.Sweeps.{accepts, firstOf, mixed, swept, result, Input, Bounded, widthOf, Fit, inEither, inBoth, firstAlone, justOne, notFirst, inFirst, amending}
+use Rattle.sweeps.specs.Sweeps.{accepts, firstOf, mixed, swept, result, Input, Bounded, widthOf, Fit, inEither, inBoth, firstAlone}
+use Rattle.sweeps.specs.Sweeps.{justOne, notFirst, inFirst, amending}
 
 -- the sweep's function, and its list
 module _ (t s : ℕ) (es fs gs : List Entry) where
@@ -57,19 +58,23 @@ module _ (t s : ℕ) (es fs gs : List Entry) where
   result-of F hs l h = unique (swept t s es fs gs) _ hs result-is (record { sound = l .sound; names = λ x. l .names x ∙ sym (h x) })
 
   -- where nothing is named above M, the sweep's function is `mixed`
-  pub swept-mixed : Bounded es → Bounded fs → Bounded gs → mixed t s none none none ≡ none → (x : ℕ) → swept t s es fs gs x ≡ mixed t s (valueAt es x) (valueAt fs x) (valueAt gs x)
+  pub swept-mixed : Bounded es → Bounded fs → Bounded gs → mixed t s none none none ≡ none → (x : ℕ)
+      → swept t s es fs gs x ≡ mixed t s (valueAt es x) (valueAt fs x) (valueAt gs x)
   unfolding swept
   swept-mixed p q r z x = go (decLt x pastM)
     where
-      go : Dec (x < pastM) → pick (ltb x pastM) (mixed t s (valueAt es x) (valueAt fs x) (valueAt gs x)) none ≡ mixed t s (valueAt es x) (valueAt fs x) (valueAt gs x)
+      go : Dec (x < pastM) → pick (ltb x pastM) (mixed t s (valueAt es x) (valueAt fs x) (valueAt gs x)) none ≡ mixed t s (valueAt es x)
+          (valueAt fs x) (valueAt gs x)
       go (yes h) = rw (lt-ltb x pastM h)
       go (no h) = rw (le-ltb x pastM (omega arith), p x (omega arith), q x (omega arith), r x (omega arith)) (sym z)
 
 -- an operation on two lists
-two-lists : (t s : ℕ) (f : Option Value → Option Value → Option Value) (es fs : List Entry) → Bounded es → Bounded fs → f none none ≡ none → mixed t s none none none ≡ none
+two-lists : (t s : ℕ) (f : Option Value → Option Value → Option Value) (es fs : List Entry) → Bounded es → Bounded fs → f none none ≡ none
+    → mixed t s none none none ≡ none
     → ((x : ℕ) → mixed t s (valueAt es x) (valueAt fs x) none ≡ f (valueAt es x) (valueAt fs x)) → result t s es fs [] ≡ combine f es fs
 two-lists t s f es fs p q z y h =
-    result-of t s es fs [] (λ x. f (valueAt es x) (valueAt fs x)) (combine f es fs) (combined f z es fs) (λ x. swept-mixed t s es fs [] p q (λ x h. refl) y x ∙ h x)
+    result-of t s es fs [] (λ x. f (valueAt es x) (valueAt fs x)) (combine f es fs) (combined f z es fs)
+    (λ x. swept-mixed t s es fs [] p q (λ x h. refl) y x ∙ h x)
 
 -- a set: its value has no words
 mixed-set : (t : ℕ) (o p q : Option Value) → mixed t 2 o p q ≡ mark (accepts t (has o) (has p) (has q))
@@ -80,7 +85,8 @@ mixed-set t o p q = go (accepts t (has o) (has p) (has q))
     go true = refl
     go false = refl
 
-set-table : (t : ℕ) (g : Bool → Bool → Bool) → ((a b : Bool) → accepts t a b false ≡ g a b) → g false false ≡ false → (es fs : List Entry) → Bounded es → Bounded fs
+set-table : (t : ℕ) (g : Bool → Bool → Bool) → ((a b : Bool) → accepts t a b false ≡ g a b) → g false false ≡ false → (es fs : List Entry)
+    → Bounded es → Bounded fs
     → result t 2 es fs [] ≡ setOp g es fs
 set-table t g h z es fs p q =
     two-lists t 2 (λ o r. mark (g (has o) (has r))) es fs p q (ap mark z) (mixed-set t none none none ∙ ap mark (h false false ∙ z))
@@ -107,8 +113,10 @@ pub domain-table : (es : List Entry) → Bounded es → result inFirst 2 es [] [
 unfolding domain accepts
 domain-table es p =
     result-of inFirst 2 es [] [] (λ x. mark (member es x)) (domain es)
-    (built (λ x. mark (member es x)) (endOf es) (cutsOf es) (λ y h. ap (λ (o : Option Value). mark (has o)) (value-ends es y h)) (λ y n. ap (λ (o : Option Value). mark (has o)) (value-changes es y n)))
-    (λ x. swept-mixed inFirst 2 es [] [] p (λ x h. refl) (λ x h. refl) (mixed-set inFirst none none none) x ∙ mixed-set inFirst (valueAt es x) none none ∙ ap mark (kept (member es x)))
+    (built (λ x. mark (member es x)) (endOf es) (cutsOf es) (λ y h. ap (λ (o : Option Value). mark (has o)) (value-ends es y h))
+    (λ y n. ap (λ (o : Option Value). mark (has o)) (value-changes es y n)))
+    (λ x. swept-mixed inFirst 2 es [] [] p (λ x h. refl) (λ x h. refl) (mixed-set inFirst none none none) x
+    ∙ mixed-set inFirst (valueAt es x) none none ∙ ap mark (kept (member es x)))
   where
     kept : (a : Bool) → accepts inFirst a false false ≡ a
     kept true = refl
@@ -118,7 +126,8 @@ pub complement-table : (es : List Entry) → result notFirst 2 es [] [] ≡ comp
 unfolding swept accepts
 complement-table es =
     result-of notFirst 2 es [] [] (λ x. mark (lessb (leb x M) (member es x))) (complement es) (complement-lists es)
-    (λ x. ap₂ (λ (l : Bool) (o : Option Value). pick l o none) (upto x (decLt x pastM)) (mixed-set notFirst (valueAt es x) none none) ∙ left (leb x M) (member es x))
+    (λ x. ap₂ (λ (l : Bool) (o : Option Value). pick l o none) (upto x (decLt x pastM)) (mixed-set notFirst (valueAt es x) none none)
+    ∙ left (leb x M) (member es x))
   where
     upto : (x : ℕ) → Dec (x < pastM) → ltb x pastM ≡ leb x M
     upto x (yes h) = lt-ltb x pastM h ∙ sym (le-leb x M (omega arith))
@@ -133,8 +142,10 @@ complement-table es =
 pub amended-table : (s r w : List Entry) → Bounded s → Bounded r → Bounded w → result amending 2 s r w ≡ amended s r w
 unfolding union accepts
 amended-table s r w p q n =
-    result-of amending 2 s r w (λ x. mark (orb (member (difference s w) x) (member r x))) (amended s r w) (combined (λ o u. mark (orb (has o) (has u))) refl (difference s w) r)
-    (λ x. swept-mixed amending 2 s r w p q n (mixed-set amending none none none) x ∙ mixed-set amending (valueAt s x) (valueAt r x) (valueAt w x) ∙ ap mark (table (member s x) (member r x) (member w x))
+    result-of amending 2 s r w (λ x. mark (orb (member (difference s w) x) (member r x))) (amended s r w)
+    (combined (λ o u. mark (orb (has o) (has u))) refl (difference s w) r)
+    (λ x. swept-mixed amending 2 s r w p q n (mixed-set amending none none none) x ∙ mixed-set amending (valueAt s x) (valueAt r x) (valueAt w x)
+    ∙ ap mark (table (member s x) (member r x) (member w x))
     ∙ ap (λ (a : Bool). mark (orb a (member r x))) (sym ((difference-is s w) .members x)))
   where
     table : (a b c : Bool) → accepts amending a b c ≡ orb (lessb a c) b
@@ -169,7 +180,8 @@ whole s v h = take-all (s - 2) v (omega arith)
 
 pub overlay-table : (s : ℕ) (es fs : List Entry) → Bounded es → Bounded fs → Shaped s es → Shaped s fs → result inEither s es fs [] ≡ overlay es fs
 unfolding overlay mixed accepts
-overlay-table s es fs p q h k = two-lists inEither s orElse es fs p q refl refl (λ x. go (valueAt es x) (valueAt fs x) (shaped-at s es x h) (shaped-at s fs x k))
+overlay-table s es fs p q h k =
+    two-lists inEither s orElse es fs p q refl refl (λ x. go (valueAt es x) (valueAt fs x) (shaped-at s es x h) (shaped-at s fs x k))
   where
     go : (o r : Option Value) → Sized s o → Sized s r → mixed inEither s o r none ≡ orElse o r
     go none none a b = refl
@@ -248,18 +260,22 @@ result-shaped t s sa sb sc es fs gs f p q r =
     cut : (v : Value) (w : ℕ) → 2 + length v ≡ w → s ≤ w → 2 + length (take (s - 2) v) ≡ s
     cut v w e l = omega (arith, length-take (s - 2) v, f .two)
 
-    first : (o p q : Option Value) → Sized sa o → Sized sb p → Sized sc q → s ≤ widthOf sa sb sc (has o) (has p) (has q) → 2 + length (take (s - 2) (firstOf o p q)) ≡ s
+    first : (o p q : Option Value) → Sized sa o → Sized sb p → Sized sc q → s ≤ widthOf sa sb sc (has o) (has p) (has q)
+        → 2 + length (take (s - 2) (firstOf o p q)) ≡ s
     first (some v) p q a b c l = cut v sa a l
     first none (some v) q a b c l = cut v sb b l
     first none none (some v) a b c l = cut v sc c l
     first none none none a b c l = cut [] 2 refl l
 
-    mix : (o p q : Option Value) → Sized sa o → Sized sb p → Sized sc q → (u : Bool) → accepts t (has o) (has p) (has q) ≡ u → Sized s (pick u (some (take (s - 2) (firstOf o p q))) none)
+    mix : (o p q : Option Value) → Sized sa o → Sized sb p → Sized sc q → (u : Bool) → accepts t (has o) (has p) (has q) ≡ u
+        → Sized s (pick u (some (take (s - 2) (firstOf o p q))) none)
     mix o p q a b c true e = first o p q a b c (f .wide (has o) (has p) (has q) e)
     mix o p q a b c false e = tt
 
     within : (l : Bool) (x : ℕ) → Sized s (pick l (mixed t s (valueAt es x) (valueAt fs x) (valueAt gs x)) none)
-    within true x = mix (valueAt es x) (valueAt fs x) (valueAt gs x) (shaped-at sa es x p) (shaped-at sb fs x q) (shaped-at sc gs x r) (accepts t (has (valueAt es x)) (has (valueAt fs x)) (has (valueAt gs x))) refl
+    within true x =
+        mix (valueAt es x) (valueAt fs x) (valueAt gs x) (shaped-at sa es x p) (shaped-at sb fs x q) (shaped-at sc gs x r)
+        (accepts t (has (valueAt es x)) (has (valueAt fs x)) (has (valueAt gs x))) refl
     within false x = tt
 
 -- the block of no items, for an operation on fewer lists

@@ -96,7 +96,8 @@ pub record Points (plan : Plan) (a b c : List ℕ) (x : ℕ) (i j k : Cursor) : 
   pub at-c : Point (plan .c) c x k
 
 abbrev pub PointsAt : Plan → List ℕ → List ℕ → List ℕ → ℕ → Places → Sides → Places → Type 0
-PointsAt plan a b c x at sides ends = Points plan a b c x (cursor (at .a) (sides .a) (ends .a)) (cursor (at .b) (sides .b) (ends .b)) (cursor (at .c) (sides .c) (ends .c))
+PointsAt plan a b c x at sides ends =
+    Points plan a b c x (cursor (at .a) (sides .a) (ends .a)) (cursor (at .b) (sides .b) (ends .b)) (cursor (at .c) (sides .c) (ends .c))
 
 -- the value of the first input that is inside
 abbrev pub firstBehind : Plan → List ℕ → List ℕ → List ℕ → Places → Sides → Value

@@ -9,7 +9,8 @@ ghost use Rattle.entries.specs.Build.{pick, andb, sameWords};
 ghost use Rattle.entries.specs.Sets.{M};
 ghost use Rattle.blocks.specs.Blocks.{blockOf};
 ghost use Rattle.sweeps.specs.Sweeps.{bit, accepts, resultOf, Input, Inputs, Fit};
-ghost use Rattle.sweeps.specs.Cursors.{setPlan, onlySets, cursor, turn, items, shown, valueOf, valueBehind, Point, TurnAt, PointsAt, firstBehind, SegmentAt, sameAs, begins, grow, Addable, Holds, Laid, Stored, Stopped};
+ghost use Rattle.sweeps.specs.Cursors.{setPlan, onlySets, cursor, turn, items, shown, valueOf, valueBehind, Point, TurnAt, PointsAt};
+ghost use Rattle.sweeps.specs.Cursors.{firstBehind, SegmentAt, sameAs, begins, grow, Addable, Holds, Laid, Stored, Stopped};
 
 // The tables of the sweep: bit a + 2b + 4c says whether a number is kept that is in the first (a), the second (b) and the third
 // list (c) or not. Each is `tableOf` its test in specs/Sweeps.
@@ -302,7 +303,8 @@ fn carried(
     requires { ⌜ Fit (plan .table) (plan .out) (plan .a) (plan .b) (plan .c) ⌝ }
     requires { ⌜ PointsAt plan (now a) (now b) (now c) x at sides ends ⌝ }
     requires { ⌜ kept ≡ accepts (plan .table) (sides .a) (sides .b) (sides .c) ⌝ }
-    ensures { λ r. ⌜ shown kept (take (plan .out - 2) (firstBehind plan (now (a .entry)) (now (b .entry)) (now (c .entry)) at sides)) ≡ shown kept (valueOf (plan .out) r) ⌝ }
+    ensures { λ r. ⌜ shown kept (take (plan .out - 2) (firstBehind plan (now (a .entry)) (now (b .entry)) (now (c .entry)) at sides))
+        ≡ shown kept (valueOf (plan .out) r) ⌝ }
 {
     if plan.out == 2 {
         return nothing();

@@ -1,3 +1,4 @@
+-- Invariant: the gap held is the chosen one of the gaps before `from` (`Walked`). Measure: the ranges left.
 use denote.Ref.{now}
 use mathlib.Core.Path.{refl, sym, _∙_}
 use Rattle.entries.specs.Questions.{filter}

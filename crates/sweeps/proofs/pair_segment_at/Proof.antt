@@ -46,7 +46,29 @@ nothing-requires : tie.Need-nothing-requires
 nothing-requires c κs = search needs
 
 returns : tie.Need-returns
-returns c = let a = c .before .before .before .before .before .before .before .before .before .before .before .before .before .before .before .before in (segment-made (setPlan (a .args .table)) (now (a .args .a)) (now (a .args .b)) (now (a .args .c)) (a .args .x) (a .args .at) (a .args .sides) (a .args .ends) (c .before .before .before .before .before .before .before .before .before .before .before .before .flip .result) (c .before .before .before .before .before .before .before .before .before .before .before .flip2 .result) (record { last = M; next = a .args .at .c; then = a .args .sides .c }) _ (c .before .before .before .before .before .before .before .before .before .before .least .result) (c .before .before .before .before .before .before .before .before .before .before .before .before .flip .ensures, c .before .before .before .before .before .before .before .before .before .before .before .flip2 .ensures, turn-end 2 (now (a .args .c)) (a .args .x) (a .pre .0 .third) (a .pre .1 .0 .at-c) (a .pre .1 .1) (omega arith)) (c .before .before .before .before .before .before .before .before .before .before .least .ensures) (omega (arith, c .before .before .before .before .before .before .before .before .before .before .least .ensures, c .before .before .before .before .before .before .before .before .before .before .before .before .flip .ensures .fits)) (c .before .before .before .before .before .before .before .before .before .accepted .ensures) refl (c .before .before .before .before .before .before .before .chosen .ensures, c .before .before .before .before .before .chosen2 .ensures, pick-same (eqb M (c .before .before .before .before .before .before .before .before .before .before .least .result)) _) (c .before .before .before .turned .ensures, c .before .turned2 .ensures, pick-same (eqb M (c .before .before .before .before .before .before .before .before .before .before .least .result)) _), a .pre .1 .1)
+returns c =
+    let at-turned2 = c .before in
+    let at-turned = at-turned2 .before .before in
+    let at-chosen2 = at-turned .before .before in
+    let at-chosen = at-chosen2 .before .before in
+    let at-accepted = at-chosen .before .before in
+    let at-least = at-accepted .before in
+    let at-flip2 = at-least .before in
+    let at-flip = at-flip2 .before in
+    let start = at-flip .before .before .before .before in (
+      segment-made (setPlan (start .args .table)) (now (start .args .a)) (now (start .args .b)) (now (start .args .c)) (start .args .x)
+          (start .args .at) (start .args .sides) (start .args .ends) (at-flip .flip .result) (at-flip2 .flip2 .result)
+          (record { last = M; next = start .args .at .c; then = start .args .sides .c }) _ (at-least .least .result) (
+            at-flip .flip .ensures,
+            at-flip2 .flip2 .ensures,
+            turn-end 2 (now (start .args .c)) (start .args .x) (start .pre .0 .third)
+                (start .pre .1 .0 .at-c) (start .pre .1 .1) (omega arith),
+          ) (at-least .least .ensures)
+          (omega (arith, at-least .least .ensures, at-flip .flip .ensures .fits)) (at-accepted .accepted .ensures) refl
+          (at-chosen .chosen .ensures, at-chosen2 .chosen2 .ensures, pick-same (eqb M (at-least .least .result)) _)
+          (at-turned .turned .ensures, at-turned2 .turned2 .ensures, pick-same (eqb M (at-least .least .result)) _),
+      start .pre .1 .1,
+    )
 
 pub pair-segment-at-spec : {M : Type 1} → statement M
 pair-segment-at-spec =
