@@ -24,7 +24,7 @@ use Rattle.answers.specs.declared.Placed.the-variants as placed
 use Rattle.answers.specs.declared.Written.{Written}
 use Rattle.answers.specs.declared.Written.the-variants as written
 use Rattle.answers.specs.Answers.{Answer, given, refused, Outcome, outcome}
-use Rattle.answers.specs.Says.{numberOf, refusalOf, reasonOf, judgedSays, truthSays, foundSays, rangedSays, sizedSays, partedSays, decidedSays, placedSays, writtenSays}
+use Rattle.answers.specs.Says.{numberOf, refusalOf, judgedSays, truthSays, foundSays, rangedSays, sizedSays, partedSays, decidedSays, placedSays, writtenSays}
 use Rattle.answers.proofs.Numbers.{number-reason}
 
 abbrev answerOf : Outcome → Answer

@@ -13,7 +13,7 @@ use Rattle.blocks.specs.Blocks.{itemsOf}
 use Rattle.entries.specs.Build.{pick}
 use Rattle.entries.specs.Bulletins.{shareb}
 use Rattle.entries.proofs.Values.{true≢false}
-use Rattle.operations.proofs.Sharing.{crossb, cross-none, cross-left, cross-right, cross-found, cross-share}
+use Rattle.searches.proofs.Sharing.{crossb, cross-none, cross-left, cross-right, cross-found, cross-share}
 
 -- the code's test whether two answers are the same
 pub same-answer : (t u : Bool) → Bool·beq t u ≡ true → t ≡ u
@@ -52,7 +52,9 @@ module _ {E F : ℕ → ℕ → List Entry} {d : ℕ} {lo hi lo′ hi′ : ℕ �
     no-others z = sym (l .same ∙ ap (λ (k : ℕ). crossb (E left i) (F k j)) z ∙ ap (crossb (E left i)) (u .none j) ∙ cross-none (E left i))
 
     pub none-left : left ≤ 0 → false ≡ shareb (E n p) (F m q)
-    none-left z = let k : left ≡ 0 = omega arith in sym (l .same ∙ ap (λ (k : ℕ). crossb (E k i) (F others j)) k ∙ ap (λ (x : List Entry). crossb x (F others j)) (v .none i))
+    none-left z =
+        let k : left ≡ 0 = omega arith in
+        sym (l .same ∙ ap (λ (k : ℕ). crossb (E k i) (F others j)) k ∙ ap (λ (x : List Entry). crossb x (F others j)) (v .none i))
 
     module _ (a : 0 < left) (b : 0 < others) where
       abbrev e : Entry
@@ -77,14 +79,18 @@ module _ {E F : ℕ → ℕ → List Entry} {d : ℕ} {lo hi lo′ hi′ : ℕ �
       go-left x y p q h = record {
         sound = s .2;
         sound-too = l .sound-too;
-        same = l .same ∙ ap₂ crossb seen seen-too ∙ cross-left e f (E (left - 1) (i + d)) (F (others - 1) (j + d)) t (omega arith) ∙ ap (crossb (E (left - 1) (i + d))) (sym seen-too);
+        same =
+            l .same ∙ ap₂ crossb seen seen-too ∙ cross-left e f (E (left - 1) (i + d)) (F (others - 1) (j + d)) t (omega arith)
+            ∙ ap (crossb (E (left - 1) (i + d))) (sym seen-too);
       }
 
       pub go-right : (x y : ℕ) → x ≡ hi′ j → y ≡ lo i → x < y → Left n p m q i left (j + d) (others - 1)
       go-right x y p q h = record {
         sound = l .sound;
         sound-too = t .2;
-        same = l .same ∙ ap₂ crossb seen seen-too ∙ cross-right e f (E (left - 1) (i + d)) (F (others - 1) (j + d)) s (omega arith) ∙ ap (λ (x : List Entry). crossb x (F (others - 1) (j + d))) (sym seen);
+        same =
+            l .same ∙ ap₂ crossb seen seen-too ∙ cross-right e f (E (left - 1) (i + d)) (F (others - 1) (j + d)) s (omega arith)
+            ∙ ap (λ (x : List Entry). crossb x (F (others - 1) (j + d))) (sym seen);
       }
 
       pub found : (x y z w : ℕ) → x ≡ hi i → y ≡ lo′ j → z ≡ hi′ j → w ≡ lo i → y ≤ x → w ≤ z → true ≡ shareb (E n p) (F m q)
@@ -100,7 +106,8 @@ module _ {E F : ℕ → ℕ → List Entry} {d : ℕ} {lo hi lo′ hi′ : ℕ �
       step false false x y ne = absurd (ne refl)
 
       pub stepped : (t u : Bool) → t ≡ ltb (hi i) (lo′ j) → u ≡ ltb (hi′ j) (lo i) → (t ≡ u → ⊥) → (i′ left′ j′ others′ : ℕ)
-          → i′ ≡ pick t (i + d) i → left′ ≡ pick t (left - 1) left → j′ ≡ pick u (j + d) j → others′ ≡ pick u (others - 1) others → Left n p m q i′ left′ j′ others′
+          → i′ ≡ pick t (i + d) i → left′ ≡ pick t (left - 1) left → j′ ≡ pick u (j + d) j → others′ ≡ pick u (others - 1) others → Left n p m q i′
+          left′ j′ others′
       stepped t u x y ne i′ left′ j′ others′ ei el ej eo = rw (ei, el, ej, eo) (step t u x y ne)
 
       pub met : (t u : Bool) → t ≡ ltb (hi i) (lo′ j) → u ≡ ltb (hi′ j) (lo i) → t ≡ u → true ≡ shareb (E n p) (F m q)
@@ -110,11 +117,13 @@ module _ {E F : ℕ → ℕ → List Entry} {d : ℕ} {lo hi lo′ hi′ : ℕ �
       met false false x y z = found (hi i) (lo′ j) (hi′ j) (lo i) refl refl refl refl (ltb-false (hi i) (lo′ j) (sym x)) (ltb-false (hi′ j) (lo i) (sym y))
 
 -- a walk stays within its list, and gets shorter
-pub walks-within : (t : Bool) (i left len i′ left′ : ℕ) → 0 < left → i + 2 * left ≤ len → i′ ≡ pick t (i + 2) i → left′ ≡ pick t (left - 1) left → i′ + 2 * left′ ≤ len
+pub walks-within : (t : Bool) (i left len i′ left′ : ℕ) → 0 < left → i + 2 * left ≤ len → i′ ≡ pick t (i + 2) i → left′ ≡ pick t (left - 1) left
+    → i′ + 2 * left′ ≤ len
 walks-within true i left len i′ left′ h l ei el = omega arith
 walks-within false i left len i′ left′ h l ei el = omega arith
 
-pub walks-on : (t u : Bool) (left others left′ others′ : ℕ) → (t ≡ u → ⊥) → 0 < left → 0 < others → left′ ≡ pick t (left - 1) left → others′ ≡ pick u (others - 1) others
+pub walks-on : (t u : Bool) (left others left′ others′ : ℕ) → (t ≡ u → ⊥) → 0 < left → 0 < others → left′ ≡ pick t (left - 1) left
+    → others′ ≡ pick u (others - 1) others
     → left′ + others′ < left + others
 walks-on true true left others left′ others′ ne h l el eo = absurd (ne refl)
 walks-on true false left others left′ others′ ne h l el eo = omega arith
@@ -125,5 +134,7 @@ walks-on false false left others left′ others′ ne h l el eo = absurd (ne ref
 pub in-words : (w : List ℕ) → View (λ n p. itemsOf 2 n (drop p w)) 2 (λ p. getD w p 0) (λ p. getD w (p + 1) 0)
 in-words w = record {
   none = λ p. refl;
-  more = λ n p. ap₂ _∷_ (ap₂ (λ (x y : ℕ). entry x y []) (let k : p + 0 ≡ p = omega arith in getD-drop p w 0 0 ∙ ap (λ (i : ℕ). getD w i 0) k) (getD-drop p w 1 0)) (ap (itemsOf 2 n) (drop-drop 2 p w));
+  more =
+      λ n p. ap₂ _∷_ (ap₂ (λ (x y : ℕ). entry x y []) (let k : p + 0 ≡ p = omega arith in getD-drop p w 0 0 ∙ ap (λ (i : ℕ). getD w i 0) k)
+      (getD-drop p w 1 0)) (ap (itemsOf 2 n) (drop-drop 2 p w));
 }

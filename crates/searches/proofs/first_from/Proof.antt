@@ -1,14 +1,15 @@
+-- Invariant: each of the first i items has its word at off below x. Measure: the items not yet looked at.
 use Rattle.blocks.proofs.Tests.{item-in}
 use Prim.Native.Nat.{ℕ, _+_, _*_, _≤_, _<_, _-_}
 use borrow.Author.Count.{below-more}
 use lib.ListN.{getD}
 use native.Mathlib.Omega.{arith}
 use borrow.Author.Needs.{needs}
-use Rattle.blocks.proofs.first_from.Statement.{statement}
-use Rattle.blocks.proofs.first_from.Tie as tie
-use Rattle.blocks.proofs.first_from.Reads as reads
-use Rattle.blocks.proofs.first_from.Lts as lts
+use Rattle.searches.proofs.first_from.Statement.{statement}
+use Rattle.searches.proofs.first_from.Tie as tie
+use Rattle.searches.proofs.first_from.Reads as reads
+use Rattle.searches.proofs.first_from.Lts as lts
 use Rattle.blocks.proofs.word.Reads as word-reads
 
 abbrev Inv-loop : tie.InvT-loop
 Inv-loop block s off n x i₀ i = (i ≤ n) × ((k : ℕ) → k < i → getD block (s * k + off) 0 < x)
@@ -20,13 +21,22 @@ loop-holds : tie.Need-loop-holds Inv-loop μ-loop
 loop-holds c = (search needs, λ k h. absurd (omega arith))
 
 mul-word : tie.Need-mul-word Inv-loop μ-loop
-mul-word c = let s = c .before .before .before in omega (arith, item-in (s .args .s) (c .before .loop .i) (s .args .n) (c .loop-test .taken), s .pre .0 .held)
+mul-word c =
+    let at-loop = c .before in
+    let start = at-loop .before .before in
+    omega (arith, item-in (start .args .s) (at-loop .loop .i) (start .args .n) (c .loop-test .taken), start .pre .held)
 
 add-word : tie.Need-add-word Inv-loop μ-loop
-add-word c = let s = c .before .before .before in omega (arith, item-in (s .args .s) (c .before .loop .i) (s .args .n) (c .loop-test .taken), s .pre .0 .held)
+add-word c =
+    let at-loop = c .before in
+    let start = at-loop .before .before in
+    omega (arith, item-in (start .args .s) (at-loop .loop .i) (start .args .n) (c .loop-test .taken), start .pre .held)
 
 word-requires : tie.Need-word-requires Inv-loop μ-loop
-word-requires c κs = let s = c .before .before .before in omega (arith, item-in (s .args .s) (c .before .loop .i) (s .args .n) (c .loop-test .taken), s .pre .0 .held)
+word-requires c κs =
+    let at-loop = c .before in
+    let start = at-loop .before .before in
+    omega (arith, item-in (start .args .s) (at-loop .loop .i) (start .args .n) (c .loop-test .taken), start .pre .held)
 
 add-i : tie.Need-add-i Inv-loop μ-loop
 add-i c = search needs
