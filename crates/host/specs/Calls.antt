@@ -31,16 +31,3 @@ counted (refused number place) n = outcome (refused number place) []
 -- start's mark and kind
 unfoldable pub judgeFormCall : List ℕ → Outcome
 judgeFormCall bytes = counted (formVerdict 0x01 0x10 2 setLimit bytes) (num2 bytes 3)
-
--- «the three words of the deciding entry, as a part of whichever map holds it»: the part's offset, its length, and the position of that
--- map; «else an empty part»
-abbrev pub decidingAt : List ℕ → List ℕ → ℕ → List ℕ
-decidingAt site factory x =
-    pick (has (valueAt (entriesOf 3 site) x)) (entryPlace 3 site x ∷ 3 ∷ 0 ∷ [])
-    (pick (has (valueAt (entriesOf 3 factory) x)) (entryPlace 3 factory x ∷ 3 ∷ 1 ∷ []) (0 ∷ 0 ∷ 0 ∷ []))
-
--- «Two maps, site over factory, and a number x» (`part-of-deciding` in proofs/Parts: this is the part that is handed back)
-unfoldable pub siteOverFactoryAtCall : List ℕ → List ℕ → ℕ → Outcome
-siteOverFactoryAtCall site factory x =
-    judged (verdict 3 mapLimit site) 0 []
-    (judged (verdict 3 mapLimit factory) 1 [] (outcome (given (decidingAt site factory x)) []))
