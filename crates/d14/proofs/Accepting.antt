@@ -9,6 +9,7 @@ use lib.Dec.{ltb}
 use lib.ListN.{length}
 use borrow.Author.Tests.{ltb-true, lt-ltb}
 use Rattle.entries.specs.Sets.{has, member}
+use Rattle.d14.specs.Plain.{Left, SetLeft}
 use Rattle.entries.specs.Entries.{Value, Entry, valueAt, ListOf}
 use Rattle.entries.specs.Build.{pick}
 use Rattle.entries.proofs.Sets.{SetOf}
@@ -41,13 +42,6 @@ room-exactly p l w es e = go (ltb (capacity l (length w)) (length es)) refl e
 pub room-refused : (p : ℕ) (l : Layout) (w : List ℕ) (es : List Entry) → capacity l (length w) < length es → stored p l w es ≡ refuse 5 p (w ∷ [])
 room-refused p l w es h = rw (lt-ltb (capacity l (length w)) (length es) h)
 
--- What an accepted write leaves in a block of L words: a sound block that names exactly F, as long as it was, with zeros to its end.
-pub record Left (l : Layout) (L : ℕ) (F : ℕ → Option Value) (after : List ℕ) : Type 0 where
-  pub sound : verdict l after ≡ 0
-  pub long : length after ≡ L
-  pub names : (x : ℕ) → valueAt (entriesOf (l .width) after) x ≡ F x
-  pub stored-form : after ≡ blockOf L (entriesOf (l .width) after)
-
 pub written-left : (l : Layout) (w : List ℕ) (es : List Entry) (F : ℕ → Option Value) (xs after : List ℕ) → 2 ≤ l .width → 0 < length w
     → Shaped (l .width) es → ListOf F es → noRoom l (length w) es ≡ 0 → holding w es ≡ outcome (given xs) (after ∷ []) → Left l (length w) F after
 written-left l w es F xs after two h f i r e =
@@ -63,12 +57,6 @@ written-left l w es F xs after two h f i r e =
     same d = cc
 
 -- the same of a set
-pub record SetLeft (L : ℕ) (m : ℕ → Bool) (after : List ℕ) : Type 0 where
-  pub sound : verdict setLayout after ≡ 0
-  pub long : length after ≡ L
-  pub members : (x : ℕ) → member (entriesOf 2 after) x ≡ m x
-  pub stored-form : after ≡ blockOf L (entriesOf 2 after)
-
 pub set-left : (w : List ℕ) (es : List Entry) (m : ℕ → Bool) (xs after : List ℕ) → 0 < length w → SetOf m es → noRoom setLayout (length w) es ≡ 0
     → holding w es ≡ outcome (given xs) (after ∷ []) → SetLeft (length w) m after
 set-left w es m xs after h f r e =

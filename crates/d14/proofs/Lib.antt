@@ -5,3 +5,5 @@ pub mod Sets
 pub mod Maps
 pub mod Questions
 pub mod MapQuestions
+pub mod Changes
+pub mod Exactly
