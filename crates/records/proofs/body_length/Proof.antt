@@ -1,6 +1,6 @@
 use mathlib.Core.Path.{sym, ap}
 use Rattle.records.specs.Records.{bodyLength}
-use Rattle.records.specs.Steps.{bodyRead}
+use Rattle.records.specs.Reads.{bodyRead}
 use Rattle.records.proofs.Table.{kind-1-2, kind-18-19, kind-none}
 use native.Mathlib.Omega.{arith}
 use Rattle.records.proofs.body_length.Statement.{statement}

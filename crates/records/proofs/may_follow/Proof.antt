@@ -1,6 +1,6 @@
 use mathlib.Core.Path.{sym, _∙_}
 use mathlib.Core.Bool.{true, false}
-use Rattle.records.specs.Steps.{entryOf}
+use Rattle.records.specs.Reads.{entryOf}
 use Rattle.records.proofs.Items.{overlaps, apart, touching}
 use native.Mathlib.Omega.{arith}
 use borrow.Author.Needs.{needs}
