@@ -1,154 +1,177 @@
--- Whole forms: what an accepted form is made of, and the form of sound entries is accepted.
-use Prim.Native.Nat.{ℕ, _+_, _-_, _*_, _<_, _≤_}
+-- Whole forms: what an accepted form is made of, and the form of fine runs that share no number is accepted.
+use Prim.Native.Nat.{ℕ, zero, suc, _+_, _*_, _≤_}
 use mathlib.Core.List.{List, [], _∷_, _++_, append-nil}
 use mathlib.Core.Bool.{Bool, true, false}
-use mathlib.Core.Option.{none}
-use mathlib.Core.Path.{_≡_, refl, sym, ap, ap₂, _∙_}
+use mathlib.Core.Path.{_≡_, refl, sym, subst, ap, ap₂, _∙_}
 use native.Mathlib.Omega.{arith}
-use native.Mathlib.Nat.{div-add-mod'}
-use lib.Dec.{leb, ltb, lit<, lit≤}
-use lib.ListN.{length, drop, length-append, length-drop, drop-of-length-le}
-use borrow.Author.Tests.{leb-true, le-leb, ltb-false, le-ltb}
-use Rattle.entries.specs.Entries.{Entry, Sound}
-use Rattle.entries.specs.Build.{andb, pick}
-use Rattle.entries.proofs.Values.{and-true}
-use Rattle.answers.specs.Answers.{given, refused, numberSays}
-use Rattle.blocks.specs.Blocks.{setLimit, mapLimit, wordsOf}
+use lib.Dec.{ltb, lit<, lit≤}
+use lib.ListN.{length, take, drop, length-append, length-drop, drop-of-length-le}
+use borrow.Author.Tests.{ltb-false, le-ltb}
+use Rattle.entries.specs.Entries.{Entry}
+use Rattle.answers.specs.Answers.{applies}
+use Rattle.answers.specs.Steps.{Clear}
+use Rattle.answers.specs.declared.Finding.{Finding}
+use Rattle.answers.proofs.Turns.{applies-clear}
+use Rattle.blocks.specs.Blocks.{wordsOf}
 use Rattle.blocks.proofs.Words.{Shaped}
-use Rattle.blocks.proofs.Judging.{sound-true, true-sound}
-use Rattle.records.specs.Numbers.{Bytes, num2, countBytes}
-use Rattle.records.specs.Records.{formMark, bodyLength, startRecord, allWithin, startVerdict}
-use Rattle.records.proofs.Accepted.{StartAt, start-inv, start-zero, start-bytes, record-whole, rest-laid, counts-back-in}
-use Rattle.records.proofs.Bounded.{start-bound}
-use Rattle.runs.specs.Runs.{runOf, entriesIn, andThen, runVerdict}
-use Rattle.forms.specs.Forms.{formOf, formEntries, trailing, formVerdict}
-use Rattle.forms.specs.Steps.{FormKind}
+use Rattle.numbers.specs.Numbers.{Bytes, countsIn, countBytes}
+use Rattle.numbers.proofs.Numbers.{length-counts}
+use Rattle.records.specs.Records.{bodyLength, startRecord, allWithin, startVerdict}
+use Rattle.records.specs.Steps.{ItemKind}
+use Rattle.records.proofs.Said.{Fit}
+use Rattle.records.proofs.Heads.{Whole, record-inv, record-zero}
+use Rattle.records.proofs.Accepted.{start-bytes, record-whole, rest-laid, counts-back-in}
+use Rattle.runs.specs.Runs.{total, lengths, runsOf, runsIn, runsRefusals}
 use Rattle.runs.proofs.Turns.{length-record}
-use Rattle.runs.proofs.Running.{Bare, passed, stopped, then-bare, number-bare, run-bare, then-given, both-passed, Fit, RunAt, run-inv, run-accept, run-back, length-run, length-entries, entries-shaped, entries-fit, bytes-drop}
+use Rattle.runs.proofs.Running.{clear-split, clear-join, bytes-drop}
+use Rattle.runs.proofs.Several.{Each, Fine, shapes, many-lengths, all-within, runs-inv, counts-in, runs-fine, runs-fit, runs-back, runs-accept, length-runs}
+use Rattle.forms.specs.declared.Form.{Form}
+use Rattle.forms.specs.Forms.{ofSet, ofMap, ofBulletin, kindsOf, formOf, startSize, sizeOf, formCounts, formEntries, sharing, trailing, overlap, formRefusals}
+use Rattle.forms.specs.Steps.{Shape, lone, pair, FormKind}
 
-pub set-kinds : FormKind 0x01 0x10 2 setLimit
+-- the three forms of 01
+pub set-kind : FormKind ofSet
 unfolding bodyLength
-set-kinds = record { item = record { two = lit≤ tt; four = lit≤ tt; body = refl }; counted = refl; small = lit< tt }
+set-kind = record {
+  start = record { one = lit≤ tt; two = lit≤ tt; body = refl };
+  first = record { two = lit≤ tt; four = lit≤ tt; body = refl };
+  second = record { two = lit≤ tt; four = lit≤ tt; body = refl };
+  shape = lone;
+  small = lit< tt;
+}
 
-pub map-kinds : FormKind 0x02 0x11 3 mapLimit
+pub map-kind : FormKind ofMap
 unfolding bodyLength
-map-kinds = record { item = record { two = lit≤ tt; four = lit≤ tt; body = refl }; counted = refl; small = lit< tt }
+map-kind = record {
+  start = record { one = lit≤ tt; two = lit≤ tt; body = refl };
+  first = record { two = lit≤ tt; four = lit≤ tt; body = refl };
+  second = record { two = lit≤ tt; four = lit≤ tt; body = refl };
+  shape = lone;
+  small = lit< tt;
+}
 
-pub trailing-bare : (p : ℕ) (b : List ℕ) → Bare (trailing p b)
-trailing-bare p b = go (ltb p (length b))
-  where
-    go : (t : Bool) → Bare (pick t (refused 13 p) (given []))
-    go true = stopped (lit≤ tt) (lit≤ tt)
-    go false = passed
+pub bulletin-kind : FormKind ofBulletin
+unfolding bodyLength
+bulletin-kind = record {
+  start = record { one = lit≤ tt; two = lit≤ tt; body = refl };
+  first = record { two = lit≤ tt; four = lit≤ tt; body = refl };
+  second = record { two = lit≤ tt; four = lit≤ tt; body = refl };
+  shape = pair;
+  small = lit< tt;
+}
 
-pub form-bare : (start kind s limit : ℕ) (b : List ℕ) → Bare (formVerdict start kind s limit b)
-unfolding formVerdict
-form-bare start kind s limit b =
-    let run = runVerdict formMark kind s (num2 b 3) 7 none (drop 7 b) in
-    let end = trailing (7 + (8 * s + 5) * num2 b 3) b in
-    then-bare (numberSays (startVerdict formMark start 1 limit b) 0) (andThen run end)
-    (number-bare (startVerdict formMark start 1 limit b) 0 (start-bound formMark start 1 limit b))
-    (then-bare run end (run-bare formMark kind s (num2 b 3) 7 none (drop 7 b)) (trailing-bare (7 + (8 * s + 5) * num2 b 3) b))
+kinds-are : (r s a b : ℕ) → Shape r s → ItemKind a s → ItemKind b s → Each (λ k. ItemKind k s) (take r (a ∷ b ∷ []))
+kinds-are r s a b lone i j = (i, tt)
+kinds-are r s a b pair i j = (i, (j, tt))
 
-pub no-trailing : (p : ℕ) (b : List ℕ) → trailing p b ≡ given [] → length b ≤ p
-no-trailing p b e = go (ltb p (length b)) refl e
-  where
-    go : (t : Bool) → ltb p (length b) ≡ t → pick t (refused 13 p) (given []) ≡ given [] → length b ≤ p
-    go true q e = absurd (let z : _≡_ {A = ℕ} 0 1 = cc in omega arith)
-    go false q e = ltb-false p (length b) q
+pub as-many : {A : Type 0} (r s : ℕ) (x y : A) → Shape r s → length (take r (x ∷ y ∷ [])) ≡ r
+as-many r s x y lone = refl
+as-many r s x y pair = refl
 
-module _ (start kind s limit : ℕ) (k : FormKind start kind s limit) where
-  -- what an accepted form is made of
-  record Parts (b : List ℕ) : Type 0 where
-    begin : StartAt formMark start b 1 limit
-    run : RunAt formMark kind s (k .item) (num2 b 3) none (drop 7 b)
-    end : length b ≡ 7 + (8 * s + 5) * num2 b 3
+many-counts : (n : ℕ) (b : List ℕ) (q : ℕ) → length (countsIn n b q) ≡ n
+many-counts zero b q = refl
+many-counts (suc n) b q = ap suc (many-counts n b (q + 2))
 
-  parts : (b : List ℕ) → Bytes b → formVerdict start kind s limit b ≡ given [] → Parts b
-  unfolding formVerdict
-  parts b y e =
-      let n = num2 b 3 in
-      let end = trailing (7 + (8 * s + 5) * n) b in
-      let t = then-given (startVerdict formMark start 1 limit b) 0 (andThen (runVerdict formMark kind s n 7 none (drop 7 b)) end) e in
-      let u = both-passed end (run-bare formMark kind s n 7 none (drop 7 b)) (t .1) in
-      let i = start-inv formMark start b 1 limit (k .counted) (t .0) in
-      let r = run-inv formMark kind s (k .item) n 7 none (drop 7 b) (bytes-drop 7 b y) (u .0) in
-      record { begin = i; run = r; end = omega (arith, no-trailing (7 + (8 * s + 5) * n) b (u .1), r .long, i .whole .long, length-drop 7 b) }
+-- b is the byte form of these runs: as many as the form has, each fine and of 64-bit words, and they share no number
+pub record Formed (f : Form) (b : List ℕ) (runs : List (List Entry)) : Type 0 where
+  pub form : b ≡ formOf f runs
+  pub many : length runs ≡ f .runs
+  pub fine : Each (Fine (f .layout .width) (f .layout .limit)) runs
+  pub fit : Each (λ es. Fit (wordsOf es)) runs
+  pub apart : sharing runs ≡ false
 
-  within : (n : ℕ) → andb (leb n limit) true ≡ true → n ≤ limit
-  within n e = leb-true n limit (and-true (leb n limit) true e .0)
+module _ (f : Form) (k : FormKind f) where
+  abbrev s : ℕ
+  s = f .layout .width
 
-  -- the bytes are the form of the entries read, which are sound and within the limit
-  pub record Made (b : List ℕ) : Type 0 where
-    pub form : b ≡ formOf start kind (formEntries s b)
-    pub sound : Sound (formEntries s b)
-    pub shaped : Shaped s (formEntries s b)
-    pub within : length (formEntries s b) ≤ limit
-    pub fit : Fit (wordsOf (formEntries s b))
+  kinds : Each (λ i. ItemKind i s) (kindsOf f)
+  kinds = kinds-are (f .runs) s (f .first) (f .second) (k .shape) (k .first) (k .second)
 
-  pub made : (b : List ℕ) → Bytes b → formVerdict start kind s limit b ≡ given [] → Made b
-  unfolding formOf formEntries
-  made b y e =
-      let n = num2 b 3 in
-      let p = parts b y e in
-      let es = entriesIn s n (drop 7 b) in
-      let l = length-entries s n (drop 7 b) in
-      let none-after : drop ((8 * s + 5) * n) (drop 7 b) ≡ [] = drop-of-length-le (drop 7 b) {i = (8 * s + 5) * n} (omega (arith, p .end, length-drop 7 b)) in
-      let run : drop 7 b ≡ runOf formMark kind es = p .run .bytes ∙ ap (λ (r : List ℕ). runOf formMark kind es ++ r) none-after ∙ append-nil (runOf formMark kind es) in
+  many-kinds : length (kindsOf f) ≡ f .runs
+  many-kinds = as-many (f .runs) s (f .first) (f .second) (k .shape)
+
+  pub start-long : (b : List ℕ) → Clear (formRefusals f b) → startSize f ≤ length b
+  unfolding formRefusals
+  start-long b c = record-inv (f .mark) (f .start) b (allWithin (f .layout .limit) (formCounts f b)) (2 * f .runs) (k .start .body) (c .0) .0 .long
+
+  pub counted : (b : List ℕ) → lengths (formEntries f b) ≡ formCounts f b
+  unfolding formEntries
+  counted b = counts-in (f .mark) s (kindsOf f) (formCounts f b) (drop (startSize f) b) (many-counts (f .runs) b 3 ∙ sym many-kinds)
+
+  -- the bytes that are accepted are the form of the runs read
+  pub made : (b : List ℕ) → Bytes b → Clear (formRefusals f b) → Formed f b (formEntries f b)
+  unfolding formRefusals formOf formEntries
+  made b y c =
+      let ns = formCounts f b in
+      let a = startSize f in
+      let d = drop a b in
+      let es = runsIn s (kindsOf f) ns d in
+      let l : length ns ≡ length (kindsOf f) = many-counts (f .runs) b 3 ∙ sym many-kinds in
+      let i = record-inv (f .mark) (f .start) b (allWithin (f .layout .limit) ns) (2 * f .runs) (k .start .body) (c .0) in
+      let t = clear-split (runsRefusals (f .mark) s a (kindsOf f) ns d) (trailing (sizeOf f ns) b ∷ overlap es ∷ []) (c .1) in
+      let r = runs-inv (f .mark) s (kindsOf f) ns l kinds a d (bytes-drop a b y) (t .0) in
+      let e : length b ≤ sizeOf f ns = ltb-false (sizeOf f ns) (length b) (applies-clear (ltb (sizeOf f ns) (length b)) 12 (t .1 .0)) in
+      let none-after : drop ((8 * s + 5) * total ns) d ≡ [] = drop-of-length-le d {i = (8 * s + 5) * total ns} (omega (arith, length-drop a b)) in
+      let run : d ≡ runsOf (f .mark) (kindsOf f) es =
+      r .bytes ∙ ap (λ (x : List ℕ). runsOf (f .mark) (kindsOf f) es ++ x) none-after ∙ append-nil (runsOf (f .mark) (kindsOf f) es) in
       record {
-        form = start-bytes formMark start b y 1 (p .begin .whole) ∙ ap₂ (λ (m : ℕ) (r : List ℕ). startRecord formMark start (m ∷ []) ++ r) (sym l) run;
-        sound = sound-true es (p .run .sound);
-        shaped = entries-shaped s n (drop 7 b) (k .item .two);
-        within = omega (arith, l, within n (p .begin .within));
-        fit = entries-fit s n (drop 7 b) (bytes-drop 7 b y) (k .item .two);
+        form = start-bytes (f .mark) (f .start) b y (f .runs) (i .0)
+            ∙ ap₂ (λ (m : List ℕ) (x : List ℕ). startRecord (f .mark) (f .start) m ++ x) (sym (counted b)) run;
+        many = sym (many-lengths es) ∙ ap length (counted b) ∙ many-counts (f .runs) b 3;
+        fine = runs-fine (f .mark) s (kindsOf f) ns d (f .layout .limit) (k .first .two) (r .sound) (i .1);
+        fit = runs-fit (f .mark) s (kindsOf f) ns d (bytes-drop a b y) (k .first .two);
+        apart = applies-clear (sharing es) 13 (t .1 .1 .0);
       }
 
-  count-back : (es : List Entry) → num2 (formOf start kind es) 3 ≡ length es
-  unfolding formOf
-  count-back es = div-add-mod' (length es) 256
+  -- the form of runs, taken apart
+  module _ (runs : List (List Entry)) (n : length runs ≡ f .runs) (h : Each (Shaped s) runs) where
+    abbrev b : List ℕ
+    b = formOf f runs
 
-  pub size : (es : List Entry) → Shaped s es → length (formOf start kind es) ≡ 7 + (8 * s + 5) * length es
-  unfolding formOf
-  size es h =
-      length-append (startRecord formMark start (length es ∷ [])) (runOf formMark kind es)
-      ∙ omega (arith, length-record formMark start (countBytes (length es ∷ [])), length-run formMark kind s (k .item) es h)
+    as-kinds : length runs ≡ length (kindsOf f)
+    as-kinds = n ∙ sym many-kinds
 
-  -- the form of es, taken apart
-  module _ (es : List Entry) (h : Shaped s es) where
-    dropped : drop 7 (formOf start kind es) ≡ runOf formMark kind es
+    counts-long : length (countBytes (lengths runs)) ≡ 2 * f .runs
+    counts-long = omega (arith, length-counts (lengths runs), many-lengths runs, n)
+
+    -- «Sizes: set 7+21n, map 7+29n, bulletin 9+21(r+w).»
+    pub size : length b ≡ sizeOf f (lengths runs)
     unfolding formOf
-    dropped = rest-laid formMark start (countBytes (length es ∷ [])) (runOf formMark kind es) 2 refl
+    size =
+        length-append (startRecord (f .mark) (f .start) (lengths runs)) (runsOf (f .mark) (kindsOf f) runs)
+        ∙ omega (arith, length-record (f .mark) (f .start) (countBytes (lengths runs)), counts-long, length-runs (f .mark) s (kindsOf f) runs as-kinds kinds h)
 
-    pub back : formEntries s (formOf start kind es) ≡ es
+    counts-back : formCounts f b ≡ lengths runs
+    unfolding formOf
+    counts-back =
+        ap (λ (m : ℕ). countsIn m (startRecord (f .mark) (f .start) (lengths runs) ++ runsOf (f .mark) (kindsOf f) runs) 3) (sym n ∙ sym (many-lengths runs))
+        ∙ counts-back-in (f .mark) (f .start) (lengths runs) (runsOf (f .mark) (kindsOf f) runs)
+
+    dropped : drop (startSize f) b ≡ runsOf (f .mark) (kindsOf f) runs ++ []
+    unfolding formOf
+    dropped =
+        rest-laid (f .mark) (f .start) (countBytes (lengths runs)) (runsOf (f .mark) (kindsOf f) runs) (2 * f .runs) counts-long
+        ∙ sym (append-nil (runsOf (f .mark) (kindsOf f) runs))
+
+    pub back : formEntries f b ≡ runs
     unfolding formEntries
-    back =
-        ap₂ (entriesIn s) (count-back es) (dropped ∙ sym (append-nil (runOf formMark kind es)))
-        ∙ run-back formMark kind s (k .item) es [] h
+    back = ap₂ (runsIn s (kindsOf f)) counts-back dropped ∙ runs-back (f .mark) s [] (kindsOf f) runs as-kinds kinds h
 
-    starts : length es ≤ limit → startVerdict formMark start 1 limit (formOf start kind es) ≡ 0
+    start-whole : Whole (f .mark) (f .start) (2 * f .runs) b
     unfolding formOf
-    starts l =
-        let b = formOf start kind es in
-        start-zero formMark start b 1 limit (k .counted)
-        (record {
-          whole = record-whole formMark start (countBytes (length es ∷ [])) (runOf formMark kind es) 2 refl;
-          within = ap (allWithin limit) (counts-back-in formMark start (length es ∷ []) (runOf formMark kind es)) ∙ rw (le-leb (length es) limit l);
-        })
+    start-whole = record-whole (f .mark) (f .start) (countBytes (lengths runs)) (runsOf (f .mark) (kindsOf f) runs) (2 * f .runs) counts-long
 
-    runs : Sound es → runVerdict formMark kind s (num2 (formOf start kind es) 3) 7 none (drop 7 (formOf start kind es)) ≡ given []
-    runs d =
-        ap₂ (λ (n : ℕ) (r : List ℕ). runVerdict formMark kind s n 7 none r) (count-back es) (dropped ∙ sym (append-nil (runOf formMark kind es)))
-        ∙ run-accept formMark kind s (k .item) 7 none es [] h (true-sound es d)
-
-    ends : trailing (7 + (8 * s + 5) * num2 (formOf start kind es) 3) (formOf start kind es) ≡ given []
-    ends =
-        let l : length (formOf start kind es) ≤ 7 + (8 * s + 5) * num2 (formOf start kind es) 3 =
-        omega (arith, size es h, ap (λ (n : ℕ). (8 * s + 5) * n) (count-back es)) in
-        rw (le-ltb (7 + (8 * s + 5) * num2 (formOf start kind es) 3) (length (formOf start kind es)) l)
-
-    pub whole : Sound es → length es ≤ limit → formVerdict start kind s limit (formOf start kind es) ≡ given []
-    unfolding formVerdict
-    whole d l = rw (starts l, runs d) ends
-
-  pub made-size : (b : List ℕ) → Bytes b → formVerdict start kind s limit b ≡ given [] → length b ≡ 7 + (8 * s + 5) * length (formEntries s b)
-  made-size b y e = let m = made b y e in ap length (m .form) ∙ size (formEntries s b) (m .shaped)
+    pub whole : Each (Fine s (f .layout .limit)) runs → sharing runs ≡ false → Clear (formRefusals f b)
+    unfolding formRefusals
+    whole d o =
+        let ns = formCounts f b in
+        let c : allWithin (f .layout .limit) ns ≡ true = ap (allWithin (f .layout .limit)) counts-back ∙ all-within s (f .layout .limit) runs d in
+        let p : sizeOf f ns ≡ length b = ap (sizeOf f) counts-back ∙ sym size in
+        let e : applies (ltb (sizeOf f ns) (length b)) 13 ≡ 0 = rw (le-ltb (sizeOf f ns) (length b) (omega arith)) in
+        let g : applies (sharing (formEntries f b)) 14 ≡ 0 = ap (λ (x : List (List Entry)). applies (sharing x) 14) back ∙ rw o in
+        let r : Clear (runsRefusals (f .mark) s (startSize f) (kindsOf f) ns (drop (startSize f) b)) =
+        subst (λ (m : List ℕ). Clear (runsRefusals (f .mark) s (startSize f) (kindsOf f) m (drop (startSize f) b))) (sym counts-back)
+        (subst (λ (x : List ℕ). Clear (runsRefusals (f .mark) s (startSize f) (kindsOf f) (lengths runs) x)) (sym dropped)
+        (runs-accept (f .mark) s [] (f .layout .limit) (kindsOf f) runs as-kinds kinds d (startSize f))) in
+        (record-zero (f .mark) (f .start) b (allWithin (f .layout .limit) ns) (2 * f .runs) (k .start .body) start-whole c,
+        clear-join (runsRefusals (f .mark) s (startSize f) (kindsOf f) ns (drop (startSize f) b)) (trailing (sizeOf f ns) b ∷ overlap (formEntries f b) ∷ []) r (e, (g, tt)))

@@ -1,12 +1,75 @@
 -- What the steps of the code promise each other. No public promise names these.
-use Prim.Native.Nat.{ℕ, _<_}
+use Prim.Native.Nat.{ℕ, _+_, _*_, _<_, _≤_}
 use mathlib.Core.Path.{_≡_}
-use mathlib.Core.Option.{some}
-use Rattle.records.specs.Records.{bodyLength}
-use Rattle.records.specs.Steps.{ItemKind}
+use mathlib.Core.Option.{none}
+use mathlib.Core.List.{List, [], _∷_, _++_}
+use lib.Dec.{ltb}
+use lib.ListN.{length, getD, take, drop}
+use Rattle.entries.specs.Entries.{Entry}
+use Rattle.entries.specs.Build.{pick}
+use Rattle.answers.specs.declared.Finding.{Finding}
+use Rattle.records.specs.Steps.{StartKind, ItemKind}
+use Rattle.forms.specs.declared.Form.{Form}
+use Rattle.runs.specs.Runs.{entriesIn, runRefusals}
+use Rattle.runs.specs.Steps.{Fills}
+use Rattle.forms.specs.Forms.{startSize, trailing, overlap}
 
--- the kinds of a form, the words an item takes, and its limit
-pub record FormKind (start kind s limit : ℕ) : Type 0 where
-  pub item : ItemKind kind s
-  pub counted : bodyLength start ≡ some 2
-  pub small : limit < 65536
+-- how many runs a form has, and the words an item: one run, or two of ranges
+pub data Shape : ℕ → ℕ → Type 0 where
+  lone : {s : ℕ} → Shape 1 s
+  pair : Shape 2 2
+
+-- the kinds of a form, and its layout
+pub record FormKind (f : Form) : Type 0 where
+  pub start : StartKind (f .start) (f .runs)
+  pub first : ItemKind (f .first) (f .layout .width)
+  pub second : ItemKind (f .second) (f .layout .width)
+  pub shape : Shape (f .runs) (f .layout .width)
+  pub small : f .layout .limit < 65536
+
+-- what stands or is lent for the first and the second run, the second not where there is one run
+abbrev pub eachOf : {A : Type 0} → Form → A → A → List A
+eachOf f x y = take (f .runs) (x ∷ y ∷ [])
+
+-- the length of an item record, and the place where the second run begins behind n items
+abbrev pub itemSize : Form → ℕ
+itemSize f = 8 * f .layout .width + 5
+
+abbrev pub secondAt : Form → ℕ → ℕ
+secondAt f n = startSize f + itemSize f * n
+
+-- the entries of the runs, where n and m are the counts
+abbrev pub runsHere : Form → ℕ → ℕ → List ℕ → List (List Entry)
+runsHere f n m b = eachOf f (entriesIn (f .first) (f .layout .width) n (drop (startSize f) b)) (entriesIn (f .second) (f .layout .width) m (drop (secondAt f n) b))
+
+-- the refusals behind the start
+abbrev pub behindStart : Form → ℕ → ℕ → List ℕ → List Finding
+behindStart f n m b =
+    runRefusals (f .mark) (f .first) (f .layout .width) n (startSize f) none (drop (startSize f) b)
+    ++ (runRefusals (f .mark) (f .second) (f .layout .width) m (secondAt f n) none (drop (secondAt f n) b)
+    ++ (trailing (secondAt f n + itemSize f * m) b ∷ overlap (runsHere f n m b) ∷ []))
+
+-- a run of n records from place p on, and a block with room for its items
+pub record Stored (s n p : ℕ) (b out : List ℕ) : Type 0 where
+  pub there : p ≤ length b
+  pub some : 1 ≤ length out
+  pub fills : Fills s n (drop p b) (drop 1 out)
+
+-- the runs of a form, and a block for each
+pub record Stores (f : Form) (n m : ℕ) (b out out2 : List ℕ) : Type 0 where
+  pub first : Stored (f .layout .width) n (startSize f) b out
+  pub second : (f .runs ≡ 1 → ⊥) → Stored (f .layout .width) m (secondAt f n) b out2
+  pub shape : Shape (f .runs) (f .layout .width)
+
+-- the count in the second block of a form, 0 where there is one run
+abbrev pub countHeld : ℕ → List ℕ → ℕ
+countHeld runs w = pick (ltb 1 runs) (getD w 0 0) 0
+
+-- blocks with n and m items, and bytes with room for their form
+pub record Puts (f : Form) (n m : ℕ) (w w2 b : List ℕ) : Type 0 where
+  pub kind : FormKind f
+  pub small : n < 65536
+  pub small-too : m < 65536
+  pub held : secondAt f n + itemSize f * m ≤ length b
+  pub room : 1 + f .layout .width * n ≤ length w
+  pub room-too : (f .runs ≡ 1 → ⊥) → 1 + f .layout .width * m ≤ length w2

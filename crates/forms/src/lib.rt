@@ -1,128 +1,376 @@
-// The byte form of sets and maps: read into a block, written from one.
+// The byte form of sets, maps and bulletins: a form is a value, and one code reads and writes them all, run by run.
 ghost use mathlib.Core.Path.{_≡_};
-ghost use mathlib.Core.List.{[], _∷_};
+ghost use mathlib.Core.List.{[], _∷_, _++_};
 ghost use Prim.Native.Nat.{_+_, _*_, _≤_, _<_};
+ghost use lib.Dec.{ltb};
 ghost use lib.ListN.{length, drop};
-ghost use Rattle.answers.specs.Answers.{outcome};
+ghost use Rattle.answers.specs.Answers.{outcome, applies};
 ghost use Rattle.answers.specs.Says.{judgedSays, writtenSays};
-ghost use Rattle.blocks.specs.Blocks.{setLimit, itemsOf};
-ghost use Rattle.records.specs.Numbers.{num2, over};
-ghost use Rattle.forms.specs.Forms.{formOf, formVerdict};
-ghost use Rattle.forms.specs.Calls.{readCall, readSetCall, readMapCall, writeCall, writeSetCall, writeMapCall};
-ghost use Rattle.forms.specs.Steps.{FormKind};
-ghost use Rattle.runs.specs.Steps.{formRead, Fills};
+ghost use Rattle.answers.specs.Steps.{FirstOf};
+ghost use Rattle.blocks.specs.Blocks.{capacity, itemsOf};
+ghost use Rattle.numbers.specs.Numbers.{over};
+ghost use Rattle.runs.specs.Runs.{entriesIn};
+ghost use Rattle.forms.specs.Forms.{startSize, formOf, formRefusals};
+ghost use Rattle.forms.specs.Calls.{outRefusals, storedIn, readCall, readSetCall, readMapCall, readBulletinCall};
+ghost use Rattle.forms.specs.Calls.{blockRefusals, noSpace, writeCall, writeSetCall, writeMapCall, writeBulletinCall};
+ghost use Rattle.forms.specs.Calls.{judgeSetCall, formSays, memberCall};
+ghost use Rattle.forms.specs.Steps.{FormKind, eachOf, behindStart, runsHere, Stores, Puts, countHeld};
+use answers::Finding;
 use answers::Judged;
 use answers::Written;
+use blocks::Layout;
 use records::StartRead;
-use runs::FormRead;
 
-// The verdict on the bytes as a whole form; if they are one, its count.
-fn judge_form(bytes: &[u8], start: u8, kind: u8, s: usize, limit: usize) -> FormRead
-    requires { ⌜ FormKind start kind s limit ⌝ }
-    ensures { λ r. ⌜ r ≡ formRead (formVerdict start kind s limit (now (bytes .entry))) (num2 (now (bytes .entry)) 3) ⌝ }
-{
-    let a = records::read_start(bytes, records::MARK, start, limit);
-    let StartRead::Good(n) = a else {
-        return FormRead::Refused(records::start_number(a), 0);
-    };
-    let b = runs::judge_items(bytes, 7, records::MARK, kind, s, n);
-    let FormRead::Good(p) = b else {
-        return b;
-    };
-    if p < bytes.len() {
-        return FormRead::Refused(13, p);
-    }
-    FormRead::Good(n)
+// A form: the mark of its records, the kind of its start, the kind of the items of its first run and of its second, how many runs it
+// has, one or two, and the layout of the block that holds a run.
+pub struct Form {
+    pub mark: u16,
+    pub start: u8,
+    pub first: u8,
+    pub second: u8,
+    pub runs: usize,
+    pub layout: Layout,
 }
 
-// The verdict on the bytes as the form of a set; if they are one, its count.
-pub fn judge_set(bytes: &[u8]) -> FormRead
-    ensures { λ r. ⌜ r ≡ formRead (formVerdict 0x01 0x10 2 setLimit (now (bytes .entry))) (num2 (now (bytes .entry)) 3) ⌝ }
-{
-    judge_form(bytes, 0x01, 0x10, 2, blocks::SET_LIMIT)
+// The mark of every record.
+pub const MARK: u16 = 0xC53A;
+
+// A set, a map: one run. A bulletin: its released ranges, then its withdrawn ranges.
+pub const SET_FORM: Form = Form {
+    mark: MARK,
+    start: 0x01,
+    first: 0x10,
+    second: 0x10,
+    runs: 1,
+    layout: blocks::SET,
+};
+
+pub const MAP_FORM: Form = Form {
+    mark: MARK,
+    start: 0x02,
+    first: 0x11,
+    second: 0x11,
+    runs: 1,
+    layout: blocks::MAP,
+};
+
+pub const BULLETIN_FORM: Form = Form {
+    mark: MARK,
+    start: 0x03,
+    first: 0x12,
+    second: 0x13,
+    runs: 2,
+    layout: blocks::SET,
+};
+
+// What judging the form of a set answers: its count, or a refusal with its place.
+pub enum FormRead {
+    Good(usize),
+    Refused(u8, usize),
 }
 
-// Reads a form into a block: judges all of it, then fills. A refused call changes nothing.
-fn read_form(bytes: &[u8], out: &mut [u64], start: u8, kind: u8, s: usize, limit: usize) -> Judged
-    requires { ⌜ FormKind start kind s limit ⌝ }
-    ensures { λ r. ⌜ outcome (judgedSays r) (now (out .exit) ∷ []) ≡ readCall start kind s limit (now (bytes .entry)) (now (out .entry)) ⌝ }
+// The first refusal behind the start of a form with these counts, or number 0.
+fn judge_runs(bytes: &[u8], form: Form, n: usize, m: usize) -> Finding
+    requires { ⌜ FormKind form × (startSize form ≤ length (now bytes)) ⌝ }
+    ensures { λ r. ⌜ FirstOf (behindStart form n m (now (bytes .entry))) r ⌝ }
 {
-    let v = judge_form(bytes, start, kind, s, limit);
-    let FormRead::Good(n) = v else {
-        return runs::judged_form(v);
+    let s = form.layout.width;
+    let from = 2 * form.runs + 5;
+    let x = runs::judge_run(bytes, from, form.mark, form.first, s, n);
+    if x.number != 0 {
+        return x;
+    }
+    let y = runs::judge_run(bytes, x.place, form.mark, form.second, s, m);
+    if y.number != 0 {
+        return y;
+    }
+    if y.place < bytes.len() {
+        return Finding {
+            number: 13,
+            place: y.place,
+        };
+    }
+    if form.runs == 1 {
+        return Finding {
+            number: 0,
+            place: 0,
+        };
+    }
+    if runs::share_records(bytes, form.first, from, n, form.second, x.place, m) {
+        return Finding {
+            number: 14,
+            place: 0,
+        };
+    }
+    Finding {
+        number: 0,
+        place: 0,
+    }
+}
+
+// The first refusal of the bytes as a whole form, or number 0.
+fn judge_form(bytes: &[u8], form: Form) -> Finding
+    requires { ⌜ FormKind form ⌝ }
+    ensures { λ r. ⌜ FirstOf (formRefusals form (now (bytes .entry))) r ⌝ }
+{
+    let a = records::read_start(bytes, form.mark, form.start, form.runs, form.layout.limit);
+    let StartRead::Good(n, m) = a else {
+        return Finding {
+            number: records::start_number(a),
+            place: 0,
+        };
     };
-    if out.len() == 0 {
-        return answers::judged_of(1, 0);
+    judge_runs(bytes, form, n, m)
+}
+
+// 5 where a block of len words has no room for n items, else 0.
+fn room_number(layout: Layout, len: usize, n: usize) -> u8
+    requires { ⌜ (2 ≤ layout .width) × (0 < len) ⌝ }
+    ensures { λ r. ⌜ r ≡ applies (ltb (capacity (layout .width) (layout .limit) len) n) 5 ⌝ }
+{
+    if blocks::room_for(layout.width, layout.limit, len) < n {
+        return 5;
     }
-    if blocks::room_for(s, limit, out.len()) < n {
-        return answers::judged_of(5, 0);
+    0
+}
+
+// The first refusal of outputs of these lengths for n and m items, or number 0: 1 for each, then 5 for each.
+fn out_refusal(form: Form, first: usize, n: usize, second: usize, m: usize) -> Finding
+    requires { ⌜ FormKind form ⌝ }
+    ensures { λ r. ⌜ FirstOf (outRefusals (form .layout) (eachOf form first second) (eachOf form n m)) r ⌝ }
+{
+    if first == 0 {
+        return Finding {
+            number: 1,
+            place: 0,
+        };
     }
-    runs::store(bytes, 7, s, n, out);
+    if form.runs == 1 {
+        return Finding {
+            number: room_number(form.layout, first, n),
+            place: 0,
+        };
+    }
+    if second == 0 {
+        return Finding {
+            number: 1,
+            place: 1,
+        };
+    }
+    let v = room_number(form.layout, first, n);
+    if v != 0 {
+        return Finding {
+            number: v,
+            place: 0,
+        };
+    }
+    Finding {
+        number: room_number(form.layout, second, m),
+        place: 1,
+    }
+}
+
+// Makes the outputs the blocks of the n and m items of a form that was judged good.
+fn store_runs(bytes: &[u8], form: Form, n: usize, m: usize, first: &mut [u64], second: &mut [u64])
+    requires { ⌜ Stores form n m (now bytes) (now first) (now second) ⌝ }
+    ensures { λ _. ⌜ eachOf form (now (first .exit)) (now (second .exit)) ≡ storedIn (eachOf form (now (first .entry)) (now (second .entry))) (runsHere form n m (now (bytes .entry))) ⌝ }
+{
+    let s = form.layout.width;
+    let from = 2 * form.runs + 5;
+    runs::store(bytes, from, form.first, s, n, first);
+    if form.runs == 1 {
+        return;
+    }
+    let p = from + (8 * s + 5) * n;
+    runs::store(bytes, p, form.second, s, m, second);
+}
+
+// Reads a form into a block for each run: judges all of it, then fills. The second block is not touched where the form has one run.
+fn read_form(bytes: &[u8], first: &mut [u64], second: &mut [u64], form: Form) -> Judged
+    requires { ⌜ FormKind form ⌝ }
+    ensures { λ r. ⌜ outcome (judgedSays r) (eachOf form (now (first .exit)) (now (second .exit))) ≡ readCall form (now (bytes .entry)) (eachOf form (now (first .entry)) (now (second .entry))) ⌝ }
+{
+    let v = judge_form(bytes, form);
+    if v.number != 0 {
+        return answers::judged_of(v.number, v.place);
+    }
+    let n = blocks::wide(numbers::get2(bytes, 3));
+    let m = blocks::wide(records::second_count(bytes, form.runs));
+    let u = out_refusal(form, first.len(), n, second.len(), m);
+    if u.number != 0 {
+        return answers::judged_of(u.number, u.place);
+    }
+    store_runs(bytes, form, n, m, first, second);
     Judged::Accepted
 }
 
-// Reads the byte form of a set into a block.
+// Reads the byte form of a set into a block. A refused call changes nothing.
 pub fn read_set(bytes: &[u8], out: &mut [u64]) -> Judged
     ensures { λ r. ⌜ outcome (judgedSays r) (now (out .exit) ∷ []) ≡ readSetCall (now (bytes .entry)) (now (out .entry)) ⌝ }
 {
-    read_form(bytes, out, 0x01, 0x10, 2, blocks::SET_LIMIT)
+    let mut none = [0u64; 1];
+    read_form(bytes, out, &mut none, SET_FORM)
 }
 
-// Reads the byte form of a map into a block.
+// Reads the byte form of a map into a block. A refused call changes nothing.
 pub fn read_map(bytes: &[u8], out: &mut [u64]) -> Judged
     ensures { λ r. ⌜ outcome (judgedSays r) (now (out .exit) ∷ []) ≡ readMapCall (now (bytes .entry)) (now (out .entry)) ⌝ }
 {
-    read_form(bytes, out, 0x02, 0x11, 3, blocks::MAP_LIMIT)
+    let mut none = [0u64; 1];
+    read_form(bytes, out, &mut none, MAP_FORM)
 }
 
-// Writes the form of the n items whose words begin at the front of words, at the front of the bytes.
-fn put_form(words: &[u64], s: usize, n: usize, start: u8, kind: u8, bytes: &mut [u8])
-    requires { ⌜ (n < 65536) × (7 ≤ length (now bytes)) × Fills s n (drop 7 (now bytes)) (now words) ⌝ }
-    ensures { λ _. ⌜ now (bytes .exit) ≡ over (formOf start kind (itemsOf s n (now (words .entry)))) (now (bytes .entry)) ⌝ }
+// Reads the byte form of a bulletin into a block of released ranges and one of withdrawn ranges. A refused call changes neither.
+pub fn read_bulletin(bytes: &[u8], released: &mut [u64], withdrawn: &mut [u64]) -> Judged
+    ensures { λ r. ⌜ outcome (judgedSays r) (now (released .exit) ∷ now (withdrawn .exit) ∷ []) ≡ readBulletinCall (now (bytes .entry)) (now (released .entry)) (now (withdrawn .entry)) ⌝ }
 {
-    records::write_start(bytes, records::MARK, start, blocks::narrow(n));
-    runs::write_items(words, s, n, records::MARK, kind, &mut bytes[7..]);
+    read_form(bytes, released, withdrawn, BULLETIN_FORM)
 }
 
-// Writes the form of a block into the bytes from place p on. A refused call changes nothing.
-fn write_form(
-    block: &[u64],
-    bytes: &mut [u8],
-    p: usize,
-    start: u8,
-    kind: u8,
-    s: usize,
-    limit: usize,
-) -> Written
-    requires { ⌜ FormKind start kind s limit ⌝ }
-    ensures { λ r. ⌜ outcome (writtenSays r) (now (bytes .exit) ∷ []) ≡ writeCall start kind s limit (now (block .entry)) (now (bytes .entry)) p ⌝ }
+// The first refusal of the blocks that a form is written from, or number 0: 1, 2, 3 of each, then 14.
+fn block_refusal(first: &[u64], second: &[u64], form: Form) -> Finding
+    requires { ⌜ FormKind form ⌝ }
+    ensures { λ r. ⌜ FirstOf (blockRefusals form (eachOf form (now (first .entry)) (now (second .entry)))) r ⌝ }
 {
-    let v = blocks::judge(block, s, limit);
+    let v = blocks::judge(first, form.layout.width, form.layout.limit);
     if v != 0 {
-        return Written::Refused(answers::refusal_of(v, 0));
+        return Finding {
+            number: v,
+            place: 0,
+        };
     }
-    if bytes.len() < p {
+    if form.runs == 1 {
+        return Finding {
+            number: 0,
+            place: 0,
+        };
+    }
+    let u = blocks::judge(second, form.layout.width, form.layout.limit);
+    if u != 0 {
+        return Finding {
+            number: u,
+            place: 1,
+        };
+    }
+    if operations::share_number(first, second) {
+        return Finding {
+            number: 14,
+            place: 0,
+        };
+    }
+    Finding {
+        number: 0,
+        place: 0,
+    }
+}
+
+// The count of the second block of a form, or 0 where the form has one run.
+fn second_held(second: &[u64], runs: usize) -> usize
+    requires { ⌜ runs ≤ 1 + length (now second) ⌝ }
+    ensures { λ r. ⌜ r ≡ countHeld runs (now (second .entry)) ⌝ }
+{
+    if 1 < runs {
+        return blocks::wide(blocks::word(second, 0));
+    }
+    0
+}
+
+// Whether a buffer of len bytes cannot take a form of this size at place p.
+fn no_space(p: usize, size: usize, len: usize) -> bool
+    ensures { λ r. ⌜ r ≡ noSpace p size len ⌝ }
+{
+    if len < p {
+        return true;
+    }
+    len - p < size
+}
+
+// Writes the form of the n and m items of the blocks at the front of the bytes.
+fn put_form(first: &[u64], n: usize, second: &[u64], m: usize, bytes: &mut [u8], form: Form)
+    requires { ⌜ Puts form n m (now first) (now second) (now bytes) ⌝ }
+    ensures { λ _. ⌜ now (bytes .exit) ≡ over (formOf form (eachOf form (itemsOf (form .layout .width) n (drop 1 (now (first .entry)))) (itemsOf (form .layout .width) m (drop 1 (now (second .entry)))))) (now (bytes .entry)) ⌝ }
+{
+    let s = form.layout.width;
+    let from = 2 * form.runs + 5;
+    records::write_start(
+        bytes,
+        form.mark,
+        form.start,
+        form.runs,
+        blocks::narrow(n),
+        blocks::narrow(m),
+    );
+    runs::write_run(&first[1..], s, n, form.mark, form.first, &mut bytes[from..]);
+    if form.runs == 1 {
+        return;
+    }
+    let p = from + (8 * s + 5) * n;
+    runs::write_run(&second[1..], s, m, form.mark, form.second, &mut bytes[p..]);
+}
+
+// Writes a form, from a block for each run, into the bytes from place p on. A refused call changes nothing.
+fn write_form(first: &[u64], second: &[u64], bytes: &mut [u8], p: usize, form: Form) -> Written
+    requires { ⌜ FormKind form ⌝ }
+    ensures { λ r. ⌜ outcome (writtenSays r) (now (bytes .exit) ∷ []) ≡ writeCall form (eachOf form (now (first .entry)) (now (second .entry))) (now (bytes .entry)) p ⌝ }
+{
+    let v = block_refusal(first, second, form);
+    if v.number != 0 {
+        return Written::Refused(answers::refusal_of(v.number, v.place));
+    }
+    let n = blocks::wide(blocks::word(first, 0));
+    let m = second_held(second, form.runs);
+    let size = 2 * form.runs + 5 + (8 * form.layout.width + 5) * (n + m);
+    if no_space(p, size, bytes.len()) {
         return Written::Refused(answers::refusal_of(15, 0));
     }
-    let n = blocks::wide(blocks::word(block, 0));
-    let size = 7 + (8 * s + 5) * n;
-    if bytes.len() - p < size {
-        return Written::Refused(answers::refusal_of(15, 0));
-    }
-    put_form(&block[1..], s, n, start, kind, &mut bytes[p..]);
+    put_form(first, n, second, m, &mut bytes[p..], form);
     Written::Length(size)
 }
 
-// Writes the byte form of a set into the bytes from place p on, and answers its length.
+// Writes the byte form of a set into the bytes from place p on, and answers its length. A refused call changes nothing.
 pub fn write_set(block: &[u64], bytes: &mut [u8], p: usize) -> Written
     ensures { λ r. ⌜ outcome (writtenSays r) (now (bytes .exit) ∷ []) ≡ writeSetCall (now (block .entry)) (now (bytes .entry)) p ⌝ }
 {
-    write_form(block, bytes, p, 0x01, 0x10, 2, blocks::SET_LIMIT)
+    write_form(block, block, bytes, p, SET_FORM)
 }
 
-// Writes the byte form of a map into the bytes from place p on, and answers its length.
+// Writes the byte form of a map into the bytes from place p on, and answers its length. A refused call changes nothing.
 pub fn write_map(block: &[u64], bytes: &mut [u8], p: usize) -> Written
     ensures { λ r. ⌜ outcome (writtenSays r) (now (bytes .exit) ∷ []) ≡ writeMapCall (now (block .entry)) (now (bytes .entry)) p ⌝ }
 {
-    write_form(block, bytes, p, 0x02, 0x11, 3, blocks::MAP_LIMIT)
+    write_form(block, block, bytes, p, MAP_FORM)
+}
+
+// Writes the byte form of a bulletin into the bytes from place p on, and answers its length. A refused call changes nothing.
+pub fn write_bulletin(released: &[u64], withdrawn: &[u64], bytes: &mut [u8], p: usize) -> Written
+    ensures { λ r. ⌜ outcome (writtenSays r) (now (bytes .exit) ∷ []) ≡ writeBulletinCall (now (released .entry)) (now (withdrawn .entry)) (now (bytes .entry)) p ⌝ }
+{
+    write_form(released, withdrawn, bytes, p, BULLETIN_FORM)
+}
+
+// Judges the bytes as the form of a set and stores nothing; answers the number of its ranges.
+pub fn judge_set(bytes: &[u8]) -> FormRead
+    ensures { λ r. ⌜ outcome (formSays r) [] ≡ judgeSetCall (now (bytes .entry)) ⌝ }
+{
+    let v = judge_form(bytes, SET_FORM);
+    if v.number != 0 {
+        return FormRead::Refused(v.number, v.place);
+    }
+    FormRead::Good(blocks::wide(numbers::get2(bytes, 3)))
+}
+
+// Whether x is a member of the set whose byte form the bytes are: 1 member, 0 not, 16 plus the number of the refusal where they are
+// not the byte form of a set.
+pub fn member(bytes: &[u8], x: u64) -> u64
+    ensures { λ r. ⌜ r ≡ memberCall (now (bytes .entry)) x ⌝ }
+{
+    let v = judge_form(bytes, SET_FORM);
+    if v.number != 0 {
+        return 16 + v.number as u64;
+    }
+    let n = blocks::wide(numbers::get2(bytes, 3));
+    if runs::holds(bytes, 0x10, 7, n, x) {
+        return 1;
+    }
+    0
 }

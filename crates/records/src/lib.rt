@@ -100,7 +100,7 @@ fn rest_verdict(told: bool, content: bool) -> u8
 }
 
 // The second count of the start record at the front of the bytes, or 0 if it has k = 1 counts.
-fn second_count(bytes: &[u8], k: usize) -> u64
+pub fn second_count(bytes: &[u8], k: usize) -> u64
     requires { ⌜ 2 * k + 5 ≤ length (now bytes) ⌝ }
     ensures { λ r. ⌜ (r ≡ secondCount k (now (bytes .entry))) × (r < 65536) ⌝ }
 {

@@ -1,3 +1,5 @@
 pub mod Turns
 pub mod Running
+pub mod Several
 pub mod Storing
+pub mod Walking

@@ -1,28 +1,25 @@
-// Runs of item records of one kind, at any place of the bytes: judged, stored into a block, written.
+// Runs of item records of one kind, at any place of the bytes: judged, stored into a block, written, and asked about.
 ghost use mathlib.Core.Path.{_≡_};
-ghost use mathlib.Core.Option.{none};
 ghost use mathlib.Core.List.{[], _∷_};
 ghost use Prim.Native.Nat.{_+_, _*_, _≤_};
+ghost use lib.Dec.{leb};
 ghost use lib.ListN.{length, drop};
+ghost use Rattle.entries.specs.Build.{andb};
+ghost use Rattle.entries.specs.Sets.{member};
+ghost use Rattle.entries.specs.Bulletins.{shareb};
 ghost use Rattle.blocks.specs.Blocks.{itemsOf, wordsOf, blockOf};
-ghost use Rattle.records.specs.Numbers.{over};
+ghost use Rattle.numbers.specs.Numbers.{over};
 ghost use Rattle.records.specs.Steps.{ItemKind};
-ghost use Rattle.runs.specs.Runs.{runOf, entriesIn, runVerdict};
-ghost use Rattle.runs.specs.Steps.{formRead, judgedForm, Fills};
-use answers::Judged;
+ghost use Rattle.runs.specs.Runs.{runOf, entriesIn};
+ghost use Rattle.runs.specs.Steps.{RunJudged, Fills, TwoRuns};
+use answers::Finding;
 use records::Item;
 use records::ItemRead;
 
-// What judging bytes answers: a count or a place, or a refusal with its place.
-pub enum FormRead {
-    Good(usize),
-    Refused(u8, usize),
-}
-
-// The verdict on the n item records from place `from` on; if all are good, the place behind them.
-pub fn judge_items(bytes: &[u8], from: usize, mark: u16, kind: u8, s: usize, n: usize) -> FormRead
+// The verdict on the n item records from place `from` on: the first refusal, or number 0 and the place behind them.
+pub fn judge_run(bytes: &[u8], from: usize, mark: u16, kind: u8, s: usize, n: usize) -> Finding
     requires { ⌜ ItemKind kind s × (from ≤ length (now bytes)) ⌝ }
-    ensures { λ r. ⌜ r ≡ formRead (runVerdict mark kind s n from none (drop from (now (bytes .entry)))) (from + (8 * s + 5) * n) ⌝ }
+    ensures { λ r. ⌜ RunJudged mark kind s n from (now (bytes .entry)) r ⌝ }
 {
     let mut p = from;
     let mut left = n;
@@ -36,26 +33,32 @@ pub fn judge_items(bytes: &[u8], from: usize, mark: u16, kind: u8, s: usize, n: 
     while 0 < left {
         let a = records::read_item(&bytes[p..], mark, kind, s, first, before);
         let ItemRead::Good(item) = a else {
-            return FormRead::Refused(records::item_number(a), p);
+            return Finding {
+                number: records::item_number(a),
+                place: p,
+            };
         };
         first = false;
         before = item;
         p += 8 * s + 5;
         left -= 1;
     }
-    FormRead::Good(p)
+    Finding {
+        number: 0,
+        place: p,
+    }
 }
 
 // Fills the front of out with the words of the n item records at the front of the bytes.
-fn fill_items(bytes: &[u8], s: usize, n: usize, out: &mut [u64])
+fn fill_run(bytes: &[u8], kind: u8, s: usize, n: usize, out: &mut [u64])
     requires { ⌜ Fills s n (now bytes) (now out) ⌝ }
-    ensures { λ _. ⌜ now (out .exit) ≡ over (wordsOf (entriesIn s n (now (bytes .entry)))) (now (out .entry)) ⌝ }
+    ensures { λ _. ⌜ now (out .exit) ≡ over (wordsOf (entriesIn kind s n (now (bytes .entry)))) (now (out .entry)) ⌝ }
 {
     let mut left = n;
     let mut q: usize = 0;
     let mut w: usize = 0;
     while 0 < left {
-        records::get_words(&bytes[q + 3..], s, &mut out[w..]);
+        numbers::get_words(&bytes[q + 3..], s, &mut out[w..]);
         q += 8 * s + 5;
         w += s;
         left -= 1;
@@ -63,7 +66,7 @@ fn fill_items(bytes: &[u8], s: usize, n: usize, out: &mut [u64])
 }
 
 // Writes the n items whose words begin at the front of words as item records, at the front of the bytes.
-pub fn write_items(words: &[u64], s: usize, n: usize, mark: u16, kind: u8, bytes: &mut [u8])
+pub fn write_run(words: &[u64], s: usize, n: usize, mark: u16, kind: u8, bytes: &mut [u8])
     requires { ⌜ Fills s n (now bytes) (now words) ⌝ }
     ensures { λ _. ⌜ now (bytes .exit) ≡ over (runOf mark kind (itemsOf s n (now (words .entry)))) (now (bytes .entry)) ⌝ }
 {
@@ -87,21 +90,74 @@ fn put_count(out: &mut [u64], n: u64)
 }
 
 // Makes out the block of the n items whose records begin at place `from` and were judged good.
-pub fn store(bytes: &[u8], from: usize, s: usize, n: usize, out: &mut [u64])
+pub fn store(bytes: &[u8], from: usize, kind: u8, s: usize, n: usize, out: &mut [u64])
     requires { ⌜ (from ≤ length (now bytes)) × (1 ≤ length (now out)) × Fills s n (drop from (now bytes)) (drop 1 (now out)) ⌝ }
-    ensures { λ _. ⌜ now (out .exit) ≡ blockOf (length (now (out .entry))) (entriesIn s n (drop from (now (bytes .entry)))) ⌝ }
+    ensures { λ _. ⌜ now (out .exit) ≡ blockOf (length (now (out .entry))) (entriesIn kind s n (drop from (now (bytes .entry)))) ⌝ }
 {
     put_count(out, blocks::narrow(n));
-    fill_items(&bytes[from..], s, n, &mut out[1..]);
+    fill_run(&bytes[from..], kind, s, n, &mut out[1..]);
     blocks::clear(out, 1 + s * n);
 }
 
-// The answer of a call whose bytes were refused.
-pub fn judged_form(v: FormRead) -> Judged
-    ensures { λ r. ⌜ r ≡ judgedForm v ⌝ }
+// Whether the n ranges whose records begin at place p share a number with the m whose records begin at place q.
+pub fn share_records(
+    bytes: &[u8],
+    first: u8,
+    p: usize,
+    n: usize,
+    second: u8,
+    q: usize,
+    m: usize,
+) -> bool
+    requires { ⌜ TwoRuns first p n second q m (now bytes) ⌝ }
+    ensures { λ r. ⌜ r ≡ shareb (entriesIn first 2 n (drop p (now (bytes .entry)))) (entriesIn second 2 m (drop q (now (bytes .entry)))) ⌝ }
 {
-    match v {
-        FormRead::Good(_) => Judged::Accepted,
-        FormRead::Refused(number, place) => answers::judged_of(number, place),
+    let mut i = p;
+    let mut left = n;
+    let mut j = q;
+    let mut others = m;
+    while 0 < left {
+        if others == 0 {
+            return false;
+        }
+        if numbers::get8(bytes, i + 11) < numbers::get8(bytes, j + 3) {
+            i += 21;
+            left -= 1;
+            continue;
+        }
+        if numbers::get8(bytes, j + 11) < numbers::get8(bytes, i + 3) {
+            j += 21;
+            others -= 1;
+            continue;
+        }
+        return true;
     }
+    false
+}
+
+// Whether x is in low..high.
+fn between(low: u64, x: u64, high: u64) -> bool
+    ensures { λ r. ⌜ r ≡ andb (leb low x) (leb x high) ⌝ }
+{
+    if low <= x {
+        return x <= high;
+    }
+    false
+}
+
+// Whether x is in one of the n ranges whose records begin at place `from`.
+pub fn holds(bytes: &[u8], kind: u8, from: usize, n: usize, x: u64) -> bool
+    requires { ⌜ from + 21 * n ≤ length (now bytes) ⌝ }
+    ensures { λ r. ⌜ r ≡ member (entriesIn kind 2 n (drop from (now (bytes .entry)))) x ⌝ }
+{
+    let mut p = from;
+    let mut left = n;
+    while 0 < left {
+        if between(numbers::get8(bytes, p + 3), x, numbers::get8(bytes, p + 11)) {
+            return true;
+        }
+        p += 21;
+        left -= 1;
+    }
+    false
 }

@@ -1,4 +1,5 @@
-use Rattle.forms.proofs.Whole.{map-kinds}
+use Rattle.forms.proofs.Whole.{map-kind}
+use native.Mathlib.Omega.{arith}
 use borrow.Author.Needs.{needs}
 use Rattle.forms.proofs.write_map.Statement.{statement}
 use Rattle.forms.proofs.write_map.Tie as tie
@@ -7,7 +8,7 @@ use Rattle.forms.proofs.write_map.Lts as lts
 use Rattle.forms.proofs.write_form.Reads as write-form-reads
 
 write-form-requires : tie.Need-write-form-requires
-write-form-requires c κs = map-kinds
+write-form-requires c κs = map-kind
 
 same-length : tie.Need-same-length
 same-length c = search needs

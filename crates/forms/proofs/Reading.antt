@@ -1,0 +1,203 @@
+-- The answers of reading, judging and asking, from the tests of the code.
+use Prim.Native.Nat.{ℕ, zero, suc, _+_, _-_, _*_, _<_, _≤_}
+use mathlib.Core.List.{List, [], _∷_, _++_}
+use mathlib.Core.Bool.{Bool, true, false}
+use mathlib.Core.Path.{_≡_, refl, sym, subst, ap, ap₂, _∙_}
+use native.Mathlib.Omega.{arith}
+use lib.Dec.{ltb, eqb, lit≤}
+use lib.ListN.{length, take, drop, length-drop}
+use borrow.Author.Tests.{ltb-false, eqb-false, eq-eqb, ne-eqb}
+use Rattle.entries.specs.Entries.{Entry}
+use Rattle.entries.specs.Sets.{member}
+use Rattle.answers.specs.Answers.{Answer, given, refused, Outcome, outcome, truth, judged, at, inTurn, applies, lastNumber}
+use Rattle.answers.specs.Steps.{Clear, FirstOf}
+use Rattle.answers.specs.Says.{judgedSays, judgedOf}
+use Rattle.answers.specs.declared.Finding.{Finding}
+use Rattle.answers.specs.declared.Judged.{Judged}
+use Rattle.answers.specs.declared.Judged.the-variants as answer
+use Rattle.answers.proofs.Turns.{stops, passes, ends, stops-in, passes-in, refused-by, given-by, applies-clear, applies-small}
+use Rattle.blocks.specs.Blocks.{capacity, blockOf}
+use Rattle.blocks.specs.declared.Layout.{Layout}
+use Rattle.blocks.proofs.Judging.{room}
+use Rattle.numbers.specs.Numbers.{Bytes, num2}
+use Rattle.records.specs.Reads.{secondCount}
+use Rattle.records.proofs.Items.{counts-two}
+use Rattle.runs.specs.Runs.{entriesIn, lengths}
+use Rattle.forms.specs.declared.Form.{Form}
+use Rattle.forms.specs.Forms.{ofSet, startSize, sizeOf, formCounts, formEntries, formRefusals}
+use Rattle.forms.specs.Calls.{outRefusals, storedIn, readCall, judgeCall, oneNumber, firstOf, memberCall}
+use Rattle.forms.specs.Steps.{Shape, lone, pair, FormKind, eachOf, itemSize, secondAt, runsHere, Stored, Stores}
+use Rattle.forms.proofs.Whole.{set-kind, start-long, counted}
+use Rattle.forms.proofs.Forms.{accepted-size}
+use Rattle.forms.proofs.Two.{entries-here, size-here}
+
+-- refused with the first refusal
+pub refused-first : (fs : List Finding) (r : Finding) → FirstOf fs r → (r .number ≡ 0 → ⊥) → (lent : List (List ℕ)) (next : Outcome)
+    → outcome (refused (r .number) (r .place)) lent ≡ inTurn fs lent next
+refused-first fs r f nz lent next = go (r .number) nz ∙ f .turn lent next
+  where
+    go : (v : ℕ) → (v ≡ 0 → ⊥) → outcome (refused v (r .place)) lent ≡ judged v (r .place) lent next
+    go zero nz = absurd (nz refl)
+    go (suc v) nz = refl
+
+each-length : (r s : ℕ) (x y : List ℕ) → Shape r s → take r (length x ∷ length y ∷ []) ≡ lengths (take r (x ∷ y ∷ []))
+each-length r s x y lone = refl
+each-length r s x y pair = refl
+
+-- a block that has words, and room for n items
+record Roomy (layout : Layout) (l n : ℕ) : Type 0 where
+  some : 0 < l
+  fits : n ≤ capacity (layout .width) (layout .limit) l
+
+roomy : (layout : Layout) (l n : ℕ) → applies (eqb l 0) 1 ≡ 0 → applies (ltb (capacity (layout .width) (layout .limit) l) n) 5 ≡ 0 → Roomy layout l n
+roomy layout l n c d =
+    let z = eqb-false l 0 (applies-clear (eqb l 0) 0 c) in
+    record { some = omega arith; fits = ltb-false (capacity (layout .width) (layout .limit) l) n (applies-clear (ltb (capacity (layout .width) (layout .limit) l) n) 4 d) }
+
+each-roomy : (layout : Layout) (r s i j n m : ℕ) → Shape r s → Clear (outRefusals layout (take r (i ∷ j ∷ [])) (take r (n ∷ m ∷ [])))
+    → Roomy layout i n × ((r ≡ 1 → ⊥) → Roomy layout j m)
+each-roomy layout r s i j n m lone c = (roomy layout i n (c .0) (c .1 .0), λ nz. absurd (nz refl))
+each-roomy layout r s i j n m pair c = (roomy layout i n (c .0) (c .1 .1 .0), λ nz. roomy layout j m (c .1 .0) (c .1 .1 .1 .0))
+
+-- the first refusal of outputs of i and j words for n and m items, of which the second is there where there are two runs
+module _ (layout : Layout) (r s i j n m : ℕ) (h : Shape r s) where
+  abbrev full : ℕ → ℕ → ℕ
+  full l c = applies (ltb (capacity (layout .width) (layout .limit) l) c) 5
+
+  abbrev refusals : List Finding
+  refusals = outRefusals layout (take r (i ∷ j ∷ [])) (take r (n ∷ m ∷ []))
+
+  full-small : (l c : ℕ) → full l c ≤ lastNumber
+  full-small l c = applies-small (ltb (capacity (layout .width) (layout .limit) l) c) 5 (lit≤ tt)
+
+  empty : (l : ℕ) → l ≡ 0 → 1 ≡ applies (eqb l 0) 1
+  empty l e = rw (eq-eqb l 0 e)
+
+  pub no-first : i ≡ 0 → FirstOf refusals (at 0 1)
+  no-first e = go r s h
+    where
+      go : (r s : ℕ) → Shape r s → FirstOf (outRefusals layout (take r (i ∷ j ∷ [])) (take r (n ∷ m ∷ []))) (at 0 1)
+      go r s lone = stops 1 (applies (eqb i 0) 1) 0 _ (empty i e) (applies-small (eqb i 0) 1 (lit≤ tt)) (λ z. omega arith)
+      go r s pair = stops 1 (applies (eqb i 0) 1) 0 _ (empty i e) (applies-small (eqb i 0) 1 (lit≤ tt)) (λ z. omega arith)
+
+  module _ (some : i ≡ 0 → ⊥) where
+    words : applies (eqb i 0) 1 ≡ 0
+    words = rw (ne-eqb i 0 some)
+
+    pub first-only : r ≡ 1 → (v : ℕ) → v ≡ full i n → FirstOf refusals (at 0 v)
+    first-only e v q = rw e (passes (applies (eqb i 0) 1) 0 (at 0 (full i n) ∷ []) (at 0 v) words (ends v (full i n) 0 q (full-small i n)))
+
+    module _ (e : r ≡ 2) where
+      pub no-second : j ≡ 0 → FirstOf refusals (at 1 1)
+      no-second z =
+          rw e (passes (applies (eqb i 0) 1) 0 _ (at 1 1) words (stops 1 (applies (eqb j 0) 1) 1 _ (empty j z) (applies-small (eqb j 0) 1 (lit≤ tt)) (λ z. omega arith)))
+
+      module _ (some-too : j ≡ 0 → ⊥) (v : ℕ) (q : v ≡ full i n) where
+        behind : (u : Finding) → FirstOf (at 0 (full i n) ∷ at 1 (full j m) ∷ []) u → FirstOf refusals u
+        behind u g =
+            rw e (passes (applies (eqb i 0) 1) 0 _ u words (passes (applies (eqb j 0) 1) 1 (at 0 (full i n) ∷ at 1 (full j m) ∷ []) u (rw (ne-eqb j 0 some-too)) g))
+
+        pub full-first : (v ≡ 0 → ⊥) → FirstOf refusals (at 0 v)
+        full-first nz = behind (at 0 v) (stops v (full i n) 0 (at 1 (full j m) ∷ []) q (full-small i n) nz)
+
+        pub room-second : v ≡ 0 → (w : ℕ) → w ≡ full j m → FirstOf refusals (at 1 w)
+        room-second z w p = behind (at 1 w) (passes (full i n) 0 (at 1 (full j m) ∷ []) (at 1 w) (sym q ∙ z) (ends w (full j m) 1 p (full-small j m)))
+
+module _ (f : Form) (k : FormKind f) (b x y : List ℕ) (v : Finding) (fv : FirstOf (formRefusals f b) v) where
+  abbrev outs : List (List ℕ)
+  outs = eachOf f x y
+
+  abbrev O : List Finding
+  O = outRefusals (f .layout) (lengths outs) (lengths (formEntries f b))
+
+  abbrev next : Outcome
+  next = outcome (given []) (storedIn outs (formEntries f b))
+
+  pub bytes-refused : (v .number ≡ 0 → ⊥) → (r : Judged) → r ≡ judgedOf (v .number) (v .place) → outcome (judgedSays r) outs ≡ readCall f b outs
+  unfolding readCall
+  bytes-refused nz r e = refused-by (formRefusals f b ++ O) v (stops-in (formRefusals f b) O v fv nz) outs next r nz e
+
+  module _ (zv : v .number ≡ 0) where
+    pub counts-long : startSize f ≤ length b
+    counts-long = start-long f k b (fv .clear zv)
+
+    module _ (n m : ℕ) (en : n ≡ num2 b 3) (em : m ≡ secondCount (f .runs) b) (u : Finding)
+        (fu : FirstOf (outRefusals (f .layout) (eachOf f (length x) (length y)) (eachOf f n m)) u) where
+      counts-are : eachOf f n m ≡ lengths (formEntries f b)
+      counts-are = ap₂ (eachOf f) en em ∙ counts-two (f .runs) (k .start .one) (k .start .two) b ∙ sym (counted f k b)
+
+      all-passed : FirstOf (formRefusals f b ++ O) u
+      all-passed =
+          passes-in (formRefusals f b) O v u fv zv
+          (subst (λ (l : List Finding). FirstOf l u) (ap₂ (outRefusals (f .layout)) (each-length (f .runs) (f .layout .width) x y (k .shape)) counts-are) fu)
+
+      pub outs-refused : (u .number ≡ 0 → ⊥) → (r : Judged) → r ≡ judgedOf (u .number) (u .place) → outcome (judgedSays r) outs ≡ readCall f b outs
+      unfolding readCall
+      outs-refused nz r e = refused-by (formRefusals f b ++ O) u all-passed outs next r nz e
+
+      module _ (zu : u .number ≡ 0) where
+        pub to-store : Bytes b → Stores f n m b x y
+        to-store w =
+            let r = each-roomy (f .layout) (f .runs) (f .layout .width) (length x) (length y) n m (k .shape) (fu .clear zu) in
+            let l : length b ≡ secondAt f n + itemSize f * m =
+            accepted-size f k b w (fv .clear zv) ∙ ap (sizeOf f) (counted f k b) ∙ size-here f k b
+            ∙ ap₂ (λ (i j : ℕ). secondAt f i + itemSize f * j) (sym en) (sym em) in
+            record {
+              first = stored x n (startSize f) (r .0) (omega arith) (omega (arith, length-drop (startSize f) b));
+              second = λ nz. stored y m (secondAt f n) (r .1 nz) (omega arith) (omega (arith, length-drop (secondAt f n) b));
+              shape = k .shape;
+            }
+          where
+            stored : (z : List ℕ) (i p : ℕ) → Roomy (f .layout) (length z) i → p ≤ length b → itemSize f * i ≤ length (drop p b) → Stored (f .layout .width) i p b z
+            stored z i p r h l = record {
+              there = h;
+              some = r .some;
+              fills = record {
+                two = k .first .two;
+                four = k .first .four;
+                held = l;
+                room = omega (arith, room (f .layout .width) (f .layout .limit) (length z) i (r .some) (r .fits), length-drop 1 z);
+              };
+            }
+
+        pub read-good : (x' y' : List ℕ) → eachOf f x' y' ≡ storedIn outs (runsHere f n m b) → outcome (judgedSays answer.Accepted) (eachOf f x' y') ≡ readCall f b outs
+        unfolding readCall
+        read-good x' y' q =
+            given-by (formRefusals f b ++ O) u all-passed outs next (outcome (given []) (eachOf f x' y')) zu
+            (ap (outcome (given [])) (q ∙ ap (storedIn outs) (ap₂ (λ (i j : ℕ). runsHere f i j b) en em ∙ sym (entries-here f k b))))
+
+-- the outputs that were filled
+pub one-stored : (r s : ℕ) (x y x' y' : List ℕ) (es fs : List Entry) → r ≡ 1 → x' ≡ blockOf (length x) es
+    → take r (x' ∷ y' ∷ []) ≡ storedIn (take r (x ∷ y ∷ [])) (take r (es ∷ fs ∷ []))
+one-stored r s x y x' y' es fs e p = rw (e, p)
+
+pub two-stored : (r s : ℕ) (x y x' y' : List ℕ) (es fs : List Entry) → r ≡ 2 → x' ≡ blockOf (length x) es → y' ≡ blockOf (length y) fs
+    → take r (x' ∷ y' ∷ []) ≡ storedIn (take r (x ∷ y ∷ [])) (take r (es ∷ fs ∷ []))
+two-stored r s x y x' y' es fs e p q = rw (e, p, q)
+
+-- judging and asking, of a set
+module _ (b : List ℕ) (v : Finding) (fv : FirstOf (formRefusals ofSet b) v) where
+  pub judge-refused : (v .number ≡ 0 → ⊥) → outcome (refused (v .number) (v .place)) [] ≡ judgeCall ofSet b
+  unfolding judgeCall
+  judge-refused nz = refused-first (formRefusals ofSet b) v fv nz [] (outcome (given (formCounts ofSet b)) [])
+
+  pub judge-good : v .number ≡ 0 → (n : ℕ) → n ≡ num2 b 3 → outcome (given (n ∷ [])) [] ≡ judgeCall ofSet b
+  unfolding judgeCall
+  judge-good z n e =
+      given-by (formRefusals ofSet b) v fv [] (outcome (given (formCounts ofSet b)) []) (outcome (given (n ∷ [])) []) z (ap (λ (i : ℕ). outcome (given (i ∷ [])) []) e)
+
+  pub member-refused : (x : ℕ) → (v .number ≡ 0 → ⊥) → 16 + v .number ≡ memberCall b x
+  unfolding memberCall
+  member-refused x nz = ap oneNumber (refused-first (formRefusals ofSet b) v fv nz [] (outcome (truth (member (firstOf (formEntries ofSet b)) x)) []))
+
+  pub member-held : Bytes b → v .number ≡ 0 → (n : ℕ) → n ≡ num2 b 3 → 7 + 21 * n ≤ length b
+  member-held y z n e = omega (arith, accepted-size ofSet set-kind b y (fv .clear z), ap (sizeOf ofSet) (counted ofSet set-kind b))
+
+  pub member-told : v .number ≡ 0 → (n : ℕ) → n ≡ num2 b 3 → (x : ℕ) (t : Bool) → t ≡ member (entriesIn 0x10 2 n (drop 7 b)) x
+      → oneNumber (outcome (truth t) []) ≡ memberCall b x
+  unfolding memberCall
+  member-told z n e x t m =
+      ap oneNumber
+      (given-by (formRefusals ofSet b) v fv [] (outcome (truth (member (firstOf (formEntries ofSet b)) x)) []) (outcome (truth t) []) z
+      (ap (λ (u : Bool). outcome (truth u) [])
+      (m ∙ ap (λ (i : ℕ). member (entriesIn 0x10 2 i (drop 7 b)) x) e ∙ ap (λ (r : List (List Entry)). member (firstOf r) x) (sym (entries-here ofSet set-kind b)))))
