@@ -11,7 +11,7 @@ use Rattle.blocks.specs.Blocks.{blockOf}
 use Rattle.numbers.specs.Check.{fletcher, checkOf}
 use Rattle.records.specs.Records.{bodyLength, said, saying, recordVerdict}
 use Rattle.runs.specs.Runs.{runOf, entriesIn, runRefusals, runsOf, runsIn, runsRefusals}
-use Rattle.forms.specs.Forms.{formOf, setForm, mapForm, bulletinForm, formEntries, formRefusals}
+use Rattle.verdicts.specs.Forms.{formOf, setForm, mapForm, bulletinForm, formEntries, formRefusals}
 use Rattle.forms.specs.Calls.{readCall, readSetCall, readMapCall, readBulletinCall, memberCall}
 
 abbrev caseH : List ℕ

@@ -21,11 +21,11 @@ use Rattle.numbers.specs.Numbers.{Bytes, over, patch}
 use Rattle.runs.specs.Runs.{lengths}
 use Rattle.runs.proofs.Running.{clear-split, clear-join}
 use Rattle.runs.proofs.Several.{Each, Fine, shapes}
-use Rattle.forms.specs.declared.Form.{Form}
-use Rattle.forms.specs.Forms.{formOf, sizeOf, formEntries, sharing, overlap, formRefusals}
-use Rattle.forms.specs.Calls.{noBlocks, noRooms, outRefusals, storedIn, readCall, heldIn, inputs, noSpace, blockRefusals, writeRefusals, writtenAt, writeCall}
-use Rattle.forms.specs.Steps.{FormKind}
-use Rattle.forms.proofs.Whole.{Formed, made, back, whole, size}
+use Rattle.verdicts.specs.declared.Form.{Form}
+use Rattle.verdicts.specs.Forms.{formOf, sizeOf, formEntries, sharing, overlap, formRefusals, noBlocks, noRooms, outRefusals}
+use Rattle.forms.specs.Calls.{storedIn, readCall, heldIn, inputs, noSpace, blockRefusals, writeRefusals, writtenAt, writeCall}
+use Rattle.verdicts.specs.Steps.{FormKind}
+use Rattle.verdicts.proofs.Whole.{Formed, made, back, whole, size}
 
 -- the block of sound entries is sound, and says them
 module _ (s limit L : ℕ) (es : List Entry) (two : 2 ≤ s) (h : Shaped s es) where

@@ -4,18 +4,18 @@ use mathlib.Core.List.{List, [], _∷_, _++_}
 use mathlib.Core.Bool.{Bool, true, false}
 use mathlib.Core.Path.{_≡_, refl, sym, subst, ap, ap₂, _∙_}
 use native.Mathlib.Omega.{arith}
-use lib.Dec.{ltb, eqb, lit≤}
+use lib.Dec.{ltb, eqb}
 use lib.ListN.{length, take, drop, length-drop}
-use borrow.Author.Tests.{ltb-false, eqb-false, eq-eqb, ne-eqb}
+use borrow.Author.Tests.{ltb-false, eqb-false}
 use Rattle.entries.specs.Entries.{Entry}
 use Rattle.entries.specs.Sets.{member}
-use Rattle.answers.specs.Answers.{Answer, given, refused, Outcome, outcome, truth, judged, at, inTurn, applies, lastNumber}
+use Rattle.answers.specs.Answers.{Answer, given, refused, Outcome, outcome, truth, judged, inTurn, applies}
 use Rattle.answers.specs.Steps.{Clear, FirstOf}
 use Rattle.answers.specs.Says.{judgedSays, judgedOf}
 use Rattle.answers.specs.declared.Finding.{Finding}
 use Rattle.answers.specs.declared.Judged.{Judged}
 use Rattle.answers.specs.declared.Judged.the-variants as answer
-use Rattle.answers.proofs.Turns.{stops, passes, ends, stops-in, passes-in, refused-by, given-by, applies-clear, applies-small}
+use Rattle.answers.proofs.Turns.{stops-in, passes-in, refused-by, given-by, applies-clear}
 use Rattle.blocks.specs.Blocks.{capacity, blockOf}
 use Rattle.blocks.specs.declared.Layout.{Layout}
 use Rattle.blocks.proofs.Judging.{room}
@@ -23,13 +23,14 @@ use Rattle.numbers.specs.Numbers.{Bytes, num2}
 use Rattle.records.specs.Reads.{secondCount}
 use Rattle.records.proofs.Items.{counts-two}
 use Rattle.runs.specs.Runs.{entriesIn, lengths}
-use Rattle.forms.specs.declared.Form.{Form}
-use Rattle.forms.specs.Forms.{ofSet, startSize, sizeOf, formCounts, formEntries, formRefusals}
-use Rattle.forms.specs.Calls.{outRefusals, storedIn, readCall, judgeCall, oneNumber, firstOf, memberCall}
-use Rattle.forms.specs.Steps.{Shape, lone, pair, FormKind, eachOf, itemSize, secondAt, runsHere, Stored, Stores}
-use Rattle.forms.proofs.Whole.{set-kind, start-long, counted}
+use Rattle.verdicts.specs.declared.Form.{Form}
+use Rattle.verdicts.specs.Forms.{ofSet, startSize, sizeOf, formCounts, formEntries, formRefusals, outRefusals}
+use Rattle.forms.specs.Calls.{storedIn, readCall, judgeCall, oneNumber, firstOf, memberCall}
+use Rattle.forms.specs.Steps.{Stored, Stores}
+use Rattle.verdicts.specs.Steps.{Shape, lone, pair, FormKind, eachOf, itemSize, secondAt, runsHere}
+use Rattle.verdicts.proofs.Whole.{set-kind, start-long, counted}
 use Rattle.forms.proofs.Forms.{accepted-size}
-use Rattle.forms.proofs.Two.{entries-here, size-here}
+use Rattle.verdicts.proofs.Two.{entries-here, size-here}
 
 -- refused with the first refusal
 pub refused-first : (fs : List Finding) (r : Finding) → FirstOf fs r → (r .number ≡ 0 → ⊥) → (lent : List (List ℕ)) (next : Outcome)
@@ -58,50 +59,6 @@ each-roomy : (layout : Layout) (r s i j n m : ℕ) → Shape r s → Clear (outR
     → Roomy layout i n × ((r ≡ 1 → ⊥) → Roomy layout j m)
 each-roomy layout r s i j n m lone c = (roomy layout i n (c .0) (c .1 .0), λ nz. absurd (nz refl))
 each-roomy layout r s i j n m pair c = (roomy layout i n (c .0) (c .1 .1 .0), λ nz. roomy layout j m (c .1 .0) (c .1 .1 .1 .0))
-
--- the first refusal of outputs of i and j words for n and m items, of which the second is there where there are two runs
-module _ (layout : Layout) (r s i j n m : ℕ) (h : Shape r s) where
-  abbrev full : ℕ → ℕ → ℕ
-  full l c = applies (ltb (capacity (layout .width) (layout .limit) l) c) 5
-
-  abbrev refusals : List Finding
-  refusals = outRefusals layout (take r (i ∷ j ∷ [])) (take r (n ∷ m ∷ []))
-
-  full-small : (l c : ℕ) → full l c ≤ lastNumber
-  full-small l c = applies-small (ltb (capacity (layout .width) (layout .limit) l) c) 5 (lit≤ tt)
-
-  empty : (l : ℕ) → l ≡ 0 → 1 ≡ applies (eqb l 0) 1
-  empty l e = rw (eq-eqb l 0 e)
-
-  pub no-first : i ≡ 0 → FirstOf refusals (at 0 1)
-  no-first e = go r s h
-    where
-      go : (r s : ℕ) → Shape r s → FirstOf (outRefusals layout (take r (i ∷ j ∷ [])) (take r (n ∷ m ∷ []))) (at 0 1)
-      go r s lone = stops 1 (applies (eqb i 0) 1) 0 _ (empty i e) (applies-small (eqb i 0) 1 (lit≤ tt)) (λ z. omega arith)
-      go r s pair = stops 1 (applies (eqb i 0) 1) 0 _ (empty i e) (applies-small (eqb i 0) 1 (lit≤ tt)) (λ z. omega arith)
-
-  module _ (some : i ≡ 0 → ⊥) where
-    words : applies (eqb i 0) 1 ≡ 0
-    words = rw (ne-eqb i 0 some)
-
-    pub first-only : r ≡ 1 → (v : ℕ) → v ≡ full i n → FirstOf refusals (at 0 v)
-    first-only e v q = rw e (passes (applies (eqb i 0) 1) 0 (at 0 (full i n) ∷ []) (at 0 v) words (ends v (full i n) 0 q (full-small i n)))
-
-    module _ (e : r ≡ 2) where
-      pub no-second : j ≡ 0 → FirstOf refusals (at 1 1)
-      no-second z =
-          rw e (passes (applies (eqb i 0) 1) 0 _ (at 1 1) words (stops 1 (applies (eqb j 0) 1) 1 _ (empty j z) (applies-small (eqb j 0) 1 (lit≤ tt)) (λ z. omega arith)))
-
-      module _ (some-too : j ≡ 0 → ⊥) (v : ℕ) (q : v ≡ full i n) where
-        behind : (u : Finding) → FirstOf (at 0 (full i n) ∷ at 1 (full j m) ∷ []) u → FirstOf refusals u
-        behind u g =
-            rw e (passes (applies (eqb i 0) 1) 0 _ u words (passes (applies (eqb j 0) 1) 1 (at 0 (full i n) ∷ at 1 (full j m) ∷ []) u (rw (ne-eqb j 0 some-too)) g))
-
-        pub full-first : (v ≡ 0 → ⊥) → FirstOf refusals (at 0 v)
-        full-first nz = behind (at 0 v) (stops v (full i n) 0 (at 1 (full j m) ∷ []) q (full-small i n) nz)
-
-        pub room-second : v ≡ 0 → (w : ℕ) → w ≡ full j m → FirstOf refusals (at 1 w)
-        room-second z w p = behind (at 1 w) (passes (full i n) 0 (at 1 (full j m) ∷ []) (at 1 w) (sym q ∙ z) (ends w (full j m) 1 p (full-small j m)))
 
 module _ (f : Form) (k : FormKind f) (b x y : List ℕ) (v : Finding) (fv : FirstOf (formRefusals f b) v) where
   abbrev outs : List (List ℕ)

@@ -33,14 +33,15 @@ use Rattle.records.proofs.Items.{counts-length}
 use Rattle.runs.specs.Runs.{runOf, total, lengths, runsOf}
 use Rattle.runs.proofs.Turns.{length-record}
 use Rattle.runs.proofs.Running.{length-run, clear-split}
-use Rattle.forms.specs.declared.Form.{Form}
-use Rattle.forms.specs.Forms.{kindsOf, formOf, startSize, sizeOf, sharing, overlap}
+use Rattle.verdicts.specs.declared.Form.{Form}
+use Rattle.verdicts.specs.Forms.{kindsOf, formOf, startSize, sizeOf, sharing, overlap}
 use Rattle.forms.specs.Calls.{heldIn, inputs, noSpace, blockRefusals, writeRefusals, writtenAt, writeCall}
-use Rattle.forms.specs.Steps.{Shape, lone, pair, FormKind, eachOf, itemSize, secondAt, countHeld, Puts}
+use Rattle.verdicts.specs.Steps.{Shape, lone, pair, FormKind, eachOf, itemSize, secondAt}
+use Rattle.forms.specs.Steps.{countHeld, Puts}
 use Rattle.runs.proofs.Several.{shapes}
-use Rattle.forms.proofs.Whole.{as-many, size}
+use Rattle.verdicts.proofs.Whole.{as-many, size}
 use Rattle.forms.proofs.Forms.{held-fine, many-held, space-clear}
-use Rattle.forms.proofs.Two.{not-one}
+use Rattle.verdicts.proofs.Two.{not-one}
 use Rattle.forms.proofs.Reading.{refused-first}
 
 -- the size of a form fits

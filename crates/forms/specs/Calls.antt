@@ -2,35 +2,21 @@
 use Prim.Native.Nat.{ℕ, suc, _+_, _-_}
 use mathlib.Core.Bool.{Bool, true}
 use mathlib.Core.List.{List, [], _∷_, _++_}
-use lib.Dec.{ltb, eqb}
+use lib.Dec.{ltb}
 use lib.ListN.{length, getD}
 use Rattle.entries.specs.Entries.{Entry}
 use Rattle.entries.specs.Build.{pick}
 use Rattle.entries.specs.Sets.{member}
 use Rattle.answers.specs.Answers.{Answer, given, refused, Outcome, outcome, truth, at, inTurn, applies}
 use Rattle.answers.specs.declared.Finding.{Finding}
-use Rattle.blocks.specs.Blocks.{capacity, entriesOf, blockOf, verdict}
+use Rattle.blocks.specs.Blocks.{entriesOf, blockOf, verdict}
 use Rattle.blocks.specs.declared.Layout.{Layout}
 use Rattle.numbers.specs.Numbers.{patch}
-use Rattle.forms.specs.declared.Form.{Form}
+use Rattle.verdicts.specs.declared.Form.{Form}
 use Rattle.forms.specs.declared.FormRead.{FormRead}
 use Rattle.forms.specs.declared.FormRead.the-variants as read
 use Rattle.runs.specs.Runs.{lengths}
-use Rattle.forms.specs.Forms.{ofSet, ofMap, ofBulletin, formOf, formCounts, formEntries, overlap, formRefusals}
-
--- «then 1 for each output block, then 5 for each»: the lengths of the blocks from a position on, and the counts of what they are to hold
-abbrev pub noBlocks : ℕ → List ℕ → List Finding
-noBlocks position [] = []
-noBlocks position (l ∷ ls) = at position (applies (eqb l 0) 1) ∷ noBlocks (suc position) ls
-
-abbrev pub noRooms : Layout → ℕ → List ℕ → List ℕ → List Finding
-noRooms layout position [] counts = []
-noRooms layout position (l ∷ ls) [] = []
-noRooms layout position (l ∷ ls) (n ∷ counts) =
-    at position (applies (ltb (capacity (layout .width) (layout .limit) l) n) 5) ∷ noRooms layout (suc position) ls counts
-
-abbrev pub outRefusals : Layout → List ℕ → List ℕ → List Finding
-outRefusals layout ls counts = noBlocks 0 ls ++ noRooms layout 0 ls counts
+use Rattle.verdicts.specs.Forms.{ofSet, ofMap, ofBulletin, formOf, formCounts, formEntries, overlap, formRefusals, outRefusals}
 
 -- each output as it is when it holds its run
 abbrev pub storedIn : List (List ℕ) → List (List Entry) → List (List ℕ)

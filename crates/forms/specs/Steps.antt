@@ -1,53 +1,14 @@
 -- What the steps of the code promise each other. No public promise names these.
 use Prim.Native.Nat.{ℕ, _+_, _*_, _<_, _≤_}
 use mathlib.Core.Path.{_≡_}
-use mathlib.Core.Option.{none}
-use mathlib.Core.List.{List, [], _∷_, _++_}
+use mathlib.Core.List.{List}
 use lib.Dec.{ltb}
-use lib.ListN.{length, getD, take, drop}
-use Rattle.entries.specs.Entries.{Entry}
+use lib.ListN.{length, getD, drop}
 use Rattle.entries.specs.Build.{pick}
-use Rattle.answers.specs.declared.Finding.{Finding}
-use Rattle.records.specs.Steps.{StartKind, ItemKind}
-use Rattle.forms.specs.declared.Form.{Form}
-use Rattle.runs.specs.Runs.{entriesIn, runRefusals}
 use Rattle.runs.specs.Steps.{Fills}
-use Rattle.forms.specs.Forms.{startSize, trailing, overlap}
-
--- how many runs a form has, and the words an item: one run, or two of ranges
-pub data Shape : ℕ → ℕ → Type 0 where
-  lone : {s : ℕ} → Shape 1 s
-  pair : Shape 2 2
-
--- the kinds of a form, and its layout
-pub record FormKind (f : Form) : Type 0 where
-  pub start : StartKind (f .start) (f .runs)
-  pub first : ItemKind (f .first) (f .layout .width)
-  pub second : ItemKind (f .second) (f .layout .width)
-  pub shape : Shape (f .runs) (f .layout .width)
-  pub small : f .layout .limit < 65536
-
--- what stands or is lent for the first and the second run, the second not where there is one run
-abbrev pub eachOf : {A : Type 0} → Form → A → A → List A
-eachOf f x y = take (f .runs) (x ∷ y ∷ [])
-
--- the length of an item record, and the place where the second run begins behind n items
-abbrev pub itemSize : Form → ℕ
-itemSize f = 8 * f .layout .width + 5
-
-abbrev pub secondAt : Form → ℕ → ℕ
-secondAt f n = startSize f + itemSize f * n
-
--- the entries of the runs, where n and m are the counts
-abbrev pub runsHere : Form → ℕ → ℕ → List ℕ → List (List Entry)
-runsHere f n m b = eachOf f (entriesIn (f .first) (f .layout .width) n (drop (startSize f) b)) (entriesIn (f .second) (f .layout .width) m (drop (secondAt f n) b))
-
--- the refusals behind the start
-abbrev pub behindStart : Form → ℕ → ℕ → List ℕ → List Finding
-behindStart f n m b =
-    runRefusals (f .mark) (f .first) (f .layout .width) n (startSize f) none (drop (startSize f) b)
-    ++ (runRefusals (f .mark) (f .second) (f .layout .width) m (secondAt f n) none (drop (secondAt f n) b)
-    ++ (trailing (secondAt f n + itemSize f * m) b ∷ overlap (runsHere f n m b) ∷ []))
+use Rattle.verdicts.specs.declared.Form.{Form}
+use Rattle.verdicts.specs.Forms.{startSize}
+use Rattle.verdicts.specs.Steps.{Shape, FormKind, itemSize, secondAt}
 
 -- a run of n records from place p on, and a block with room for its items
 pub record Stored (s n p : ℕ) (b out : List ℕ) : Type 0 where

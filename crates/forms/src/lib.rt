@@ -2,172 +2,27 @@
 ghost use mathlib.Core.Path.{_≡_};
 ghost use mathlib.Core.List.{[], _∷_, _++_};
 ghost use Prim.Native.Nat.{_+_, _*_, _≤_, _<_};
-ghost use lib.Dec.{ltb};
 ghost use lib.ListN.{length, drop};
-ghost use Rattle.answers.specs.Answers.{outcome, applies};
+ghost use Rattle.answers.specs.Answers.{outcome};
 ghost use Rattle.answers.specs.Says.{judgedSays, writtenSays};
 ghost use Rattle.answers.specs.Steps.{FirstOf};
-ghost use Rattle.blocks.specs.Blocks.{capacity, itemsOf};
+ghost use Rattle.blocks.specs.Blocks.{itemsOf};
 ghost use Rattle.numbers.specs.Numbers.{over};
-ghost use Rattle.runs.specs.Runs.{entriesIn};
-ghost use Rattle.forms.specs.Forms.{startSize, formOf, formRefusals};
-ghost use Rattle.forms.specs.Calls.{outRefusals, storedIn, readCall, readSetCall, readMapCall, readBulletinCall};
+ghost use Rattle.verdicts.specs.Forms.{formOf};
+ghost use Rattle.forms.specs.Calls.{storedIn, readCall, readSetCall, readMapCall, readBulletinCall};
 ghost use Rattle.forms.specs.Calls.{blockRefusals, noSpace, writeCall, writeSetCall, writeMapCall, writeBulletinCall};
 ghost use Rattle.forms.specs.Calls.{judgeSetCall, formSays, memberCall};
-ghost use Rattle.forms.specs.Steps.{FormKind, eachOf, behindStart, runsHere, Stores, Puts, countHeld};
+ghost use Rattle.verdicts.specs.Steps.{FormKind, eachOf, runsHere};
+ghost use Rattle.forms.specs.Steps.{Stores, Puts, countHeld};
 use answers::Finding;
 use answers::Judged;
 use answers::Written;
-use blocks::Layout;
-use records::StartRead;
-
-// A form: the mark of its records, the kind of its start, the kind of the items of its first run and of its second, how many runs it
-// has, one or two, and the layout of the block that holds a run.
-pub struct Form {
-    pub mark: u16,
-    pub start: u8,
-    pub first: u8,
-    pub second: u8,
-    pub runs: usize,
-    pub layout: Layout,
-}
-
-// The mark of every record.
-pub const MARK: u16 = 0xC53A;
-
-// A set, a map: one run. A bulletin: its released ranges, then its withdrawn ranges.
-pub const SET_FORM: Form = Form {
-    mark: MARK,
-    start: 0x01,
-    first: 0x10,
-    second: 0x10,
-    runs: 1,
-    layout: blocks::SET,
-};
-
-pub const MAP_FORM: Form = Form {
-    mark: MARK,
-    start: 0x02,
-    first: 0x11,
-    second: 0x11,
-    runs: 1,
-    layout: blocks::MAP,
-};
-
-pub const BULLETIN_FORM: Form = Form {
-    mark: MARK,
-    start: 0x03,
-    first: 0x12,
-    second: 0x13,
-    runs: 2,
-    layout: blocks::SET,
-};
+use verdicts::Form;
 
 // What judging the form of a set answers: its count, or a refusal with its place.
 pub enum FormRead {
     Good(usize),
     Refused(u8, usize),
-}
-
-// The first refusal behind the start of a form with these counts, or number 0.
-fn judge_runs(bytes: &[u8], form: Form, n: usize, m: usize) -> Finding
-    requires { ⌜ FormKind form × (startSize form ≤ length (now bytes)) ⌝ }
-    ensures { λ r. ⌜ FirstOf (behindStart form n m (now (bytes .entry))) r ⌝ }
-{
-    let s = form.layout.width;
-    let from = 2 * form.runs + 5;
-    let x = runs::judge_run(bytes, from, form.mark, form.first, s, n);
-    if x.number != 0 {
-        return x;
-    }
-    let y = runs::judge_run(bytes, x.place, form.mark, form.second, s, m);
-    if y.number != 0 {
-        return y;
-    }
-    if y.place < bytes.len() {
-        return Finding {
-            number: 13,
-            place: y.place,
-        };
-    }
-    if form.runs == 1 {
-        return Finding {
-            number: 0,
-            place: 0,
-        };
-    }
-    if runs::share_records(bytes, form.first, from, n, form.second, x.place, m) {
-        return Finding {
-            number: 14,
-            place: 0,
-        };
-    }
-    Finding {
-        number: 0,
-        place: 0,
-    }
-}
-
-// The first refusal of the bytes as a whole form, or number 0.
-fn judge_form(bytes: &[u8], form: Form) -> Finding
-    requires { ⌜ FormKind form ⌝ }
-    ensures { λ r. ⌜ FirstOf (formRefusals form (now (bytes .entry))) r ⌝ }
-{
-    let a = records::read_start(bytes, form.mark, form.start, form.runs, form.layout.limit);
-    let StartRead::Good(n, m) = a else {
-        return Finding {
-            number: records::start_number(a),
-            place: 0,
-        };
-    };
-    judge_runs(bytes, form, n, m)
-}
-
-// 5 where a block of len words has no room for n items, else 0.
-fn room_number(layout: Layout, len: usize, n: usize) -> u8
-    requires { ⌜ (2 ≤ layout .width) × (0 < len) ⌝ }
-    ensures { λ r. ⌜ r ≡ applies (ltb (capacity (layout .width) (layout .limit) len) n) 5 ⌝ }
-{
-    if blocks::room_for(layout.width, layout.limit, len) < n {
-        return 5;
-    }
-    0
-}
-
-// The first refusal of outputs of these lengths for n and m items, or number 0: 1 for each, then 5 for each.
-fn out_refusal(form: Form, first: usize, n: usize, second: usize, m: usize) -> Finding
-    requires { ⌜ FormKind form ⌝ }
-    ensures { λ r. ⌜ FirstOf (outRefusals (form .layout) (eachOf form first second) (eachOf form n m)) r ⌝ }
-{
-    if first == 0 {
-        return Finding {
-            number: 1,
-            place: 0,
-        };
-    }
-    if form.runs == 1 {
-        return Finding {
-            number: room_number(form.layout, first, n),
-            place: 0,
-        };
-    }
-    if second == 0 {
-        return Finding {
-            number: 1,
-            place: 1,
-        };
-    }
-    let v = room_number(form.layout, first, n);
-    if v != 0 {
-        return Finding {
-            number: v,
-            place: 0,
-        };
-    }
-    Finding {
-        number: room_number(form.layout, second, m),
-        place: 1,
-    }
 }
 
 // Makes the outputs the blocks of the n and m items of a form that was judged good.
@@ -190,13 +45,13 @@ fn read_form(bytes: &[u8], first: &mut [u64], second: &mut [u64], form: Form) ->
     requires { ⌜ FormKind form ⌝ }
     ensures { λ r. ⌜ outcome (judgedSays r) (eachOf form (now (first .exit)) (now (second .exit))) ≡ readCall form (now (bytes .entry)) (eachOf form (now (first .entry)) (now (second .entry))) ⌝ }
 {
-    let v = judge_form(bytes, form);
+    let v = verdicts::judge_form(bytes, form);
     if v.number != 0 {
         return answers::judged_of(v.number, v.place);
     }
     let n = blocks::wide(numbers::get2(bytes, 3));
     let m = blocks::wide(records::second_count(bytes, form.runs));
-    let u = out_refusal(form, first.len(), n, second.len(), m);
+    let u = verdicts::out_refusal(form, first.len(), n, second.len(), m);
     if u.number != 0 {
         return answers::judged_of(u.number, u.place);
     }
@@ -209,7 +64,7 @@ pub fn read_set(bytes: &[u8], out: &mut [u64]) -> Judged
     ensures { λ r. ⌜ outcome (judgedSays r) (now (out .exit) ∷ []) ≡ readSetCall (now (bytes .entry)) (now (out .entry)) ⌝ }
 {
     let mut none = [0u64; 1];
-    read_form(bytes, out, &mut none, SET_FORM)
+    read_form(bytes, out, &mut none, verdicts::SET_FORM)
 }
 
 // Reads the byte form of a map into a block. A refused call changes nothing.
@@ -217,14 +72,14 @@ pub fn read_map(bytes: &[u8], out: &mut [u64]) -> Judged
     ensures { λ r. ⌜ outcome (judgedSays r) (now (out .exit) ∷ []) ≡ readMapCall (now (bytes .entry)) (now (out .entry)) ⌝ }
 {
     let mut none = [0u64; 1];
-    read_form(bytes, out, &mut none, MAP_FORM)
+    read_form(bytes, out, &mut none, verdicts::MAP_FORM)
 }
 
 // Reads the byte form of a bulletin into a block of released ranges and one of withdrawn ranges. A refused call changes neither.
 pub fn read_bulletin(bytes: &[u8], released: &mut [u64], withdrawn: &mut [u64]) -> Judged
     ensures { λ r. ⌜ outcome (judgedSays r) (now (released .exit) ∷ now (withdrawn .exit) ∷ []) ≡ readBulletinCall (now (bytes .entry)) (now (released .entry)) (now (withdrawn .entry)) ⌝ }
 {
-    read_form(bytes, released, withdrawn, BULLETIN_FORM)
+    read_form(bytes, released, withdrawn, verdicts::BULLETIN_FORM)
 }
 
 // The first refusal of the blocks that a form is written from, or number 0: 1, 2, 3 of each, then 14.
@@ -331,28 +186,28 @@ fn write_form(first: &[u64], second: &[u64], bytes: &mut [u8], p: usize, form: F
 pub fn write_set(block: &[u64], bytes: &mut [u8], p: usize) -> Written
     ensures { λ r. ⌜ outcome (writtenSays r) (now (bytes .exit) ∷ []) ≡ writeSetCall (now (block .entry)) (now (bytes .entry)) p ⌝ }
 {
-    write_form(block, block, bytes, p, SET_FORM)
+    write_form(block, block, bytes, p, verdicts::SET_FORM)
 }
 
 // Writes the byte form of a map into the bytes from place p on, and answers its length. A refused call changes nothing.
 pub fn write_map(block: &[u64], bytes: &mut [u8], p: usize) -> Written
     ensures { λ r. ⌜ outcome (writtenSays r) (now (bytes .exit) ∷ []) ≡ writeMapCall (now (block .entry)) (now (bytes .entry)) p ⌝ }
 {
-    write_form(block, block, bytes, p, MAP_FORM)
+    write_form(block, block, bytes, p, verdicts::MAP_FORM)
 }
 
 // Writes the byte form of a bulletin into the bytes from place p on, and answers its length. A refused call changes nothing.
 pub fn write_bulletin(released: &[u64], withdrawn: &[u64], bytes: &mut [u8], p: usize) -> Written
     ensures { λ r. ⌜ outcome (writtenSays r) (now (bytes .exit) ∷ []) ≡ writeBulletinCall (now (released .entry)) (now (withdrawn .entry)) (now (bytes .entry)) p ⌝ }
 {
-    write_form(released, withdrawn, bytes, p, BULLETIN_FORM)
+    write_form(released, withdrawn, bytes, p, verdicts::BULLETIN_FORM)
 }
 
 // Judges the bytes as the form of a set and stores nothing; answers the number of its ranges.
 pub fn judge_set(bytes: &[u8]) -> FormRead
     ensures { λ r. ⌜ outcome (formSays r) [] ≡ judgeSetCall (now (bytes .entry)) ⌝ }
 {
-    let v = judge_form(bytes, SET_FORM);
+    let v = verdicts::judge_form(bytes, verdicts::SET_FORM);
     if v.number != 0 {
         return FormRead::Refused(v.number, v.place);
     }
@@ -364,12 +219,12 @@ pub fn judge_set(bytes: &[u8]) -> FormRead
 pub fn member(bytes: &[u8], x: u64) -> u64
     ensures { λ r. ⌜ r ≡ memberCall (now (bytes .entry)) x ⌝ }
 {
-    let v = judge_form(bytes, SET_FORM);
+    let v = verdicts::judge_form(bytes, verdicts::SET_FORM);
     if v.number != 0 {
         return 16 + v.number as u64;
     }
     let n = blocks::wide(numbers::get2(bytes, 3));
-    if runs::holds(bytes, 0x10, 7, n, x) {
+    if verdicts::holds(bytes, 0x10, 7, n, x) {
         return 1;
     }
     0

@@ -2,4 +2,3 @@ pub mod Turns
 pub mod Running
 pub mod Several
 pub mod Storing
-pub mod Walking

@@ -21,10 +21,3 @@ pub record Fills (s n : ℕ) (b out : List ℕ) : Type 0 where
   pub four : s ≤ 4
   pub held : (8 * s + 5) * n ≤ length b
   pub room : s * n ≤ length out
-
--- n range records at p and m at q, all sound
-pub record TwoRuns (first p n second q m : ℕ) (b : List ℕ) : Type 0 where
-  pub held : p + 21 * n ≤ length b
-  pub held-too : q + 21 * m ≤ length b
-  pub sound : Sound (entriesIn first 2 n (drop p b))
-  pub sound-too : Sound (entriesIn second 2 m (drop q b))

@@ -1,17 +1,13 @@
-// Runs of item records of one kind, at any place of the bytes: judged, stored into a block, written, and asked about.
+// Runs of item records of one kind, at any place of the bytes: judged, stored into a block, written.
 ghost use mathlib.Core.Path.{_≡_};
 ghost use mathlib.Core.List.{[], _∷_};
 ghost use Prim.Native.Nat.{_+_, _*_, _≤_};
-ghost use lib.Dec.{leb};
 ghost use lib.ListN.{length, drop};
-ghost use Rattle.entries.specs.Build.{andb};
-ghost use Rattle.entries.specs.Sets.{member};
-ghost use Rattle.entries.specs.Bulletins.{shareb};
 ghost use Rattle.blocks.specs.Blocks.{itemsOf, wordsOf, blockOf};
 ghost use Rattle.numbers.specs.Numbers.{over};
 ghost use Rattle.records.specs.Steps.{ItemKind};
 ghost use Rattle.runs.specs.Runs.{runOf, entriesIn};
-ghost use Rattle.runs.specs.Steps.{RunJudged, Fills, TwoRuns};
+ghost use Rattle.runs.specs.Steps.{RunJudged, Fills};
 use answers::Finding;
 use records::Item;
 use records::ItemRead;
@@ -97,67 +93,4 @@ pub fn store(bytes: &[u8], from: usize, kind: u8, s: usize, n: usize, out: &mut 
     put_count(out, blocks::narrow(n));
     fill_run(&bytes[from..], kind, s, n, &mut out[1..]);
     blocks::clear(out, 1 + s * n);
-}
-
-// Whether the n ranges whose records begin at place p share a number with the m whose records begin at place q.
-pub fn share_records(
-    bytes: &[u8],
-    first: u8,
-    p: usize,
-    n: usize,
-    second: u8,
-    q: usize,
-    m: usize,
-) -> bool
-    requires { ⌜ TwoRuns first p n second q m (now bytes) ⌝ }
-    ensures { λ r. ⌜ r ≡ shareb (entriesIn first 2 n (drop p (now (bytes .entry)))) (entriesIn second 2 m (drop q (now (bytes .entry)))) ⌝ }
-{
-    let mut i = p;
-    let mut left = n;
-    let mut j = q;
-    let mut others = m;
-    while 0 < left {
-        if others == 0 {
-            return false;
-        }
-        if numbers::get8(bytes, i + 11) < numbers::get8(bytes, j + 3) {
-            i += 21;
-            left -= 1;
-            continue;
-        }
-        if numbers::get8(bytes, j + 11) < numbers::get8(bytes, i + 3) {
-            j += 21;
-            others -= 1;
-            continue;
-        }
-        return true;
-    }
-    false
-}
-
-// Whether x is in low..high.
-fn between(low: u64, x: u64, high: u64) -> bool
-    ensures { λ r. ⌜ r ≡ andb (leb low x) (leb x high) ⌝ }
-{
-    if low <= x {
-        return x <= high;
-    }
-    false
-}
-
-// Whether x is in one of the n ranges whose records begin at place `from`.
-pub fn holds(bytes: &[u8], kind: u8, from: usize, n: usize, x: u64) -> bool
-    requires { ⌜ from + 21 * n ≤ length (now bytes) ⌝ }
-    ensures { λ r. ⌜ r ≡ member (entriesIn kind 2 n (drop from (now (bytes .entry)))) x ⌝ }
-{
-    let mut p = from;
-    let mut left = n;
-    while 0 < left {
-        if between(numbers::get8(bytes, p + 3), x, numbers::get8(bytes, p + 11)) {
-            return true;
-        }
-        p += 21;
-        left -= 1;
-    }
-    false
 }

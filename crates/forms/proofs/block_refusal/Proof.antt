@@ -5,16 +5,12 @@ use lib.Dec.{lit≤}
 use Rattle.sweeps.proofs.Tables.{input}
 use Rattle.blocks.specs.Blocks.{SoundBlock}
 use Rattle.blocks.proofs.Judging.{verdict-sound}
-use Rattle.forms.proofs.Two.{not-one}
+use Rattle.verdicts.proofs.Two.{not-one}
 use Rattle.forms.proofs.Writing.{first-unsound, one-sound, second-unsound, both-sound}
 use native.Mathlib.Omega.{arith}
 use borrow.Author.Needs.{needs}
 use Rattle.forms.proofs.block_refusal.Statement.{statement}
 use Rattle.forms.proofs.block_refusal.Tie as tie
-use Rattle.forms.proofs.block_refusal.Reads as reads
-use Rattle.forms.proofs.block_refusal.Lts as lts
-use Rattle.blocks.proofs.judge.Reads as judge-reads
-use Rattle.operations.proofs.share_number.Reads as share-number-reads
 
 judge-requires : tie.Need-judge-requires
 judge-requires c κs = c .before .before .pre .first .two

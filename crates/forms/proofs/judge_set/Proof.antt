@@ -1,16 +1,11 @@
 use mathlib.Core.Path.{_∙_}
-use Rattle.forms.proofs.Whole.{set-kind, start-long}
+use Rattle.verdicts.proofs.Whole.{set-kind, start-long}
 use Rattle.forms.proofs.Reading.{judge-refused, judge-good}
-use Rattle.forms.specs.Forms.{ofSet}
+use Rattle.verdicts.specs.Forms.{ofSet}
 use native.Mathlib.Omega.{arith}
 use borrow.Author.Needs.{needs}
 use Rattle.forms.proofs.judge_set.Statement.{statement}
 use Rattle.forms.proofs.judge_set.Tie as tie
-use Rattle.forms.proofs.judge_set.Reads as reads
-use Rattle.forms.proofs.judge_set.Lts as lts
-use Rattle.blocks.proofs.wide.Reads as wide-reads
-use Rattle.forms.proofs.judge_form.Reads as judge-form-reads
-use Rattle.numbers.proofs.get2.Reads as get2-reads
 
 judge-form-requires : tie.Need-judge-form-requires
 judge-form-requires c κs = set-kind

@@ -1,18 +1,12 @@
 use mathlib.Core.Path.{sym, _∙_}
 use mathlib.Core.Bool.{true, false}
-use Rattle.forms.proofs.Whole.{set-kind, start-long}
+use Rattle.verdicts.proofs.Whole.{set-kind, start-long}
 use Rattle.forms.proofs.Reading.{member-refused, member-held, member-told}
-use Rattle.forms.specs.Forms.{ofSet}
+use Rattle.verdicts.specs.Forms.{ofSet}
 use native.Mathlib.Omega.{arith}
 use borrow.Author.Needs.{needs}
 use Rattle.forms.proofs.member.Statement.{statement}
 use Rattle.forms.proofs.member.Tie as tie
-use Rattle.forms.proofs.member.Reads as reads
-use Rattle.forms.proofs.member.Lts as lts
-use Rattle.blocks.proofs.wide.Reads as wide-reads
-use Rattle.forms.proofs.judge_form.Reads as judge-form-reads
-use Rattle.numbers.proofs.get2.Reads as get2-reads
-use Rattle.runs.proofs.holds.Reads as holds-reads
 
 judge-form-requires : tie.Need-judge-form-requires
 judge-form-requires c κs = set-kind

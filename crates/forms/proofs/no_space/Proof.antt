@@ -3,8 +3,6 @@ use borrow.Author.Needs.{needs}
 use native.Mathlib.Omega.{arith}
 use Rattle.forms.proofs.no_space.Statement.{statement}
 use Rattle.forms.proofs.no_space.Tie as tie
-use Rattle.forms.proofs.no_space.Reads as reads
-use Rattle.forms.proofs.no_space.Lts as lts
 
 returns : tie.Need-returns
 returns c = rw (lt-ltb _ _ (c .if1 .taken))

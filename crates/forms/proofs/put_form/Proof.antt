@@ -4,11 +4,6 @@ use native.Mathlib.Omega.{arith}
 use borrow.Author.Needs.{needs}
 use Rattle.forms.proofs.put_form.Statement.{statement}
 use Rattle.forms.proofs.put_form.Tie as tie
-use Rattle.forms.proofs.put_form.Reads as reads
-use Rattle.forms.proofs.put_form.Lts as lts
-use Rattle.blocks.proofs.narrow.Reads as narrow-reads
-use Rattle.records.proofs.write_start.Reads as write-start-reads
-use Rattle.runs.proofs.write_run.Reads as write-run-reads
 
 mul-from : tie.Need-mul-from
 mul-from c = search needs

@@ -1,11 +1,8 @@
-use Rattle.forms.proofs.Whole.{bulletin-kind}
+use Rattle.verdicts.proofs.Whole.{bulletin-kind}
 use native.Mathlib.Omega.{arith}
 use borrow.Author.Needs.{needs}
 use Rattle.forms.proofs.read_bulletin.Statement.{statement}
 use Rattle.forms.proofs.read_bulletin.Tie as tie
-use Rattle.forms.proofs.read_bulletin.Reads as reads
-use Rattle.forms.proofs.read_bulletin.Lts as lts
-use Rattle.forms.proofs.read_form.Reads as read-form-reads
 
 read-form-requires : tie.Need-read-form-requires
 read-form-requires c κs = bulletin-kind

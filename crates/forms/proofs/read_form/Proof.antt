@@ -4,15 +4,6 @@ use native.Mathlib.Omega.{arith}
 use borrow.Author.Needs.{needs}
 use Rattle.forms.proofs.read_form.Statement.{statement}
 use Rattle.forms.proofs.read_form.Tie as tie
-use Rattle.forms.proofs.read_form.Reads as reads
-use Rattle.forms.proofs.read_form.Lts as lts
-use Rattle.answers.proofs.judged_of.Reads as judged-of-reads
-use Rattle.blocks.proofs.wide.Reads as wide-reads
-use Rattle.forms.proofs.judge_form.Reads as judge-form-reads
-use Rattle.forms.proofs.out_refusal.Reads as out-refusal-reads
-use Rattle.forms.proofs.store_runs.Reads as store-runs-reads
-use Rattle.numbers.proofs.get2.Reads as get2-reads
-use Rattle.records.proofs.second_count.Reads as second-count-reads
 
 judge-form-requires : tie.Need-judge-form-requires
 judge-form-requires c κs = search needs

@@ -1,11 +1,8 @@
-use Rattle.forms.proofs.Whole.{map-kind}
+use Rattle.verdicts.proofs.Whole.{map-kind}
 use native.Mathlib.Omega.{arith}
 use borrow.Author.Needs.{needs}
 use Rattle.forms.proofs.read_map.Statement.{statement}
 use Rattle.forms.proofs.read_map.Tie as tie
-use Rattle.forms.proofs.read_map.Reads as reads
-use Rattle.forms.proofs.read_map.Lts as lts
-use Rattle.forms.proofs.read_form.Reads as read-form-reads
 
 slice-aggregate-read-form : tie.Need-slice-aggregate-read-form
 slice-aggregate-read-form c = search needs

@@ -1,11 +1,8 @@
-use Rattle.forms.proofs.Whole.{set-kind}
+use Rattle.verdicts.proofs.Whole.{set-kind}
 use native.Mathlib.Omega.{arith}
 use borrow.Author.Needs.{needs}
 use Rattle.forms.proofs.read_set.Statement.{statement}
 use Rattle.forms.proofs.read_set.Tie as tie
-use Rattle.forms.proofs.read_set.Reads as reads
-use Rattle.forms.proofs.read_set.Lts as lts
-use Rattle.forms.proofs.read_form.Reads as read-form-reads
 
 slice-aggregate-read-form : tie.Need-slice-aggregate-read-form
 slice-aggregate-read-form c = search needs

@@ -4,10 +4,6 @@ use native.Mathlib.Omega.{arith}
 use borrow.Author.Needs.{needs}
 use Rattle.forms.proofs.second_held.Statement.{statement}
 use Rattle.forms.proofs.second_held.Tie as tie
-use Rattle.forms.proofs.second_held.Reads as reads
-use Rattle.forms.proofs.second_held.Lts as lts
-use Rattle.blocks.proofs.wide.Reads as wide-reads
-use Rattle.blocks.proofs.word.Reads as word-reads
 
 word-requires : tie.Need-word-requires
 word-requires c κs = search needs

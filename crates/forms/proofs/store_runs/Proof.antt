@@ -1,12 +1,9 @@
 use Rattle.forms.proofs.Reading.{one-stored, two-stored}
-use Rattle.forms.proofs.Two.{not-one}
+use Rattle.verdicts.proofs.Two.{not-one}
 use native.Mathlib.Omega.{arith}
 use borrow.Author.Needs.{needs}
 use Rattle.forms.proofs.store_runs.Statement.{statement}
 use Rattle.forms.proofs.store_runs.Tie as tie
-use Rattle.forms.proofs.store_runs.Reads as reads
-use Rattle.forms.proofs.store_runs.Lts as lts
-use Rattle.runs.proofs.store.Reads as store-reads
 
 mul-from : tie.Need-mul-from
 mul-from c = search needs

@@ -1,11 +1,8 @@
-use Rattle.forms.proofs.Whole.{bulletin-kind}
+use Rattle.verdicts.proofs.Whole.{bulletin-kind}
 use native.Mathlib.Omega.{arith}
 use borrow.Author.Needs.{needs}
 use Rattle.forms.proofs.write_bulletin.Statement.{statement}
 use Rattle.forms.proofs.write_bulletin.Tie as tie
-use Rattle.forms.proofs.write_bulletin.Reads as reads
-use Rattle.forms.proofs.write_bulletin.Lts as lts
-use Rattle.forms.proofs.write_form.Reads as write-form-reads
 
 write-form-requires : tie.Need-write-form-requires
 write-form-requires c κs = bulletin-kind

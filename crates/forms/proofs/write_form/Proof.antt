@@ -4,15 +4,6 @@ use native.Mathlib.Omega.{arith}
 use borrow.Author.Needs.{needs}
 use Rattle.forms.proofs.write_form.Statement.{statement}
 use Rattle.forms.proofs.write_form.Tie as tie
-use Rattle.forms.proofs.write_form.Reads as reads
-use Rattle.forms.proofs.write_form.Lts as lts
-use Rattle.answers.proofs.refusal_of.Reads as refusal-of-reads
-use Rattle.blocks.proofs.wide.Reads as wide-reads
-use Rattle.blocks.proofs.word.Reads as word-reads
-use Rattle.forms.proofs.block_refusal.Reads as block-refusal-reads
-use Rattle.forms.proofs.no_space.Reads as no-space-reads
-use Rattle.forms.proofs.put_form.Reads as put-form-reads
-use Rattle.forms.proofs.second_held.Reads as second-held-reads
 
 block-refusal-requires : tie.Need-block-refusal-requires
 block-refusal-requires c κs = search needs

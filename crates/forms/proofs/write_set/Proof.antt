@@ -1,11 +1,8 @@
-use Rattle.forms.proofs.Whole.{set-kind}
+use Rattle.verdicts.proofs.Whole.{set-kind}
 use native.Mathlib.Omega.{arith}
 use borrow.Author.Needs.{needs}
 use Rattle.forms.proofs.write_set.Statement.{statement}
 use Rattle.forms.proofs.write_set.Tie as tie
-use Rattle.forms.proofs.write_set.Reads as reads
-use Rattle.forms.proofs.write_set.Lts as lts
-use Rattle.forms.proofs.write_form.Reads as write-form-reads
 
 write-form-requires : tie.Need-write-form-requires
 write-form-requires c κs = set-kind

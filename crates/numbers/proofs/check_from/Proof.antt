@@ -3,8 +3,6 @@ use Rattle.numbers.specs.Check.{fletcher}
 use borrow.Author.Needs.{needs}
 use Rattle.numbers.proofs.check_from.Statement.{statement}
 use Rattle.numbers.proofs.check_from.Tie as tie
-use Rattle.numbers.proofs.check_from.Reads as reads
-use Rattle.numbers.proofs.check_from.Lts as lts
 
 mul-result : tie.Need-mul-result
 mul-result c = search needs

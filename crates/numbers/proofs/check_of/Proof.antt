@@ -7,10 +7,6 @@ use Rattle.numbers.proofs.Summing.{sums-step, sums-end}
 use borrow.Author.Needs.{needs}
 use Rattle.numbers.proofs.check_of.Statement.{statement}
 use Rattle.numbers.proofs.check_of.Tie as tie
-use Rattle.numbers.proofs.check_of.Reads as reads
-use Rattle.numbers.proofs.check_of.Lts as lts
-use Rattle.numbers.proofs.check_from.Reads as check-from-reads
-use Rattle.numbers.proofs.wide.Reads as wide-reads
 
 abbrev Inv-loop : tie.InvT-loop
 Inv-loop bytes mark a₀ b₀ i₀ a b i = (i ≤ length bytes) × (length bytes ≤ 33) × (a ≤ 255 * i) × (b ≤ 8415 * i) × (checkOf mark bytes ≡ from a b (drop i bytes))

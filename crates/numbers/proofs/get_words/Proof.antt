@@ -10,9 +10,6 @@ use borrow.Author.Needs.{needs}
 use native.Mathlib.Omega.{arith}
 use Rattle.numbers.proofs.get_words.Statement.{statement}
 use Rattle.numbers.proofs.get_words.Tie as tie
-use Rattle.numbers.proofs.get_words.Reads as reads
-use Rattle.numbers.proofs.get_words.Lts as lts
-use Rattle.numbers.proofs.get8.Reads as get8-reads
 
 abbrev Inv-loop : tie.InvT-loop
 Inv-loop bytes s out₀ j₀ q₀ out j q = (j ≤ s) × (q ≡ 8 * j) × (length out ≡ length out₀) × (patch 0 (wordsIn s bytes 0) out₀ ≡ patch j (wordsIn (s - j) bytes q) out)

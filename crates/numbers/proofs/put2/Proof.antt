@@ -3,8 +3,6 @@ use lib.Seq.{sets-eq}
 use borrow.Author.Needs.{needs}
 use Rattle.numbers.proofs.put2.Statement.{statement}
 use Rattle.numbers.proofs.put2.Tie as tie
-use Rattle.numbers.proofs.put2.Reads as reads
-use Rattle.numbers.proofs.put2.Lts as lts
 
 cast-bytes : tie.Need-cast-bytes
 cast-bytes c = search needs

@@ -5,9 +5,6 @@ use Rattle.numbers.proofs.Patch.{mid-over}
 use borrow.Author.Needs.{needs}
 use Rattle.numbers.proofs.put4.Statement.{statement}
 use Rattle.numbers.proofs.put4.Tie as tie
-use Rattle.numbers.proofs.put4.Reads as reads
-use Rattle.numbers.proofs.put4.Lts as lts
-use Rattle.numbers.proofs.put2.Reads as put2-reads
 
 put2-requires : tie.Need-put2-requires
 put2-requires c κs = search needs

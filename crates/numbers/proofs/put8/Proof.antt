@@ -5,9 +5,6 @@ use Rattle.numbers.proofs.Patch.{mid-over}
 use borrow.Author.Needs.{needs}
 use Rattle.numbers.proofs.put8.Statement.{statement}
 use Rattle.numbers.proofs.put8.Tie as tie
-use Rattle.numbers.proofs.put8.Reads as reads
-use Rattle.numbers.proofs.put8.Lts as lts
-use Rattle.numbers.proofs.put4.Reads as put4-reads
 
 put4-requires : tie.Need-put4-requires
 put4-requires c κs = search needs

@@ -3,8 +3,6 @@ use lib.Seq.{sets-eq}
 use borrow.Author.Needs.{needs}
 use Rattle.numbers.proofs.put_byte.Statement.{statement}
 use Rattle.numbers.proofs.put_byte.Tie as tie
-use Rattle.numbers.proofs.put_byte.Reads as reads
-use Rattle.numbers.proofs.put_byte.Lts as lts
 
 slice-write-bytes : tie.Need-slice-write-bytes
 slice-write-bytes c = search needs

@@ -12,11 +12,6 @@ use borrow.Author.Needs.{needs}
 use native.Mathlib.Omega.{arith}
 use Rattle.numbers.proofs.put_words.Statement.{statement}
 use Rattle.numbers.proofs.put_words.Tie as tie
-use Rattle.numbers.proofs.put_words.Reads as reads
-use Rattle.numbers.proofs.put_words.Lts as lts
-use Rattle.numbers.proofs.put8.Reads as put8-reads
-use Rattle.numbers.proofs.sum8.Reads as sum8-reads
-use Rattle.numbers.proofs.sums_from.Reads as sums-from-reads
 
 abbrev Inv-loop : tie.InvT-loop
 Inv-loop bytes₀ words kind mark sums₀ j₀ q₀ bytes sums j q =

@@ -2,8 +2,6 @@ use Rattle.numbers.proofs.Summing.{two-on}
 use borrow.Author.Needs.{needs}
 use Rattle.numbers.proofs.sum2.Statement.{statement}
 use Rattle.numbers.proofs.sum2.Tie as tie
-use Rattle.numbers.proofs.sum2.Reads as reads
-use Rattle.numbers.proofs.sum2.Lts as lts
 
 add-t3 : tie.Need-add-t3
 add-t3 c = search needs

@@ -2,9 +2,6 @@ use Rattle.numbers.proofs.Summing.{eight-on}
 use borrow.Author.Needs.{needs}
 use Rattle.numbers.proofs.sum8.Statement.{statement}
 use Rattle.numbers.proofs.sum8.Tie as tie
-use Rattle.numbers.proofs.sum8.Reads as reads
-use Rattle.numbers.proofs.sum8.Lts as lts
-use Rattle.numbers.proofs.weight.Reads as weight-reads
 
 add-t5 : tie.Need-add-t5
 add-t5 c = search needs

@@ -2,9 +2,6 @@ use Rattle.numbers.proofs.Summing.{begun-on}
 use borrow.Author.Needs.{needs}
 use Rattle.numbers.proofs.sums_from.Statement.{statement}
 use Rattle.numbers.proofs.sums_from.Tie as tie
-use Rattle.numbers.proofs.sums_from.Reads as reads
-use Rattle.numbers.proofs.sums_from.Lts as lts
-use Rattle.numbers.proofs.wide.Reads as wide-reads
 
 wide-requires : tie.Need-wide-requires
 wide-requires c κs = search needs

@@ -3,8 +3,6 @@ use Rattle.numbers.specs.Steps.{weight4}
 use borrow.Author.Needs.{needs}
 use Rattle.numbers.proofs.weight.Statement.{statement}
 use Rattle.numbers.proofs.weight.Tie as tie
-use Rattle.numbers.proofs.weight.Reads as reads
-use Rattle.numbers.proofs.weight.Lts as lts
 
 add-result : tie.Need-add-result
 add-result c = search needs

@@ -5,8 +5,6 @@ use Rattle.records.proofs.Table.{kind-1-2, kind-18-19, kind-none}
 use native.Mathlib.Omega.{arith}
 use Rattle.records.proofs.body_length.Statement.{statement}
 use Rattle.records.proofs.body_length.Tie as tie
-use Rattle.records.proofs.body_length.Reads as reads
-use Rattle.records.proofs.body_length.Lts as lts
 
 returns : tie.Need-returns
 unfolding bodyLength

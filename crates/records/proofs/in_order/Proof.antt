@@ -4,9 +4,6 @@ use native.Mathlib.Omega.{arith}
 use borrow.Author.Needs.{needs}
 use Rattle.records.proofs.in_order.Statement.{statement}
 use Rattle.records.proofs.in_order.Tie as tie
-use Rattle.records.proofs.in_order.Reads as reads
-use Rattle.records.proofs.in_order.Lts as lts
-use Rattle.records.proofs.may_follow.Reads as may-follow-reads
 
 returns : tie.Need-returns
 returns c = rw (lt-leb _ _ (c .if1 .taken))

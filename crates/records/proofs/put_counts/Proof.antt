@@ -4,9 +4,6 @@ use native.Mathlib.Omega.{arith}
 use borrow.Author.Needs.{needs}
 use Rattle.records.proofs.put_counts.Statement.{statement}
 use Rattle.records.proofs.put_counts.Tie as tie
-use Rattle.records.proofs.put_counts.Reads as reads
-use Rattle.records.proofs.put_counts.Lts as lts
-use Rattle.numbers.proofs.put2.Reads as put2-reads
 
 put2-requires : tie.Need-put2-requires
 put2-requires c κs = search needs

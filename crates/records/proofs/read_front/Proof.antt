@@ -8,11 +8,6 @@ use native.Mathlib.Omega.{arith}
 use borrow.Author.Needs.{needs}
 use Rattle.records.proofs.read_front.Statement.{statement}
 use Rattle.records.proofs.read_front.Tie as tie
-use Rattle.records.proofs.read_front.Reads as reads
-use Rattle.records.proofs.read_front.Lts as lts
-use Rattle.records.proofs.body_length.Reads as body-length-reads
-use Rattle.numbers.proofs.get2.Reads as get2-reads
-use Rattle.numbers.proofs.wide2.Reads as wide2-reads
 
 returns : tie.Need-returns
 returns c = record { refused = λ n t. front-short _ _ _ t (omega arith); good = λ z. absurd (omega arith) }

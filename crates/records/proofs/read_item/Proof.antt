@@ -5,14 +5,6 @@ use borrow.Author.Needs.{needs}
 use native.Mathlib.Omega.{arith}
 use Rattle.records.proofs.read_item.Statement.{statement}
 use Rattle.records.proofs.read_item.Tie as tie
-use Rattle.records.proofs.read_item.Reads as reads
-use Rattle.records.proofs.read_item.Lts as lts
-use Rattle.records.proofs.in_order.Reads as in-order-reads
-use Rattle.records.proofs.is_told.Reads as is-told-reads
-use Rattle.records.proofs.item_here.Reads as item-here-reads
-use Rattle.records.proofs.item_sums.Reads as item-sums-reads
-use Rattle.records.proofs.read_front.Reads as read-front-reads
-use Rattle.records.proofs.rest_verdict.Reads as rest-verdict-reads
 
 read-front-requires : tie.Need-read-front-requires
 read-front-requires c κs = search needs

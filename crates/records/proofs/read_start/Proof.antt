@@ -8,16 +8,6 @@ use borrow.Author.Needs.{needs}
 use native.Mathlib.Omega.{arith}
 use Rattle.records.proofs.read_start.Statement.{statement}
 use Rattle.records.proofs.read_start.Tie as tie
-use Rattle.records.proofs.read_start.Reads as reads
-use Rattle.records.proofs.read_start.Lts as lts
-use Rattle.blocks.proofs.wide.Reads as wide-reads
-use Rattle.numbers.proofs.get2.Reads as get2-reads
-use Rattle.records.proofs.is_told.Reads as is-told-reads
-use Rattle.records.proofs.read_front.Reads as read-front-reads
-use Rattle.records.proofs.rest_verdict.Reads as rest-verdict-reads
-use Rattle.records.proofs.second_count.Reads as second-count-reads
-use Rattle.records.proofs.start_sums.Reads as start-sums-reads
-use Rattle.records.proofs.within.Reads as within-reads
 
 read-front-requires : tie.Need-read-front-requires
 read-front-requires c κs = search needs

@@ -4,9 +4,6 @@ use native.Mathlib.Omega.{arith}
 use borrow.Author.Needs.{needs}
 use Rattle.records.proofs.second_count.Statement.{statement}
 use Rattle.records.proofs.second_count.Tie as tie
-use Rattle.records.proofs.second_count.Reads as reads
-use Rattle.records.proofs.second_count.Lts as lts
-use Rattle.numbers.proofs.get2.Reads as get2-reads
 
 get2-requires : tie.Need-get2-requires
 get2-requires c κs = search needs

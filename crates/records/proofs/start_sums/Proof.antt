@@ -4,10 +4,6 @@ use native.Mathlib.Omega.{arith}
 use borrow.Author.Needs.{needs}
 use Rattle.records.proofs.start_sums.Statement.{statement}
 use Rattle.records.proofs.start_sums.Tie as tie
-use Rattle.records.proofs.start_sums.Reads as reads
-use Rattle.records.proofs.start_sums.Lts as lts
-use Rattle.numbers.proofs.sum2.Reads as sum2-reads
-use Rattle.numbers.proofs.sums_from.Reads as sums-from-reads
 
 sums-from-requires : tie.Need-sums-from-requires
 sums-from-requires c κs = search needs

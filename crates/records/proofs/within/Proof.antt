@@ -3,8 +3,6 @@ use borrow.Author.Needs.{needs}
 use native.Mathlib.Omega.{arith}
 use Rattle.records.proofs.within.Statement.{statement}
 use Rattle.records.proofs.within.Tie as tie
-use Rattle.records.proofs.within.Reads as reads
-use Rattle.records.proofs.within.Lts as lts
 
 returns : tie.Need-returns
 returns c = rw (le-leb _ _ (c .if1 .taken))

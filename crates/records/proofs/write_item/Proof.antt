@@ -6,12 +6,6 @@ use Rattle.records.proofs.Written.{record-written}
 use borrow.Author.Needs.{needs}
 use Rattle.records.proofs.write_item.Statement.{statement}
 use Rattle.records.proofs.write_item.Tie as tie
-use Rattle.records.proofs.write_item.Reads as reads
-use Rattle.records.proofs.write_item.Lts as lts
-use Rattle.numbers.proofs.check_from.Reads as check-from-reads
-use Rattle.numbers.proofs.put2.Reads as put2-reads
-use Rattle.records.proofs.put_head.Reads as put-head-reads
-use Rattle.numbers.proofs.put_words.Reads as put-words-reads
 
 put-head-requires : tie.Need-put-head-requires
 put-head-requires c κs = search needs

@@ -8,13 +8,6 @@ use native.Mathlib.Omega.{arith}
 use borrow.Author.Needs.{needs}
 use Rattle.records.proofs.write_start.Statement.{statement}
 use Rattle.records.proofs.write_start.Tie as tie
-use Rattle.records.proofs.write_start.Reads as reads
-use Rattle.records.proofs.write_start.Lts as lts
-use Rattle.numbers.proofs.check_from.Reads as check-from-reads
-use Rattle.numbers.proofs.put2.Reads as put2-reads
-use Rattle.records.proofs.put_counts.Reads as put-counts-reads
-use Rattle.records.proofs.put_head.Reads as put-head-reads
-use Rattle.records.proofs.start_sums.Reads as start-sums-reads
 
 put-head-requires : tie.Need-put-head-requires
 put-head-requires c κs = search needs

@@ -11,9 +11,6 @@ use borrow.Author.Needs.{needs}
 use native.Mathlib.Omega.{arith}
 use Rattle.runs.proofs.fill_run.Statement.{statement}
 use Rattle.runs.proofs.fill_run.Tie as tie
-use Rattle.runs.proofs.fill_run.Reads as reads
-use Rattle.runs.proofs.fill_run.Lts as lts
-use Rattle.numbers.proofs.get_words.Reads as get-words-reads
 
 abbrev Inv-loop : tie.InvT-loop
 Inv-loop bytes kind s n out₀ left₀ q₀ w₀ out left q w = (w + s * left ≤ length out) × (q + (8 * s + 5) * left ≤ length bytes) × (length out ≡ length out₀) × (patch 0 (wordsOf (entriesIn kind s n bytes)) out₀ ≡ patch w (wordsOf (entriesIn kind s left (drop q bytes))) out)

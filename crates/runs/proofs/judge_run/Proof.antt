@@ -13,10 +13,6 @@ use borrow.Author.Needs.{needs}
 use native.Mathlib.Omega.{arith}
 use Rattle.runs.proofs.judge_run.Statement.{statement}
 use Rattle.runs.proofs.judge_run.Tie as tie
-use Rattle.runs.proofs.judge_run.Reads as reads
-use Rattle.runs.proofs.judge_run.Lts as lts
-use Rattle.records.proofs.item_number.Reads as item-number-reads
-use Rattle.records.proofs.read_item.Reads as read-item-reads
 
 abbrev Inv-loop : tie.InvT-loop
 Inv-loop bytes from mark kind s n p₀ left₀ first₀ before₀ p left first before =

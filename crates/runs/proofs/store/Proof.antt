@@ -4,12 +4,6 @@ use native.Mathlib.Omega.{arith}
 use borrow.Author.Needs.{needs}
 use Rattle.runs.proofs.store.Statement.{statement}
 use Rattle.runs.proofs.store.Tie as tie
-use Rattle.runs.proofs.store.Reads as reads
-use Rattle.runs.proofs.store.Lts as lts
-use Rattle.blocks.proofs.clear.Reads as clear-reads
-use Rattle.blocks.proofs.narrow.Reads as narrow-reads
-use Rattle.runs.proofs.fill_run.Reads as fill-run-reads
-use Rattle.runs.proofs.put_count.Reads as put-count-reads
 
 narrow-requires : tie.Need-narrow-requires
 narrow-requires c κs = search needs

@@ -11,9 +11,6 @@ use borrow.Author.Needs.{needs}
 use native.Mathlib.Omega.{arith}
 use Rattle.runs.proofs.write_run.Statement.{statement}
 use Rattle.runs.proofs.write_run.Tie as tie
-use Rattle.runs.proofs.write_run.Reads as reads
-use Rattle.runs.proofs.write_run.Lts as lts
-use Rattle.records.proofs.write_item.Reads as write-item-reads
 
 abbrev Inv-loop : tie.InvT-loop
 Inv-loop words s n mark kind bytes₀ left₀ q₀ w₀ bytes left q w = (w + s * left ≤ length words) × (q + (8 * s + 5) * left ≤ length bytes) × (length bytes ≡ length bytes₀) × (patch 0 (runOf mark kind (itemsOf s n words)) bytes₀ ≡ patch q (runOf mark kind (itemsOf s left (drop w words))) bytes)

@@ -2,15 +2,11 @@ use Rattle.entries.specs.Build.{pick}
 use mathlib.Core.Path.{sym, ap, _∙_}
 use Rattle.answers.specs.Answers.{applies}
 use mathlib.Core.Bool.{Bool, true, false}
-use Rattle.forms.proofs.Two.{first-bad, second-bad, trails, last-is, to-share, shared-is, one-run}
+use Rattle.verdicts.proofs.Two.{first-bad, second-bad, trails, last-is, to-share, shared-is, one-run}
 use native.Mathlib.Omega.{arith}
 use borrow.Author.Needs.{needs}
-use Rattle.forms.proofs.judge_runs.Statement.{statement}
-use Rattle.forms.proofs.judge_runs.Tie as tie
-use Rattle.forms.proofs.judge_runs.Reads as reads
-use Rattle.forms.proofs.judge_runs.Lts as lts
-use Rattle.runs.proofs.judge_run.Reads as judge-run-reads
-use Rattle.runs.proofs.share_records.Reads as share-records-reads
+use Rattle.verdicts.proofs.judge_runs.Statement.{statement}
+use Rattle.verdicts.proofs.judge_runs.Tie as tie
 
 mul-from : tie.Need-mul-from
 mul-from c = search needs

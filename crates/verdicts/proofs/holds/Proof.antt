@@ -3,16 +3,12 @@ use mathlib.Core.Path.{_≡_, refl, sym, _∙_}
 use lib.ListN.{length, drop}
 use denote.Ref.{now}
 use Rattle.entries.specs.Sets.{member}
 use Rattle.runs.specs.Runs.{entriesIn}
-use Rattle.runs.proofs.Walking.{none-left, found-here, not-here}
+use Rattle.verdicts.proofs.Walking.{none-left, found-here, not-here}
 use borrow.Author.Needs.{needs}
 use native.Mathlib.Omega.{arith}
-use Rattle.runs.proofs.holds.Statement.{statement}
-use Rattle.runs.proofs.holds.Tie as tie
-use Rattle.runs.proofs.holds.Reads as reads
-use Rattle.runs.proofs.holds.Lts as lts
-use Rattle.runs.proofs.between.Reads as between-reads
-use Rattle.numbers.proofs.get8.Reads as get8-reads
+use Rattle.verdicts.proofs.holds.Statement.{statement}
+use Rattle.verdicts.proofs.holds.Tie as tie
 
 abbrev Inv-loop : tie.InvT-loop
 Inv-loop bytes kind from n x p₀ left₀ p left = (p + 21 * left ≤ length bytes) × (member (entriesIn kind 2 n (drop from bytes)) x ≡ member (entriesIn kind 2 left (drop p bytes)) x)

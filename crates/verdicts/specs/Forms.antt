@@ -1,18 +1,19 @@
 -- A form is a value: the mark of its records, the kind of its start, the kind of the items of each run, and the layout of the blocks
 -- that hold a run. Here are the three of 01, the bytes of a form, what bytes say that are one, and the refusals of reading them.
-use Prim.Native.Nat.{ℕ, _+_, _*_}
+use Prim.Native.Nat.{ℕ, suc, _+_, _*_}
 use mathlib.Core.Bool.{Bool, false}
 use mathlib.Core.List.{List, [], _∷_, _++_}
-use lib.Dec.{ltb}
+use lib.Dec.{ltb, eqb}
 use lib.ListN.{length, take, drop}
 use Rattle.entries.specs.Entries.{Entry}
 use Rattle.entries.specs.Bulletins.{shareb}
 use Rattle.answers.specs.Answers.{at, applies}
 use Rattle.answers.specs.declared.Finding.{Finding}
-use Rattle.blocks.specs.Blocks.{setLayout, mapLayout}
+use Rattle.blocks.specs.Blocks.{setLayout, mapLayout, capacity}
+use Rattle.blocks.specs.declared.Layout.{Layout}
 use Rattle.numbers.specs.Numbers.{countsIn}
 use Rattle.records.specs.Records.{startRecord, startVerdict}
-use Rattle.forms.specs.declared.Form.{Form}
+use Rattle.verdicts.specs.declared.Form.{Form}
 use Rattle.runs.specs.Runs.{total, lengths, runsOf, runsIn, runsRefusals}
 
 -- «the mark C5 3A»
@@ -83,3 +84,17 @@ formRefusals f b =
     at 0 (startVerdict (f .mark) (f .start) (f .runs) (f .layout .limit) b)
     ∷ (runsRefusals (f .mark) (f .layout .width) (startSize f) (kindsOf f) (formCounts f b) (drop (startSize f) b)
     ++ (trailing (sizeOf f (formCounts f b)) b ∷ overlap (formEntries f b) ∷ []))
+
+-- «then 1 for each output block, then 5 for each»: the lengths of the blocks from a position on, and the counts of what they are to hold
+abbrev pub noBlocks : ℕ → List ℕ → List Finding
+noBlocks position [] = []
+noBlocks position (l ∷ ls) = at position (applies (eqb l 0) 1) ∷ noBlocks (suc position) ls
+
+abbrev pub noRooms : Layout → ℕ → List ℕ → List ℕ → List Finding
+noRooms layout position [] counts = []
+noRooms layout position (l ∷ ls) [] = []
+noRooms layout position (l ∷ ls) (n ∷ counts) =
+    at position (applies (ltb (capacity (layout .width) (layout .limit) l) n) 5) ∷ noRooms layout (suc position) ls counts
+
+abbrev pub outRefusals : Layout → List ℕ → List ℕ → List Finding
+outRefusals layout ls counts = noBlocks 0 ls ++ noRooms layout 0 ls counts

@@ -1,12 +1,9 @@
-use Rattle.forms.proofs.Reading.{no-first, first-only, no-second, full-first, room-second}
-use Rattle.forms.proofs.Two.{not-one}
+use Rattle.verdicts.proofs.Rooms.{no-first, first-only, no-second, full-first, room-second}
+use Rattle.verdicts.proofs.Two.{not-one}
 use native.Mathlib.Omega.{arith}
 use borrow.Author.Needs.{needs}
-use Rattle.forms.proofs.out_refusal.Statement.{statement}
-use Rattle.forms.proofs.out_refusal.Tie as tie
-use Rattle.forms.proofs.out_refusal.Reads as reads
-use Rattle.forms.proofs.out_refusal.Lts as lts
-use Rattle.forms.proofs.room_number.Reads as room-number-reads
+use Rattle.verdicts.proofs.out_refusal.Statement.{statement}
+use Rattle.verdicts.proofs.out_refusal.Tie as tie
 
 returns : tie.Need-returns
 returns c =

@@ -2,14 +2,11 @@ use Prim.Native.Nat.{_+_, _*_, _≤_}
 use mathlib.Core.Path.{refl}
 use lib.ListN.{length}
 use Rattle.operations.proofs.Walking.{Left, all-left, no-others, none-left, go-left, go-right, found}
-use Rattle.runs.proofs.Walking.{in-bytes}
+use Rattle.verdicts.proofs.Walking.{in-bytes}
 use borrow.Author.Needs.{needs}
 use native.Mathlib.Omega.{arith}
-use Rattle.runs.proofs.share_records.Statement.{statement}
-use Rattle.runs.proofs.share_records.Tie as tie
-use Rattle.runs.proofs.share_records.Reads as reads
-use Rattle.runs.proofs.share_records.Lts as lts
-use Rattle.numbers.proofs.get8.Reads as get8-reads
+use Rattle.verdicts.proofs.share_records.Statement.{statement}
+use Rattle.verdicts.proofs.share_records.Tie as tie
 
 abbrev Inv-loop : tie.InvT-loop
 Inv-loop bytes first p n second q m i₀ left₀ j₀ others₀ i left j others = (i + 21 * left ≤ length bytes) × (j + 21 * others ≤ length bytes) × Left (in-bytes first bytes) (in-bytes second bytes) n p m q i left j others

@@ -24,11 +24,11 @@ use Rattle.records.specs.declared.StartRead.{StartRead}
 use Rattle.records.specs.declared.StartRead.the-variants as start
 use Rattle.records.proofs.Heads.{record-inv, record-small}
 use Rattle.runs.specs.Runs.{entriesIn, runRefusals, total, lengths, runsIn, runsRefusals}
-use Rattle.runs.specs.Steps.{RunJudged, TwoRuns}
+use Rattle.runs.specs.Steps.{RunJudged}
 use Rattle.runs.proofs.Running.{bytes-drop, run-inv}
-use Rattle.forms.specs.declared.Form.{Form}
-use Rattle.forms.specs.Forms.{kindsOf, startSize, sizeOf, formCounts, formEntries, sharing, trailing, overlap, formRefusals}
-use Rattle.forms.specs.Steps.{Shape, lone, pair, FormKind, eachOf, itemSize, secondAt, runsHere, behindStart}
+use Rattle.verdicts.specs.declared.Form.{Form}
+use Rattle.verdicts.specs.Forms.{kindsOf, startSize, sizeOf, formCounts, formEntries, sharing, trailing, overlap, formRefusals}
+use Rattle.verdicts.specs.Steps.{Shape, lone, pair, FormKind, eachOf, itemSize, secondAt, runsHere, behindStart, TwoRuns}
 
 -- one run or two: over the number of runs r and the words s an item
 two-refusals : (mark s r a c p : ℕ) (b d : List ℕ) → Shape r s

@@ -25,9 +25,9 @@ use Rattle.runs.specs.Runs.{total, lengths, runsOf, runsIn, runsRefusals}
 use Rattle.runs.proofs.Turns.{length-record}
 use Rattle.runs.proofs.Running.{clear-split, clear-join, bytes-drop}
 use Rattle.runs.proofs.Several.{Each, Fine, shapes, many-lengths, all-within, runs-inv, counts-in, runs-fine, runs-fit, runs-back, runs-accept, length-runs}
-use Rattle.forms.specs.declared.Form.{Form}
-use Rattle.forms.specs.Forms.{ofSet, ofMap, ofBulletin, kindsOf, formOf, startSize, sizeOf, formCounts, formEntries, sharing, trailing, overlap, formRefusals}
-use Rattle.forms.specs.Steps.{Shape, lone, pair, FormKind}
+use Rattle.verdicts.specs.declared.Form.{Form}
+use Rattle.verdicts.specs.Forms.{ofSet, ofMap, ofBulletin, kindsOf, formOf, startSize, sizeOf, formCounts, formEntries, sharing, trailing, overlap, formRefusals}
+use Rattle.verdicts.specs.Steps.{Shape, lone, pair, FormKind}
 
 -- the three forms of 01
 pub set-kind : FormKind ofSet

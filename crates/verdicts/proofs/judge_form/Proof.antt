@@ -1,13 +1,8 @@
-use Rattle.forms.proofs.Two.{start-bad, start-fits, start-passed}
+use Rattle.verdicts.proofs.Two.{start-bad, start-fits, start-passed}
 use native.Mathlib.Omega.{arith}
 use borrow.Author.Needs.{needs}
-use Rattle.forms.proofs.judge_form.Statement.{statement}
-use Rattle.forms.proofs.judge_form.Tie as tie
-use Rattle.forms.proofs.judge_form.Reads as reads
-use Rattle.forms.proofs.judge_form.Lts as lts
-use Rattle.forms.proofs.judge_runs.Reads as judge-runs-reads
-use Rattle.records.proofs.read_start.Reads as read-start-reads
-use Rattle.records.proofs.start_number.Reads as start-number-reads
+use Rattle.verdicts.proofs.judge_form.Statement.{statement}
+use Rattle.verdicts.proofs.judge_form.Tie as tie
 
 read-start-requires : tie.Need-read-start-requires
 read-start-requires c κs = c .before .pre .start

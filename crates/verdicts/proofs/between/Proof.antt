@@ -1,10 +1,8 @@
 use borrow.Author.Tests.{le-leb, lt-leb}
 use borrow.Author.Needs.{needs}
 use native.Mathlib.Omega.{arith}
-use Rattle.runs.proofs.between.Statement.{statement}
-use Rattle.runs.proofs.between.Tie as tie
-use Rattle.runs.proofs.between.Reads as reads
-use Rattle.runs.proofs.between.Lts as lts
+use Rattle.verdicts.proofs.between.Statement.{statement}
+use Rattle.verdicts.proofs.between.Tie as tie
 
 returns : tie.Need-returns
 returns c = rw (le-leb _ _ (c .if1 .taken))

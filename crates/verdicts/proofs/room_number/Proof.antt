@@ -2,11 +2,8 @@ use mathlib.Core.Path.{sym, ap, _∙_}
 use borrow.Author.Tests.{lt-ltb, le-ltb}
 use native.Mathlib.Omega.{arith}
 use borrow.Author.Needs.{needs}
-use Rattle.forms.proofs.room_number.Statement.{statement}
-use Rattle.forms.proofs.room_number.Tie as tie
-use Rattle.forms.proofs.room_number.Reads as reads
-use Rattle.forms.proofs.room_number.Lts as lts
-use Rattle.blocks.proofs.room_for.Reads as room-for-reads
+use Rattle.verdicts.proofs.room_number.Statement.{statement}
+use Rattle.verdicts.proofs.room_number.Tie as tie
 
 room-for-requires : tie.Need-room-for-requires
 room-for-requires c κs = search needs
