@@ -1,20 +1,21 @@
 -- Reasons and the paper's numbers, either way.
 use mathlib.Core.Path.{_≡_, refl, sym, _∙_, ap, subst}
-use mathlib.Core.Bool.{Bool, true, false}
+use mathlib.Core.Bool.{Bool, true}
 use mathlib.Core.List.{List, []}
 use Prim.Native.Nat.{ℕ, zero, suc, _≤_, _<_}
 use native.Mathlib.Omega.{arith}
 use native.Mathlib.Decide.{decLt}
 use lib.Dec.{eqb}
 use borrow.Author.Tests.{eqb-true}
-use Rattle.entries.specs.Build.{andb, pick}
+use Rattle.entries.specs.Build.{andb}
 use Rattle.entries.proofs.Values.{and-true}
 use Rattle.answers.specs.declared.Reason.{Reason}
-use Rattle.answers.specs.declared.Reason.the-variants.{NoBlock, Count, Order, Backwards, Room, ZeroRun, NoGap, Short, Mark, Kind, Check, Content, Trailing, Overlap, NoSpace}
+use Rattle.answers.specs.declared.Reason.the-variants.{NoBlock, Count, Order, Backwards, Room, ZeroRun, NoGap, Short, Mark, Kind, Check}
+use Rattle.answers.specs.declared.Reason.the-variants.{Content, Trailing, Overlap, NoSpace}
 use Rattle.answers.specs.declared.Refusal.{Refusal}
 use Rattle.answers.specs.declared.Judged.{Judged}
 use Rattle.answers.specs.declared.Judged.the-variants as judged
-use Rattle.answers.specs.Answers.{Answer, given, refused, Outcome, outcome, judged as judgedBy, numberSays}
+use Rattle.answers.specs.Answers.{Answer, given, refused, Outcome, outcome, judged as judgedBy, numberSays, lastNumber}
 use Rattle.answers.specs.Says.{numberOf, refusalSays, judgedSays, reasonOf, refusalOf, judgedOf}
 
 -- a test that holds of each number below n, found by computing it
@@ -30,9 +31,10 @@ each test (suc n) h k p = let a = and-true (test n) (below test n) h in go (a .0
     go e ih (yes q) = ih q
     go e ih (no q) = let i : k ≡ n = omega arith in ap test i ∙ e
 
-pub reason-number : (k : ℕ) → 1 ≤ k → k ≤ 15 → numberOf (reasonOf k) ≡ k
+pub reason-number : (k : ℕ) → 1 ≤ k → k ≤ lastNumber → numberOf (reasonOf k) ≡ k
 reason-number zero h l = absurd (omega arith)
-reason-number (suc k) h l = eqb-true (numberOf (reasonOf (suc k))) (suc k) (each (λ k. eqb (numberOf (reasonOf (suc k))) (suc k)) 15 refl k (omega arith))
+reason-number (suc k) h l =
+    eqb-true (numberOf (reasonOf (suc k))) (suc k) (each (λ k. eqb (numberOf (reasonOf (suc k))) (suc k)) lastNumber refl k (omega arith))
 
 pub number-reason : (r : Reason) → reasonOf (numberOf r) ≡ r
 number-reason NoBlock = refl
@@ -52,10 +54,10 @@ number-reason Overlap = refl
 number-reason NoSpace = refl
 
 -- the refusal of a number says that number
-pub refusal-says : (k place : ℕ) → 1 ≤ k → k ≤ 15 → refusalSays (refusalOf k place) ≡ refused k place
+pub refusal-says : (k place : ℕ) → 1 ≤ k → k ≤ lastNumber → refusalSays (refusalOf k place) ≡ refused k place
 refusal-says k place h l = ap (λ (n : ℕ). refused n place) (reason-number k h l)
 
-pub judged-says : (k place : ℕ) → k ≤ 15 → judgedSays (judgedOf k place) ≡ numberSays k place
+pub judged-says : (k place : ℕ) → k ≤ lastNumber → judgedSays (judgedOf k place) ≡ numberSays k place
 judged-says zero place l = refl
 judged-says (suc k) place l = refusal-says (suc k) place (omega arith) l
 
@@ -64,11 +66,11 @@ judged-refused zero place n = absurd (n refl)
 judged-refused (suc k) place n = refl
 
 -- By a verdict: refused with it, or the outcome. A caller names the lent contents, the place and the outcome that would follow.
-pub refused-as : (lent : List (List ℕ)) (place : ℕ) (x : Outcome) (v k : ℕ) (f : Refusal) → v ≡ k → k ≤ 15 → (v ≡ 0 → ⊥) → f ≡ refusalOf v place
+pub refused-as : (lent : List (List ℕ)) (place : ℕ) (x : Outcome) (v k : ℕ) (f : Refusal) → v ≡ k → k ≤ lastNumber → (v ≡ 0 → ⊥) → f ≡ refusalOf v place
     → outcome (refusalSays f) lent ≡ judgedBy k place lent x
 refused-as lent place x v k f e l n r = go k e l
   where
-    go : (k : ℕ) → v ≡ k → k ≤ 15 → outcome (refusalSays f) lent ≡ judgedBy k place lent x
+    go : (k : ℕ) → v ≡ k → k ≤ lastNumber → outcome (refusalSays f) lent ≡ judgedBy k place lent x
     go zero e l = absurd (n e)
     go (suc m) e l =
         ap (λ (g : Refusal). outcome (refusalSays g) lent) (r ∙ ap (λ (j : ℕ). refusalOf j place) e)
@@ -82,32 +84,31 @@ given-as lent place x y v k e z q = go k (sym e ∙ z)
     go (suc m) z = absurd (omega arith)
 
 -- a number's answer is the outcome that a verdict gives
-pub judged-as : (lent : List (List ℕ)) (place v k : ℕ) (r : Judged) → v ≡ k → k ≤ 15 → r ≡ judgedOf v place
+pub judged-as : (lent : List (List ℕ)) (place v k : ℕ) (r : Judged) → v ≡ k → k ≤ lastNumber → r ≡ judgedOf v place
     → outcome (judgedSays r) lent ≡ judgedBy k place lent (outcome (given []) lent)
 judged-as lent place v k r e l q =
-    ap (λ (x : Judged). outcome (judgedSays x) lent) (q ∙ ap (λ (j : ℕ). judgedOf j place) e) ∙ ap (λ (a : Answer). outcome a lent) (judged-says k place l) ∙ go k
+    ap (λ (x : Judged). outcome (judgedSays x) lent) (q ∙ ap (λ (j : ℕ). judgedOf j place) e)
+    ∙ ap (λ (a : Answer). outcome a lent) (judged-says k place l) ∙ go k
   where
     go : (k : ℕ) → outcome (numberSays k place) lent ≡ judgedBy k place lent (outcome (given []) lent)
     go zero = refl
     go (suc m) = refl
 
 -- a number's answer in place of the number
-pub numbered-as : (place : ℕ) {lent : List (List ℕ)} {k : ℕ} {r : Judged} {o : Outcome} → r ≡ judgedOf k place → k ≤ 15 → outcome (numberSays k place) lent ≡ o → outcome (judgedSays r) lent ≡ o
-numbered-as place {lent} {k} {r} {o} q l e = ap (λ (x : Judged). outcome (judgedSays x) lent) q ∙ ap (λ (a : Answer). outcome a lent) (judged-says k place l) ∙ e
+pub numbered-as : (place : ℕ) {lent : List (List ℕ)} {k : ℕ} {r : Judged} {o : Outcome} → r ≡ judgedOf k place → k ≤ lastNumber
+    → outcome (numberSays k place) lent ≡ o → outcome (judgedSays r) lent ≡ o
+numbered-as place {lent} {k} {r} {o} q l e =
+    ap (λ (x : Judged). outcome (judgedSays x) lent) q ∙ ap (λ (a : Answer). outcome a lent) (judged-says k place l) ∙ e
 
 -- an outcome whose refusal, if it is one, has a number of the table
 abbrev pub Small : Outcome → Type 0
 Small (outcome (given xs) lent) = Unit {0}
-Small (outcome (refused n p) lent) = n ≤ 15
+Small (outcome (refused n p) lent) = n ≤ lastNumber
 
-pub small-number : (k place : ℕ) (lent : List (List ℕ)) (o : Outcome) → outcome (numberSays k place) lent ≡ o → Small o → k ≤ 15
+pub small-number : (k place : ℕ) (lent : List (List ℕ)) (o : Outcome) → outcome (numberSays k place) lent ≡ o → Small o → k ≤ lastNumber
 small-number zero place lent o e s = omega arith
 small-number (suc k) place lent o e s = subst Small (sym e) s
 
-pub judged-small : (v place : ℕ) (lent : List (List ℕ)) (o : Outcome) → v ≤ 15 → Small o → Small (judgedBy v place lent o)
+pub judged-small : (v place : ℕ) (lent : List (List ℕ)) (o : Outcome) → v ≤ lastNumber → Small o → Small (judgedBy v place lent o)
 judged-small zero place lent o l s = s
 judged-small (suc v) place lent o l s = l
-
-pub pick-small : (t : Bool) (a b : Outcome) → Small a → Small b → Small (pick t a b)
-pick-small true a b s u = s
-pick-small false a b s u = u

@@ -3,14 +3,15 @@
 use mathlib.Core.Path.{_≡_, refl, sym, _∙_, ap, ap₂}
 use mathlib.Core.Bool.{Bool, true, false}
 use mathlib.Core.List.{List, [], _∷_, _++_}
-use Prim.Native.Nat.{ℕ, zero, suc, _≤_}
+use Prim.Native.Nat.{ℕ, zero, suc, _≤_, _<_}
 use native.Mathlib.Omega.{arith}
 use Rattle.answers.specs.declared.Judged.{Judged}
-use Rattle.answers.specs.Answers.{Answer, given, refused, Outcome, outcome, judged, numberSays, at, inTurn, lastNumber, applies, Keeps}
-use Rattle.answers.specs.Says.{judgedSays, judgedOf}
-use Rattle.answers.proofs.Numbers.{judged-says}
+use Rattle.answers.specs.declared.Refusal.{Refusal}
+use Rattle.answers.specs.Answers.{Answer, given, refused, Outcome, outcome, judged, numberSays, at, inTurn, lastNumber, applies, handed, Keeps}
+use Rattle.answers.specs.Says.{refusalSays, refusalOf, judgedSays, judgedOf}
+use Rattle.answers.proofs.Numbers.{judged-says, refused-as, judged-as, Small, judged-small}
 use Rattle.answers.specs.declared.Finding.{Finding}
-use Rattle.answers.specs.Steps.{Clear, FirstOf, numberAt}
+use Rattle.answers.specs.Steps.{Clear, FirstOf, numberAt, placeAt, Applies, Named}
 
 judged-again : (v p : ℕ) (lent : List (List ℕ)) (x y : Outcome) → (v ≡ 0 → ⊥) → judged v p lent x ≡ judged v p lent y
 judged-again zero p lent x y n = absurd (n refl)
@@ -55,7 +56,9 @@ stops-in fs gs r f n = record {
 -- or none does
 pub passes-in : (fs gs : List Finding) (r q : Finding) → FirstOf fs r → r .number ≡ 0 → FirstOf gs q → FirstOf (fs ++ gs) q
 passes-in fs gs r q f z g = record {
-  turn = λ lent x. g .turn lent x ∙ sym (ap (λ (m : ℕ). judged m (r .place) lent (inTurn gs lent x)) z) ∙ f .turn lent (inTurn gs lent x) ∙ sym (in-turn fs gs lent x);
+  turn =
+      λ lent x. g .turn lent x ∙ sym (ap (λ (m : ℕ). judged m (r .place) lent (inTurn gs lent x)) z) ∙ f .turn lent (inTurn gs lent x)
+      ∙ sym (in-turn fs gs lent x);
   clear = λ y. clear-both fs gs (f .clear z) (g .clear y);
   small = g .small;
 }
@@ -76,7 +79,32 @@ module _ (fs : List Finding) (r : Finding) (f : FirstOf fs r) (lent : List (List
   pub given-by : (y : Outcome) → r .number ≡ 0 → y ≡ next → y ≡ inTurn fs lent next
   given-by y z q = q ∙ sym (ap (λ (m : ℕ). judged m (r .place) lent next) z) ∙ f .turn lent next
 
-pub accepted-as : (place : ℕ) (x : Judged) (after due : List (List ℕ)) → x ≡ judgedOf 0 place → after ≡ due → outcome (judgedSays x) after ≡ outcome (given []) due
+-- the same of an answer that names the refusal itself
+pub refusal-by : (fs : List Finding) (r : Finding) → FirstOf fs r → (lent : List (List ℕ)) (next : Outcome) (x : Refusal) → (r .number ≡ 0 → ⊥)
+    → x ≡ refusalOf (r .number) (r .place) → outcome (refusalSays x) lent ≡ inTurn fs lent next
+refusal-by fs r f lent next x n e = refused-as lent (r .place) next (r .number) (r .number) x refl (f .small) n e ∙ f .turn lent next
+
+-- a question that asks only for the refusal
+pub answered-by : (fs : List Finding) (r : Finding) → FirstOf fs r → (lent : List (List ℕ)) (x : Judged) → x ≡ judgedOf (r .number) (r .place)
+    → outcome (judgedSays x) lent ≡ inTurn fs lent (outcome (given []) lent)
+answered-by fs r f lent x e = judged-as lent (r .place) (r .number) (r .number) x refl (f .small) e ∙ f .turn lent (outcome (given []) lent)
+
+-- what a call hands back by the first refusal
+module _ {A : Type 0} (fs : List Finding) (r : Finding) (f : FirstOf fs r) (lent : List (List ℕ)) (xs : List ℕ) (after : List (List ℕ)) (part empty : A) where
+  pub refused-part : (r .number ≡ 0 → ⊥) → empty ≡ handed (inTurn fs lent (outcome (given xs) after)) part empty
+  refused-part n = go (r .number) n ∙ ap (λ (o : Outcome). handed o part empty) (f .turn lent (outcome (given xs) after))
+    where
+      go : (v : ℕ) → (v ≡ 0 → ⊥) → empty ≡ handed (judged v (r .place) lent (outcome (given xs) after)) part empty
+      go zero n = absurd (n refl)
+      go (suc v) n = refl
+
+  pub given-part : r .number ≡ 0 → part ≡ handed (inTurn fs lent (outcome (given xs) after)) part empty
+  given-part z =
+      sym (ap (λ (m : ℕ). handed (judged m (r .place) lent (outcome (given xs) after)) part empty) z)
+      ∙ ap (λ (o : Outcome). handed o part empty) (f .turn lent (outcome (given xs) after))
+
+pub accepted-as : (place : ℕ) (x : Judged) (after due : List (List ℕ)) → x ≡ judgedOf 0 place → after ≡ due
+    → outcome (judgedSays x) after ≡ outcome (given []) due
 accepted-as place x after due e q = ap₂ (λ (y : Judged) (l : List (List ℕ)). outcome (judgedSays y) l) e q
 
 -- REFUSED: nothing lent is changed
@@ -87,6 +115,15 @@ judged-keeps (suc v) p lent o k = refl
 pub turn-keeps : (fs : List Finding) (lent : List (List ℕ)) (o : Outcome) → Keeps lent o → Keeps lent (inTurn fs lent o)
 turn-keeps [] lent o k = k
 turn-keeps (f ∷ fs) lent o k = judged-keeps (f .number) (f .place) lent (inTurn fs lent o) (turn-keeps fs lent o k)
+
+-- every number is one of the table, and so is that of the outcome
+abbrev pub AllSmall : List Finding → Type 0
+AllSmall [] = Unit {0}
+AllSmall (f ∷ fs) = (f .number ≤ lastNumber) × AllSmall fs
+
+pub turn-small : (fs : List Finding) (lent : List (List ℕ)) (o : Outcome) → AllSmall fs → Small o → Small (inTurn fs lent o)
+turn-small [] lent o a s = s
+turn-small (f ∷ fs) lent o a s = judged-small (f .number) (f .place) lent (inTurn fs lent o) (a .0) (turn-small fs lent o (a .1) s)
 
 -- ACCEPTED: no refusal applies, and then it is
 pub refused≢given : {n p : ℕ} {l k : List (List ℕ)} {xs : List ℕ} → outcome (refused n p) l ≡ outcome (given xs) k → ⊥
@@ -122,3 +159,49 @@ applies-clear false n e = refl
 pub applies-small : (t : Bool) (n : ℕ) → n ≤ lastNumber → applies t n ≤ lastNumber
 applies-small true n l = l
 applies-small false n l = omega arith
+
+-- REFUSED EXACTLY WHEN: a call that is given where no refusal applies is refused with the number and the place of finding i where
+-- that is the first that applies,
+pub refused-at : (fs : List Finding) (lent : List (List ℕ)) (x : Outcome) (i : ℕ) → Applies fs i
+    → inTurn fs lent x ≡ outcome (refused (numberAt fs i) (placeAt fs i)) lent
+refused-at [] lent x i a = absurd (a .here refl)
+refused-at (f ∷ fs) lent x zero a = go (f .number) (a .here)
+  where
+    go : (v : ℕ) → (v ≡ 0 → ⊥) → judged v (f .place) lent (inTurn fs lent x) ≡ outcome (refused v (f .place)) lent
+    go zero n = absurd (n refl)
+    go (suc v) n = refl
+refused-at (f ∷ fs) lent x (suc i) a =
+    rw (a .before 0 (omega arith)) (refused-at fs lent x i (record { before = λ k h. a .before (suc k) (omega arith); here = a .here }))
+
+-- and is refused with no other: the refusal is that of the first that applies
+pub refused-named : (fs : List Finding) (lent : List (List ℕ)) (xs : List ℕ) (after : List (List ℕ)) (n p : ℕ) (left : List (List ℕ))
+    → inTurn fs lent (outcome (given xs) after) ≡ outcome (refused n p) left → Named fs n p
+refused-named [] lent xs after n p left e = absurd (refused≢given (sym e))
+refused-named (f ∷ fs) lent xs after n p left e = go (f .number) refl e (λ d. refused-named fs lent xs after n p left d)
+  where
+    go : (v : ℕ) → f .number ≡ v → judged v (f .place) lent (inTurn fs lent (outcome (given xs) after)) ≡ outcome (refused n p) left
+        → (inTurn fs lent (outcome (given xs) after) ≡ outcome (refused n p) left → Named fs n p) → Named (f ∷ fs) n p
+    go zero z d ih =
+        let m = ih d in
+        record { index = suc (m .index); first = record { before = later (m .first) z; here = m .first .here }; number = m .number; place = m .place }
+      where
+        later : {i : ℕ} → Applies fs i → f .number ≡ 0 → (k : ℕ) → k < suc i → numberAt (f ∷ fs) k ≡ 0
+        later a z zero h = z
+        later a z (suc k) h = a .before k (omega arith)
+    go (suc v) z d ih =
+        let q : suc v ≡ n = cc in
+        let r : f .place ≡ p = cc in
+        record {
+          index = 0;
+          first = record { before = λ k h. absurd (omega arith); here = λ y. let b : suc v ≡ 0 = sym z ∙ y in omega arith };
+          number = z ∙ q;
+          place = r;
+        }
+
+-- where no other finding can have finding i's number and place, it is refused with these exactly where i is the first that applies
+pub refused-only : (fs : List Finding) (lent : List (List ℕ)) (xs : List ℕ) (after : List (List ℕ)) (n p i : ℕ) (left : List (List ℕ))
+    → ((k : ℕ) → numberAt fs k ≡ n → placeAt fs k ≡ p → k ≡ i) → inTurn fs lent (outcome (given xs) after) ≡ outcome (refused n p) left → Applies fs i
+refused-only fs lent xs after n p i left only e =
+    let m = refused-named fs lent xs after n p left e in
+    let k = only (m .index) (m .number) (m .place) in
+    record { before = λ j h. m .first .before j (omega arith); here = λ z. m .first .here (ap (numberAt fs) k ∙ z) }

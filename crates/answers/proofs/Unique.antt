@@ -15,12 +15,16 @@ use Rattle.answers.specs.declared.Ranged.{Ranged}
 use Rattle.answers.specs.declared.Ranged.the-variants as ranged
 use Rattle.answers.specs.declared.Sized.{Sized}
 use Rattle.answers.specs.declared.Sized.the-variants as sized
+use Rattle.answers.specs.declared.Parted.{Parted}
+use Rattle.answers.specs.declared.Parted.the-variants as parted
+use Rattle.answers.specs.declared.Decided.{Decided}
+use Rattle.answers.specs.declared.Decided.the-variants as decided
 use Rattle.answers.specs.declared.Placed.{Placed}
 use Rattle.answers.specs.declared.Placed.the-variants as placed
 use Rattle.answers.specs.declared.Written.{Written}
 use Rattle.answers.specs.declared.Written.the-variants as written
 use Rattle.answers.specs.Answers.{Answer, given, refused, Outcome, outcome}
-use Rattle.answers.specs.Says.{numberOf, refusalOf, reasonOf, judgedSays, truthSays, foundSays, rangedSays, sizedSays, placedSays, writtenSays}
+use Rattle.answers.specs.Says.{numberOf, refusalOf, judgedSays, truthSays, foundSays, rangedSays, sizedSays, partedSays, decidedSays, placedSays, writtenSays}
 use Rattle.answers.proofs.Numbers.{number-reason}
 
 abbrev answerOf : Outcome → Answer
@@ -103,6 +107,37 @@ sized-undo (sized.Refused f) = ap sized.Refused (refusal-back f)
 
 pub sized-only : (due : Outcome) (r s : Sized) (k l : List (List ℕ)) → outcome (sizedSays r) k ≡ due → outcome (sizedSays s) l ≡ due → (r ≡ s) × (k ≡ l)
 sized-only = only sizedSays sizedBack sized-undo
+
+abbrev partedBack : Answer → Parted
+partedBack (given []) = parted.Nothing
+partedBack (given (p ∷ [])) = parted.Nothing
+partedBack (given (p ∷ n ∷ xs)) = parted.Part p n
+partedBack (refused n p) = parted.Refused (refusalOf n p)
+
+parted-undo : (r : Parted) → partedBack (partedSays r) ≡ r
+parted-undo (parted.Part p n) = refl
+parted-undo parted.Nothing = refl
+parted-undo (parted.Refused f) = ap parted.Refused (refusal-back f)
+
+pub parted-only : (due : Outcome) (r s : Parted) (k l : List (List ℕ))
+    → outcome (partedSays r) k ≡ due → outcome (partedSays s) l ≡ due → (r ≡ s) × (k ≡ l)
+parted-only = only partedSays partedBack parted-undo
+
+abbrev decidedBack : Answer → Decided
+decidedBack (given []) = decided.Nothing
+decidedBack (given (p ∷ [])) = decided.Nothing
+decidedBack (given (p ∷ n ∷ [])) = decided.Nothing
+decidedBack (given (p ∷ n ∷ k ∷ xs)) = decided.Entry p n k
+decidedBack (refused n p) = decided.Refused (refusalOf n p)
+
+decided-undo : (r : Decided) → decidedBack (decidedSays r) ≡ r
+decided-undo (decided.Entry p n k) = refl
+decided-undo decided.Nothing = refl
+decided-undo (decided.Refused f) = ap decided.Refused (refusal-back f)
+
+pub decided-only : (due : Outcome) (r s : Decided) (k l : List (List ℕ))
+    → outcome (decidedSays r) k ≡ due → outcome (decidedSays s) l ≡ due → (r ≡ s) × (k ≡ l)
+decided-only = only decidedSays decidedBack decided-undo
 
 abbrev placedBack : Answer → Placed
 placedBack (given []) = placed.At 0

@@ -62,6 +62,11 @@ lessOne n = pick (eqb n 0) (given []) (given ((n - 1) ∷ []))
 abbrev pub applies : Bool → ℕ → ℕ
 applies t number = pick t number 0
 
+-- what is handed back where a call is accepted, and what where it is refused
+abbrev pub handed : {A : Type 0} → Outcome → A → A → A
+handed (outcome (given xs) lent) part empty = part
+handed (outcome (refused n p) lent) part empty = empty
+
 -- «It changes nothing lent to the call»: a refused outcome leaves what was lent
 abbrev pub Keeps : List (List ℕ) → Outcome → Type 0
 Keeps lent (outcome (given xs) after) = Unit {0}

@@ -1,10 +1,11 @@
 -- The paper's number and values for each case of an answer.
-use mathlib.Core.List.{List, [], _∷_}
+use mathlib.Core.List.{[], _∷_}
 use Prim.Native.Nat.{ℕ, zero, suc}
 use lib.Dec.{eqb}
 use Rattle.entries.specs.Build.{pick}
 use Rattle.answers.specs.declared.Reason.{Reason}
-use Rattle.answers.specs.declared.Reason.the-variants.{NoBlock, Count, Order, Backwards, Room, ZeroRun, NoGap, Short, Mark, Kind, Check, Content, Trailing, Overlap, NoSpace}
+use Rattle.answers.specs.declared.Reason.the-variants.{NoBlock, Count, Order, Backwards, Room, ZeroRun, NoGap, Short, Mark, Kind, Check}
+use Rattle.answers.specs.declared.Reason.the-variants.{Content, Trailing, Overlap, NoSpace}
 use Rattle.answers.specs.declared.Refusal.{Refusal}
 use Rattle.answers.specs.declared.Judged.{Judged}
 use Rattle.answers.specs.declared.Judged.the-variants as judged
@@ -16,6 +17,10 @@ use Rattle.answers.specs.declared.Ranged.{Ranged}
 use Rattle.answers.specs.declared.Ranged.the-variants as ranged
 use Rattle.answers.specs.declared.Sized.{Sized}
 use Rattle.answers.specs.declared.Sized.the-variants as sized
+use Rattle.answers.specs.declared.Parted.{Parted}
+use Rattle.answers.specs.declared.Parted.the-variants as parted
+use Rattle.answers.specs.declared.Decided.{Decided}
+use Rattle.answers.specs.declared.Decided.the-variants as decided
 use Rattle.answers.specs.declared.Placed.{Placed}
 use Rattle.answers.specs.declared.Placed.the-variants as placed
 use Rattle.answers.specs.declared.Written.{Written}
@@ -68,6 +73,18 @@ sizedSays sized.Empty = given []
 sizedSays (sized.LessOne n) = given (n ∷ [])
 sizedSays (sized.Refused f) = refusalSays f
 
+-- a part of a block: its place and its length
+abbrev pub partedSays : Parted → Answer
+partedSays (parted.Part place words) = given (place ∷ words ∷ [])
+partedSays parted.Nothing = given []
+partedSays (parted.Refused f) = refusalSays f
+
+-- the deciding entry: its place and its length, and the position of its block
+abbrev pub decidedSays : Decided → Answer
+decidedSays (decided.Entry place words position) = given (place ∷ words ∷ position ∷ [])
+decidedSays decided.Nothing = given []
+decidedSays (decided.Refused f) = refusalSays f
+
 -- the place s of a fit: «a reservation, which inserts s to s+k-1 and returns s»
 abbrev pub placedSays : Placed → Answer
 placedSays (placed.At s) = given (s ∷ [])
@@ -78,7 +95,7 @@ abbrev pub writtenSays : Written → Answer
 writtenSays (written.Length n) = given (n ∷ [])
 writtenSays (written.Refused f) = refusalSays f
 
--- The other way, for code that has a number: the reason of a number of the table.
+-- The other way, for code that has a number: the reason of a number of the table; of any other number, the table's last.
 abbrev pub reasonOf : ℕ → Reason
 reasonOf number =
     pick (eqb number 1) NoBlock

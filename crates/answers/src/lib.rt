@@ -67,6 +67,21 @@ pub enum Sized {
     Refused(Refusal),
 }
 
+// A part of the caller's own block: the place of its first word and the number of its words; or that there is none.
+pub enum Parted {
+    Part(usize, usize),
+    Nothing,
+    Refused(Refusal),
+}
+
+// The entry that decides a number, as a part of one of two blocks: the place of its first word, the number of its words, and the
+// position of the block that holds it; or that no entry decides.
+pub enum Decided {
+    Entry(usize, usize, usize),
+    Nothing,
+    Refused(Refusal),
+}
+
 // The place that a fit chose.
 pub enum Placed {
     At(u64),
@@ -79,7 +94,7 @@ pub enum Written {
     Refused(Refusal),
 }
 
-// The refusal with a number of the table.
+// The refusal with a number of the table, 1 to 15. A number that is not in the table gives the table's last refusal, NoSpace.
 pub fn refusal_of(number: u8, place: usize) -> Refusal
     ensures { λ r. ⌜ r ≡ refusalOf number place ⌝ }
 {
@@ -103,7 +118,7 @@ pub fn refusal_of(number: u8, place: usize) -> Refusal
     Refusal { reason, place }
 }
 
-// Accepted for 0, else the refusal with that number.
+// Accepted for 0, else the refusal with that number, as `refusal_of` gives it.
 pub fn judged_of(number: u8, place: usize) -> Judged
     ensures { λ r. ⌜ r ≡ judgedOf number place ⌝ }
 {

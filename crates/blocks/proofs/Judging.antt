@@ -12,6 +12,8 @@ use lib.ListN.{length, getD}
 use Rattle.entries.specs.Entries.{Entry, After, Link, Sound}
 use Rattle.entries.specs.Build.{pick, andb, sameWords}
 use Rattle.entries.proofs.Values.{true≢false, and-true, words-true, words-false}
+use Rattle.answers.specs.Answers.{lastNumber}
+use Rattle.blocks.specs.declared.Layout.{Layout}
 use Rattle.blocks.specs.Blocks.{afterb, linkb, fine, soundb, verdict, SoundBlock, entriesOf, capacity}
 
 not-and : (t u : Bool) → not (andb t u) ≡ true → t ≡ true → u ≡ false
@@ -23,7 +25,8 @@ after-true : (p q : Entry) → afterb p q ≡ true → After p q
 after-true p q h =
     let k = and-true (ltb (p .high) (q .low)) (not (andb (eqb (q .low) (suc (p .high))) (sameWords (p .value) (q .value)))) h in (
       ltb-true (p .high) (q .low) (k .0),
-      λ e. words-false (p .value) (q .value) (not-and (eqb (q .low) (suc (p .high))) (sameWords (p .value) (q .value)) (k .1) (eq-eqb (q .low) (suc (p .high)) e)),
+      λ e. words-false (p .value) (q .value)
+          (not-and (eqb (q .low) (suc (p .high))) (sameWords (p .value) (q .value)) (k .1) (eq-eqb (q .low) (suc (p .high)) e)),
     )
 
 true-after : (p q : Entry) → After p q → afterb p q ≡ true
@@ -54,35 +57,48 @@ true-sound (e ∷ es) s = rw (le-leb (e .low) (e .high) (s .0), link es (s .1)) 
     link (f ∷ fs) l = true-after e f l
 
 -- verdict 0 exactly of sound blocks
-pub verdict-sound : (s limit : ℕ) (w : List ℕ) → verdict s limit w ≡ 0 → SoundBlock s limit w
-unfolding verdict
-verdict-sound s limit w v = go (eqb (length w) 0) refl (ltb (capacity s limit (length w)) (getD w 0 0)) refl (soundb (entriesOf s w)) refl v
-  where
-    go : (a : Bool) → eqb (length w) 0 ≡ a → (b : Bool) → ltb (capacity s limit (length w)) (getD w 0 0) ≡ b → (c : Bool) → soundb (entriesOf s w) ≡ c
-        → _≡_ {A = ℕ} (pick a 1 (pick b 2 (pick c 0 3))) 0 → SoundBlock s limit w
-    go true e b f c g q = absurd (omega arith)
-    go false e true f c g q = absurd (omega arith)
-    go false e false f false g q = absurd (omega arith)
-    go false e false f true g q =
-        record { some = let n : length w ≡ 0 → ⊥ = eqb-false (length w) 0 e in omega arith; fits = ltb-false (capacity s limit (length w)) (getD w 0 0) f; sound = sound-true (entriesOf s w) g }
+module _ (l : Layout) (w : List ℕ) where
+  pub verdict-sound : verdict l w ≡ 0 → SoundBlock l w
+  unfolding verdict
+  verdict-sound v = go (eqb (length w) 0) refl (ltb (capacity l (length w)) (getD w 0 0)) refl (soundb (entriesOf (l .width) w)) refl v
+    where
+      go : (a : Bool) → eqb (length w) 0 ≡ a → (b : Bool) → ltb (capacity l (length w)) (getD w 0 0) ≡ b
+          → (c : Bool) → soundb (entriesOf (l .width) w) ≡ c → _≡_ {A = ℕ} (pick a 1 (pick b 2 (pick c 0 3))) 0 → SoundBlock l w
+      go true e b f c g q = absurd (omega arith)
+      go false e true f c g q = absurd (omega arith)
+      go false e false f false g q = absurd (omega arith)
+      go false e false f true g q =
+          record {
+            some = let n : length w ≡ 0 → ⊥ = eqb-false (length w) 0 e in omega arith;
+            fits = ltb-false (capacity l (length w)) (getD w 0 0) f;
+            sound = sound-true (entriesOf (l .width) w) g;
+          }
 
-pub sound-verdict : (s limit : ℕ) (w : List ℕ) → SoundBlock s limit w → verdict s limit w ≡ 0
-unfolding verdict
-sound-verdict s limit w b = rw (ne-eqb (length w) 0 (λ e. omega (arith, b .some)), le-ltb (capacity s limit (length w)) (getD w 0 0) (b .fits), true-sound (entriesOf s w) (b .sound))
+  pub sound-verdict : SoundBlock l w → verdict l w ≡ 0
+  unfolding verdict
+  sound-verdict b =
+      rw (
+        ne-eqb (length w) 0 (λ e. omega (arith, b .some)),
+        le-ltb (capacity l (length w)) (getD w 0 0) (b .fits),
+        true-sound (entriesOf (l .width) w) (b .sound),
+      )
+
+  -- a block's refusals are 1, 2, 3
+  pub verdict-most : verdict l w ≤ 3
+  unfolding verdict
+  verdict-most = go (eqb (length w) 0) (ltb (capacity l (length w)) (getD w 0 0)) (soundb (entriesOf (l .width) w))
+    where
+      go : (a b c : Bool) → pick a 1 (pick b 2 (pick c 0 3)) ≤ 3
+      go true b c = omega arith
+      go false true c = omega arith
+      go false false true = omega arith
+      go false false false = omega arith
+
+  pub verdict-small : verdict l w ≤ lastNumber
+  verdict-small = omega (arith, verdict-most)
 
 -- a count within the capacity has its words
-pub room : (s limit L n : ℕ) → 0 < L → n ≤ capacity s limit L → 1 + s * n ≤ L
-room s limit L n p h =
-    let k : n ≤ (L - 1) / s = omega arith in
-    omega (arith, mul-le-mul-left s k, div-mul-le-self (L - 1) s, mul-comm s ((L - 1) / s))
-
--- a block's refusals are 1, 2, 3
-pub verdict-most : (s limit : ℕ) (w : List ℕ) → verdict s limit w ≤ 3
-unfolding verdict
-verdict-most s limit w = go (eqb (length w) 0) (ltb (capacity s limit (length w)) (getD w 0 0)) (soundb (entriesOf s w))
-  where
-    go : (a b c : Bool) → pick a 1 (pick b 2 (pick c 0 3)) ≤ 3
-    go true b c = omega arith
-    go false true c = omega arith
-    go false false true = omega arith
-    go false false false = omega arith
+pub room-words : (l : Layout) (L n : ℕ) → 0 < L → n ≤ capacity l L → 1 + l .width * n ≤ L
+room-words l L n p h =
+    let k : n ≤ (L - 1) / l .width = omega arith in
+    omega (arith, mul-le-mul-left (l .width) k, div-mul-le-self (L - 1) (l .width), mul-comm (l .width) ((L - 1) / l .width))

@@ -3,5 +3,6 @@ pub mod Judging
 pub mod Moves
 pub mod Copying
 pub mod Tests
-pub mod Finding
+pub mod Items
 pub mod Canonical
+pub mod Refusing

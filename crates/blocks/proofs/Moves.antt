@@ -23,10 +23,12 @@ item-drop s p q r t w e f g =
 
 pub entry-at : (s : ℕ) → 2 ≤ s → (n i : ℕ) (w : List ℕ) (d : Entry) → i < n → getD (itemsOf s n (drop 1 w)) i d ≡ itemAt s w i
 entry-at s two n i w d h =
-    item-at s two n i (drop 1 w) d h ∙ ap (itemOf s) (drop-drop (s * i) 1 w) ∙ item-drop s (1 + s * i) (s * i + 1) (s * i + 2) (s * i + 3) w (omega arith) (omega arith) (omega arith)
+    item-at s two n i (drop 1 w) d h ∙ ap (itemOf s) (drop-drop (s * i) 1 w)
+    ∙ item-drop s (1 + s * i) (s * i + 1) (s * i + 2) (s * i + 3) w (omega arith) (omega arith) (omega arith)
 
 -- equal words make equal parts
-pub part-eq : (a b : List ℕ) (p q n : ℕ) → p + n ≤ length a → q + n ≤ length b → ((k : ℕ) → k < n → getD a (p + k) 0 ≡ getD b (q + k) 0) → take n (drop p a) ≡ take n (drop q b)
+pub part-eq : (a b : List ℕ) (p q n : ℕ) → p + n ≤ length a → q + n ≤ length b → ((k : ℕ) → k < n → getD a (p + k) 0 ≡ getD b (q + k) 0)
+    → take n (drop p a) ≡ take n (drop q b)
 part-eq a b p q n h g e =
     ext-getD 0 (take n (drop p a)) (take n (drop q b)) (la ∙ sym lb)
     (λ k l. let m : k < n = omega (arith, la) in
@@ -49,7 +51,8 @@ four w p a b c =
     ∙ sym (take-append-drop b (drop (p + a) w)) ∙ ap (λ (l : List ℕ). take b (drop (p + a) w) ++ l) (drop-drop b (p + a) w
     ∙ sym (take-append-drop c (drop (p + a + b) w)) ∙ ap (λ (l : List ℕ). take c (drop (p + a + b) w) ++ l) (drop-drop c (p + a + b) w)))
 
-pub block-path : (L : ℕ) (es : List Entry) (n z : ℕ) (ws : List ℕ) → n ≡ length es → ws ≡ wordsOf es → z ≡ L - (1 + length (wordsOf es)) → n ∷ (ws ++ replicate z 0) ≡ blockOf L es
+pub block-path : (L : ℕ) (es : List Entry) (n z : ℕ) (ws : List ℕ) → n ≡ length es → ws ≡ wordsOf es → z ≡ L - (1 + length (wordsOf es))
+    → n ∷ (ws ++ replicate z 0) ≡ blockOf L es
 unfolding blockOf
 block-path L es n z ws e f g = ap₂ _∷_ e (ap₂ _++_ f (ap (λ (k : ℕ). replicate k 0) g))
 
@@ -75,7 +78,8 @@ module _ (s : ℕ) (two : 2 ≤ s) (w new : List ℕ) (n i j c : ℕ) (held : 1 
 
   back-words : wordsOf (drop j (itemsOf s n (drop 1 w))) ≡ take (s * (n - j)) (drop (1 + s * j) w)
   back-words =
-      ap wordsOf (items-drop s two n j (drop 1 w) hj) ∙ write-back s two (n - j) (drop (s * j) (drop 1 w)) (omega (arith, back-is, old, length-drop (s * j) (drop 1 w)))
+      ap wordsOf (items-drop s two n j (drop 1 w) hj)
+      ∙ write-back s two (n - j) (drop (s * j) (drop 1 w)) (omega (arith, back-is, old, length-drop (s * j) (drop 1 w)))
       ∙ ap (take (s * (n - j))) (drop-drop (s * j) 1 w)
 
   pub entries-count : length spliced-entries ≡ i + c + (n - j)
@@ -111,7 +115,9 @@ module _ (s : ℕ) (two : 2 ≤ s) (w new : List ℕ) (n i j c : ℕ) (held : 1 
       front = part-eq w' w 1 1 (s * i) (omega arith) (omega (arith, front-le)) (λ k l. sp .front (1 + k) (omega arith) (omega arith)) ∙ sym front-words
 
       middle : take (s * c) (drop (1 + s * i) w') ≡ B
-      middle = part-eq w' new (1 + s * i) 0 (s * c) (omega arith) (omega arith) (λ k l. let e : 0 + k ≡ k = omega arith in sp .new-at (1 + s * i + k) k (omega arith) (omega arith) ∙ ap (λ (x : ℕ). getD new x 0) (sym e))
+      middle =
+          part-eq w' new (1 + s * i) 0 (s * c) (omega arith) (omega arith)
+          (λ k l. let e : 0 + k ≡ k = omega arith in sp .new-at (1 + s * i + k) k (omega arith) (omega arith) ∙ ap (λ (x : ℕ). getD new x 0) (sym e))
           ∙ take-all (s * c) new (omega arith) ∙ sym new-words
 
       back : take (s * (n - j)) (drop (1 + s * i + s * c) w') ≡ C
@@ -121,14 +127,18 @@ module _ (s : ℕ) (two : 2 ≤ s) (w new : List ℕ) (n i j c : ℕ) (held : 1 
       tail : drop (1 + s * i + s * c + s * (n - j)) w' ≡ replicate z 0
       tail = zeros w' (1 + s * i + s * c + s * (n - j)) (λ k l. sp .tail k (omega (arith, back-is)))
 
-      parts : take (s * i) (drop 1 w') ++ (take (s * c) (drop (1 + s * i) w') ++ (take (s * (n - j)) (drop (1 + s * i + s * c) w') ++ drop (1 + s * i + s * c + s * (n - j)) w')) ≡ A ++ (B ++ (C ++ replicate z 0))
+      parts : take (s * i) (drop 1 w') ++
+          (take (s * c) (drop (1 + s * i) w') ++ (take (s * (n - j)) (drop (1 + s * i + s * c) w') ++ drop (1 + s * i + s * c + s * (n - j)) w')) ≡ A
+          ++ (B ++ (C ++ replicate z 0))
       parts = ap₂ _++_ front (ap₂ _++_ middle (ap₂ _++_ back tail))
 
       joined : A ++ (B ++ (C ++ replicate z 0)) ≡ (A ++ (B ++ C)) ++ replicate z 0
       joined = sym (append-assoc A (B ++ C) (replicate z 0) ∙ ap (λ (l : List ℕ). A ++ l) (append-assoc B C (replicate z 0)))
 
       words : A ++ (B ++ C) ≡ wordsOf spliced-entries
-      words = sym (words-append (take i (itemsOf s n (drop 1 w))) (itemsOf s c new ++ drop j (itemsOf s n (drop 1 w))) ∙ ap (λ (l : List ℕ). A ++ l) (words-append (itemsOf s c new) (drop j (itemsOf s n (drop 1 w)))))
+      words =
+          sym (words-append (take i (itemsOf s n (drop 1 w))) (itemsOf s c new ++ drop j (itemsOf s n (drop 1 w)))
+          ∙ ap (λ (l : List ℕ). A ++ l) (words-append (itemsOf s c new) (drop j (itemsOf s n (drop 1 w)))))
 
       left : z ≡ length w - (1 + length (wordsOf spliced-entries))
       left = omega (

@@ -11,6 +11,7 @@ use lib.ListN.{length, getD, take, drop}
 use lib.Seq.{drop-cons, drop-drop}
 use Rattle.entries.specs.Build.{andb, pick, sameWords}
 use Rattle.entries.specs.Entries.{Entry}
+use Rattle.blocks.specs.declared.Layout.{Layout}
 use Rattle.blocks.specs.Blocks.{itemOf, itemsOf, capacity, fine, soundb, verdict}
 use Rattle.blocks.proofs.Moves.{item-drop}
 use Rattle.blocks.specs.Steps.{itemFrom}
@@ -126,26 +127,30 @@ module _ (s : ℕ) (w : List ℕ) where
   rest-none p n e = sym (ap (rest p) e)
 
   pub rest-one : (p n : ℕ) → n ≡ 1 → leb (getD w p 0) (getD w (p + 1) 0) ≡ rest p n
-  rest-one p n e = sym (ap (rest p) e ∙ ap (λ (x : Entry). andb (andb (leb (x .low) (x .high)) true) true) (item-from s p w) ∙ unit (leb (getD w p 0) (getD w (p + 1) 0)))
+  rest-one p n e =
+      sym (ap (rest p) e ∙ ap (λ (x : Entry). andb (andb (leb (x .low) (x .high)) true) true) (item-from s p w)
+      ∙ unit (leb (getD w p 0) (getD w (p + 1) 0)))
     where
       unit : (t : Bool) → andb (andb t true) true ≡ t
       unit true = refl
       unit false = refl
 
 -- the verdict, by the tests of the code
-module _ (s limit : ℕ) (m : List ℕ) where
-  pub v1 : length m ≡ 0 → 1 ≡ verdict s limit m
+module _ (l : Layout) (m : List ℕ) where
+  pub v1 : length m ≡ 0 → 1 ≡ verdict l m
   unfolding verdict
   v1 h = rw (eq-eqb (length m) 0 h)
 
-  module _ (h : length m ≡ 0 → ⊥) (c n : ℕ) (e : c ≡ capacity s limit (length m)) (f : n ≡ getD m 0 0) where
-    pub v2 : c < n → 2 ≡ verdict s limit m
+  module _ (h : length m ≡ 0 → ⊥) (c n : ℕ) (e : c ≡ capacity l (length m)) (f : n ≡ getD m 0 0) where
+    pub v2 : c < n → 2 ≡ verdict l m
     unfolding verdict
-    v2 g = let k : capacity s limit (length m) < getD m 0 0 = omega arith in rw (ne-eqb (length m) 0 h, lt-ltb (capacity s limit (length m)) (getD m 0 0) k)
+    v2 g =
+        let k : capacity l (length m) < getD m 0 0 = omega arith in
+        rw (ne-eqb (length m) 0 h, lt-ltb (capacity l (length m)) (getD m 0 0) k)
 
-    pub v03 : n ≤ c → (t : Bool) → t ≡ soundb (itemsOf s n (drop 1 m)) → pick t 0 3 ≡ verdict s limit m
+    pub v03 : n ≤ c → (t : Bool) → t ≡ soundb (itemsOf (l .width) n (drop 1 m)) → pick t 0 3 ≡ verdict l m
     unfolding verdict
     v03 g t d =
-        let k : getD m 0 0 ≤ capacity s limit (length m) = omega arith in
-        rw (ne-eqb (length m) 0 h, le-ltb (capacity s limit (length m)) (getD m 0 0) k)
-        (ap (λ (b : Bool). pick b 0 3) (d ∙ ap (λ (k : ℕ). soundb (itemsOf s k (drop 1 m))) f))
+        let k : getD m 0 0 ≤ capacity l (length m) = omega arith in
+        rw (ne-eqb (length m) 0 h, le-ltb (capacity l (length m)) (getD m 0 0) k)
+        (ap (λ (b : Bool). pick b 0 3) (d ∙ ap (λ (k : ℕ). soundb (itemsOf (l .width) k (drop 1 m))) f))

@@ -47,7 +47,8 @@ module _ (s : ℕ) (two : 2 ≤ s) where
       dropped : drop s (wordsOf (e ∷ es) ++ rest) ≡ drop (s - 2) (e .value ++ (wordsOf es ++ rest))
       dropped =
           let k : s ≡ 2 + (s - 2) = omega arith in
-          ap (λ (m : ℕ). drop m (wordsOf (e ∷ es) ++ rest)) k ∙ sym (drop-drop (s - 2) 2 (wordsOf (e ∷ es) ++ rest)) ∙ ap (drop (s - 2)) (append-assoc (e .value) (wordsOf es) rest)
+          ap (λ (m : ℕ). drop m (wordsOf (e ∷ es) ++ rest)) k ∙ sym (drop-drop (s - 2) 2 (wordsOf (e ∷ es) ++ rest))
+          ∙ ap (drop (s - 2)) (append-assoc (e .value) (wordsOf es) rest)
 
   item-words : (ws : List ℕ) → 2 ≤ length ws → getD ws 0 0 ∷ getD ws 1 0 ∷ take (s - 2) (drop 2 ws) ≡ take s ws
   item-words [] h = absurd (omega arith)
@@ -69,7 +70,10 @@ module _ (s : ℕ) (two : 2 ≤ s) where
   items-take (suc n) (suc i) ws h = ap (λ (l : List Entry). itemOf s ws ∷ l) (items-take n i (drop s ws) (omega arith))
 
   pub items-drop : (n j : ℕ) (ws : List ℕ) → j ≤ n → drop j (itemsOf s n ws) ≡ itemsOf s (n - j) (drop (s * j) ws)
-  items-drop n zero ws h = let k : n ≡ n - 0 = omega arith in let z : 0 ≡ s * 0 = omega (arith, native.Mathlib.Nat.mul-zero s) in ap₂ (λ (m p : ℕ). itemsOf s m (drop p ws)) k z
+  items-drop n zero ws h =
+      let k : n ≡ n - 0 = omega arith in
+      let z : 0 ≡ s * 0 = omega (arith, native.Mathlib.Nat.mul-zero s) in
+      ap₂ (λ (m p : ℕ). itemsOf s m (drop p ws)) k z
   items-drop zero (suc j) ws h = absurd (omega arith)
   items-drop (suc n) (suc j) ws h =
       let k : s + s * j ≡ s * suc j = omega (arith, mul-suc s j) in
@@ -80,4 +84,6 @@ module _ (s : ℕ) (two : 2 ≤ s) where
   pub item-at : (n i : ℕ) (ws : List ℕ) (d : Entry) → i < n → getD (itemsOf s n ws) i d ≡ itemOf s (drop (s * i) ws)
   item-at zero i ws d h = absurd (omega arith)
   item-at (suc n) zero ws d h = let z : 0 ≡ s * 0 = omega (arith, native.Mathlib.Nat.mul-zero s) in ap (λ (p : ℕ). itemOf s (drop p ws)) z
-  item-at (suc n) (suc i) ws d h = let k : s + s * i ≡ s * suc i = omega (arith, mul-suc s i) in item-at n i (drop s ws) d (omega arith) ∙ ap (itemOf s) (drop-drop (s * i) s ws ∙ ap (λ (m : ℕ). drop m ws) k)
+  item-at (suc n) (suc i) ws d h =
+      let k : s + s * i ≡ s * suc i = omega (arith, mul-suc s i) in
+      item-at n i (drop s ws) d (omega arith) ∙ ap (itemOf s) (drop-drop (s * i) s ws ∙ ap (λ (m : ℕ). drop m ws) k)

@@ -9,27 +9,27 @@ use Rattle.entries.specs.Entries.{Entry, entry, Sound}
 use Rattle.entries.specs.Build.{pick, andb, sameWords}
 use Rattle.blocks.specs.declared.Layout.{Layout}
 
--- the limits of 01 on the number of ranges of a set and of entries of a map
-abbrev pub setLimit : ℕ
-setLimit = 4095
-
-abbrev pub mapLimit : ℕ
-mapLimit = 2730
-
 -- how a block is laid out: the words an item takes, and the limit on the number of items
 abbrev pub layout : ℕ → ℕ → Layout
 layout s limit = record { width = s; limit = limit }
 
--- the layouts of 01's two kinds of blocks
+-- the layouts of 01's two kinds of blocks: two words a range of a set, three an entry of a map
 abbrev pub setLayout : Layout
-setLayout = layout 2 setLimit
+setLayout = layout 2 4095
 
 abbrev pub mapLayout : Layout
-mapLayout = layout 3 mapLimit
+mapLayout = layout 3 2730
+
+-- the limits alone
+abbrev pub setLimit : ℕ
+setLimit = setLayout .limit
+
+abbrev pub mapLimit : ℕ
+mapLimit = mapLayout .limit
 
 -- «capacity for L words, L at least 1 | lesser of floor((L-1)/2) and 4,095 | lesser of floor((L-1)/3) and 2,730»
-abbrev pub capacity : ℕ → ℕ → ℕ → ℕ
-capacity s limit L = min ((L - 1) / s) limit
+abbrev pub capacity : Layout → ℕ → ℕ
+capacity l L = min ((L - 1) / l .width) (l .limit)
 
 -- «item i (from 0) | words 1+2i, 2+2i: low, high | words 1+3i, 2+3i, 3+3i: low, high, value»
 abbrev pub itemOf : ℕ → List ℕ → Entry
@@ -68,12 +68,12 @@ soundb (e ∷ es) = andb (fine e es) (soundb es)
 
 -- «1 NoBlock: a block has no words; 2 Count: an input's word 0 is above its capacity; 3 Order: an input is otherwise not sound»,
 -- in this order; 0 for a sound block
-unfoldable pub verdict : ℕ → ℕ → List ℕ → ℕ
-verdict s limit w =
-    pick (eqb (length w) 0) 1 (pick (ltb (capacity s limit (length w)) (getD w 0 0)) 2 (pick (soundb (entriesOf s w)) 0 3))
+unfoldable pub verdict : Layout → List ℕ → ℕ
+verdict l w =
+    pick (eqb (length w) 0) 1 (pick (ltb (capacity l (length w)) (getD w 0 0)) 2 (pick (soundb (entriesOf (l .width) w)) 0 3))
 
 -- the same said of sound blocks (`verdict-sound`, `sound-verdict` in proofs/Judging)
-pub record SoundBlock (s limit : ℕ) (w : List ℕ) : Type 0 where
+pub record SoundBlock (l : Layout) (w : List ℕ) : Type 0 where
   pub some : 0 < length w
-  pub fits : getD w 0 0 ≤ capacity s limit (length w)
-  pub sound : Sound (entriesOf s w)
+  pub fits : getD w 0 0 ≤ capacity l (length w)
+  pub sound : Sound (entriesOf (l .width) w)

@@ -1,19 +1,41 @@
--- What every call that writes a block says of it: empty, refused for want of words or room, or stored.
+-- The refusals that every call on blocks tries, and what it leaves where it writes one.
 use mathlib.Core.List.{List, [], _∷_}
 use Prim.Native.Nat.{ℕ}
 use lib.Dec.{ltb, eqb}
 use lib.ListN.{length}
 use Rattle.entries.specs.Entries.{Entry}
-use Rattle.entries.specs.Build.{pick}
-use Rattle.answers.specs.Answers.{Outcome, outcome, given, refuse}
-use Rattle.blocks.specs.Blocks.{capacity, blockOf}
+use Rattle.answers.specs.Answers.{Outcome, outcome, given, at, applies, inTurn}
+use Rattle.answers.specs.declared.Finding.{Finding}
+use Rattle.blocks.specs.declared.Layout.{Layout}
+use Rattle.blocks.specs.Blocks.{capacity, blockOf, verdict}
 
--- The entries es into the block w at a position: «5 Room: the result has more items than the written block's capacity», else the
--- block that says them. «Room looks at the result only.» «An output's old words are not judged.»
-abbrev pub stored : ℕ → ℕ → ℕ → List ℕ → List Entry → Outcome
-stored position s limit w es =
-    pick (ltb (capacity s limit (length w)) (length es)) (refuse 5 position (w ∷ [])) (outcome (given []) (blockOf (length w) es ∷ []))
+-- the block at a position, read: «for each input block in turn 1, 2, 3»
+abbrev pub input : ℕ → Layout → List ℕ → Finding
+input position l w = at position (verdict l w)
 
--- an output at a position: «then 1 for each output in turn»
-abbrev pub writable : ℕ → List ℕ → Outcome → Outcome
-writable position w x = pick (eqb (length w) 0) (refuse 1 position (w ∷ [])) x
+-- the block of so many words at a position, written: «then 1 for each output in turn». «An output's old words are not judged.»
+abbrev pub noBlock : ℕ → ℕ
+noBlock words = applies (eqb words 0) 1
+
+abbrev pub output : ℕ → ℕ → Finding
+output position words = at position (noBlock words)
+
+-- «4 Backwards: a range given as an argument has low above high»
+abbrev pub backwards : ℕ → ℕ → Finding
+backwards a b = at 0 (applies (ltb b a) 4)
+
+-- the entries es into a block of so many words at a position: «5 Room: the result has more items than the written block's
+-- capacity». «Room looks at the result only.»
+abbrev pub noRoom : Layout → ℕ → List Entry → ℕ
+noRoom l words es = applies (ltb (capacity l words) (length es)) 5
+
+abbrev pub room : ℕ → Layout → ℕ → List Entry → Finding
+room position l words es = at position (noRoom l words es)
+
+-- accepted with no value, and the block w says es
+abbrev pub holding : List ℕ → List Entry → Outcome
+holding w es = outcome (given []) (blockOf (length w) es ∷ [])
+
+-- what remains of a call that has only room left to judge: es into the block w at a position
+abbrev pub stored : ℕ → Layout → List ℕ → List Entry → Outcome
+stored position l w es = inTurn (room position l (length w) es ∷ []) (w ∷ []) (holding w es)

@@ -4,6 +4,11 @@ use mathlib.Core.Path.{_≡_}
 use mathlib.Core.List.{List, []}
 use lib.ListN.{length, getD, take, drop}
 use Rattle.entries.specs.Entries.{Entry, entry}
+use Rattle.entries.specs.Sets.{pastM}
+
+-- what is lent as words: each is below 2^64
+abbrev pub Lent : List ℕ → Type 0
+Lent w = (j : ℕ) → getD w j 0 < pastM
 
 -- the item whose words begin at p
 abbrev pub itemFrom : ℕ → List ℕ → ℕ → Entry
@@ -21,12 +26,6 @@ pub record Held (s n : ℕ) (w : List ℕ) : Type 0 where
   pub two : 2 ≤ s
   pub held : 1 + s * n ≤ length w
 
--- r is the first of n items, of s words each, whose word at off is at least x, or n
-pub record FirstFrom (ws : List ℕ) (s off n x r : ℕ) : Type 0 where
-  pub within : r ≤ n
-  pub before : (k : ℕ) → k < r → getD ws (s * k + off) 0 < x
-  pub from : r < n → x ≤ getD ws (s * r + off) 0
-
 -- ws' is base, but that for lo ≤ k < hi word to + k is src's word from + k
 pub record Copied (src base : List ℕ) (from to lo hi : ℕ) (ws' : List ℕ) : Type 0 where
   pub same : length ws' ≡ length base
@@ -40,7 +39,8 @@ pub record Cleared (ws : List ℕ) (from : ℕ) (ws' : List ℕ) : Type 0 where
   pub before : (k : ℕ) → k < from → getD ws' k 0 ≡ getD ws k 0
   pub zero : (k : ℕ) → from ≤ k → getD ws' k 0 ≡ 0
 
--- ws' is ws with new in the place of the words from `at` up to `from`, the words up to `end` after it, count as word 0, and 0 in every later word
+-- ws' is ws with new in the place of the words from `at` up to `from`, the words up to `end` after it, count as word 0, and 0 in
+-- every later word
 pub record Spliced (ws new : List ℕ) (at from end count : ℕ) (ws' : List ℕ) : Type 0 where
   pub head : getD ws' 0 0 ≡ count
   pub front : (k : ℕ) → 0 < k → k < at → getD ws' k 0 ≡ getD ws k 0

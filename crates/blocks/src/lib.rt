@@ -1,11 +1,17 @@
-// Blocks of words, s words an item: judged, searched, and moved within. One code for sets (s = 2) and maps (s = 3).
+// Blocks of words: judged, and moved within. A layout says how many words an item takes, two in a set and three in a map.
 ghost use mathlib.Core.Path.{_≡_};
-ghost use Prim.Native.Nat.{ℕ, _+_, _*_, _<_, _≤_};
+ghost use Prim.Native.Nat.{_+_, _<_, _≤_};
 ghost use mathlib.Core.List.{[], _∷_};
 ghost use lib.ListN.{length, getD, take, drop};
-ghost use Rattle.entries.specs.Build.{sameWords};
+ghost use Rattle.entries.specs.Build.{pick, sameWords};
 ghost use Rattle.blocks.specs.Blocks.{itemsOf, capacity, fine, soundb, verdict};
-ghost use Rattle.blocks.specs.Steps.{itemFrom, Held, FirstFrom, Copied, Cleared, Spliced};
+ghost use Rattle.answers.specs.Steps.{FirstOf};
+ghost use Rattle.blocks.specs.Calls.{input};
+ghost use Rattle.blocks.specs.Steps.{itemFrom, Held, Copied, Cleared, Spliced};
+use answers::Finding;
+
+// The last number that a word says, 2^64 - 1.
+pub const M: u64 = 18446744073709551615;
 
 // How a block is laid out: the words an item takes, and the most items that it holds.
 pub struct Layout {
@@ -25,17 +31,24 @@ pub const MAP: Layout = Layout {
 };
 
 // The most ranges of a set, and the most entries of a map.
-pub const SET_LIMIT: usize = 4095;
+pub const SET_LIMIT: usize = SET.limit;
 
-pub const MAP_LIMIT: usize = 2730;
+pub const MAP_LIMIT: usize = MAP.limit;
 
 // The capacity of a block of len words, of which there is at least one.
-pub fn room_for(s: usize, limit: usize, len: usize) -> usize
-    requires { ⌜ (2 ≤ s) × (0 < len) ⌝ }
-    ensures { λ r. ⌜ r ≡ capacity s limit len ⌝ }
+pub fn room_for(layout: Layout, len: usize) -> usize
+    requires { ⌜ (2 ≤ layout .width) × (0 < len) ⌝ }
+    ensures { λ r. ⌜ r ≡ capacity layout len ⌝ }
 {
-    let c = (len - 1) / s;
-    if c < limit { c } else { limit }
+    let c = (len - 1) / layout.width;
+    if c < layout.limit { c } else { layout.limit }
+}
+
+// One of two counts or places: a choice without a branch.
+pub fn chosen(test: bool, then: usize, otherwise: usize) -> usize
+    ensures { λ r. ⌜ r ≡ pick test then otherwise ⌝ }
+{
+    if test { then } else { otherwise }
 }
 
 // A word as a count or a place: the same number.
@@ -76,7 +89,8 @@ pub fn same_words(a: &[u64], p: usize, b: &[u64], q: usize, len: usize) -> bool
     true
 }
 
-// Whether the item at word p has its ends in order and the next one may stand after it.
+// Whether the item at word p has its low at most its high, and the next one may stand after it: it begins past that high, and
+// where it touches it has another value.
 fn follows(block: &[u64], s: usize, p: usize) -> bool
     requires { ⌜ (2 ≤ s) × (p + s + s ≤ length (now block)) ⌝ }
     ensures { λ r. ⌜ r ≡ fine (itemFrom s (now (block .entry)) p) (itemFrom s (now (block .entry)) (p + s) ∷ []) ⌝ }
@@ -99,7 +113,7 @@ fn follows(block: &[u64], s: usize, p: usize) -> bool
     true
 }
 
-// Whether the n items are sound.
+// Whether the n items of s words are sound: each in order, and each may stand after the one before it.
 fn all_sound(block: &[u64], s: usize, n: usize) -> bool
     requires { ⌜ Held s n (now block) ⌝ }
     ensures { λ r. ⌜ r ≡ soundb (itemsOf s n (drop 1 (now (block .entry)))) ⌝ }
@@ -121,51 +135,41 @@ fn all_sound(block: &[u64], s: usize, n: usize) -> bool
     low <= word(block, p + 1)
 }
 
-// 0 where the block is sound, else the number of the refusal.
-pub fn judge(block: &[u64], s: usize, limit: usize) -> u8
-    requires { ⌜ 2 ≤ s ⌝ }
-    ensures { λ r. ⌜ r ≡ verdict s limit (now (block .entry)) ⌝ }
+// The judge of any words lent as a block: 0 where they are a sound block of the layout, else the number of the refusal, 1, 2 or 3.
+pub fn judge(block: &[u64], layout: Layout) -> u8
+    requires { ⌜ 2 ≤ layout .width ⌝ }
+    ensures { λ r. ⌜ r ≡ verdict layout (now (block .entry)) ⌝ }
 {
     if block.len() == 0 {
         return 1;
     }
     let n = wide(word(block, 0));
-    if room_for(s, limit, block.len()) < n {
+    if room_for(layout, block.len()) < n {
         return 2;
     }
-    if all_sound(block, s, n) {
+    if all_sound(block, layout.width, n) {
         return 0;
     }
     3
 }
 
-const MAX: u64 = 18446744073709551615;
-
-// The first of n items of s words whose word at off is at least x, or n.
-pub fn first_from(block: &[u64], s: usize, off: usize, n: usize, x: u64) -> usize
-    requires { ⌜ Held s n (now block) × (off ≤ s) ⌝ }
-    ensures { λ r. ⌜ FirstFrom (now (block .entry)) s off n x r ⌝ }
+// The first refusal of two blocks that are read, the first of which stands at a position.
+pub fn judge_two(a: &[u64], first: Layout, b: &[u64], second: Layout, position: usize) -> Finding
+    requires { ⌜ (2 ≤ first .width) × (2 ≤ second .width) × (position < 8) ⌝ }
+    ensures { λ r. ⌜ FirstOf (input position first (now (a .entry)) ∷ input (position + 1) second (now (b .entry)) ∷ []) r ⌝ }
 {
-    let mut i: usize = 0;
-    while i < n {
-        if word(block, s * i + off) < x {
-            i += 1;
-        } else {
-            return i;
-        }
+    let v = judge(a, first);
+    if v != 0 {
+        return Finding {
+            number: v,
+            place: position,
+        };
     }
-    i
-}
-
-// The first whose word at off is above x.
-pub fn first_past(block: &[u64], s: usize, off: usize, n: usize, x: u64) -> usize
-    requires { ⌜ Held s n (now block) × (off ≤ s) ⌝ }
-    ensures { λ r. ⌜ FirstFrom (now (block .entry)) s off n (x + 1) r ⌝ }
-{
-    if x == MAX {
-        return n;
+    let u = judge(b, second);
+    Finding {
+        number: u,
+        place: position + 1,
     }
-    first_from(block, s, off, n, x + 1)
 }
 
 // Moves the len words from `from` on down to `to`.
@@ -227,10 +231,12 @@ pub fn clear(block: &mut [u64], from: usize)
     }
 }
 
-// The words before `at`, then new, then the words from `from` up to `end`; count into word 0, and 0 into every later word.
+// Puts new in the place of the words from `at` up to `from`: the words before `at` stay, those from `from` up to `end` move behind
+// new. Then count is word 0, and every word behind them is 0.
 pub fn splice(block: &mut [u64], new: &[u64], at: usize, from: usize, end: usize, count: u64)
     requires { ⌜ (0 < at) × (from ≤ end) × (end ≤ length (now block)) × (end + at + length (now new) ≤ length (now block) + from) ⌝ }
-    ensures { λ _. ⌜ (length (now (block .exit)) ≡ length (now (block .entry))) × Spliced (now (block .entry)) (now (new .entry)) at from end count (now (block .exit)) ⌝ }
+    ensures { λ _. ⌜ (length (now (block .exit)) ≡ length (now (block .entry)))
+        × Spliced (now (block .entry)) (now (new .entry)) at from end count (now (block .exit)) ⌝ }
 {
     let to = at + new.len();
     let len = end - from;

@@ -1,11 +1,11 @@
 -- What the steps of the code promise each other. No public promise names these.
 use mathlib.Core.Path.{_≡_}
-use mathlib.Core.List.{List, [], _∷_}
-use Prim.Native.Nat.{ℕ, _≤_, _<_}
-use Rattle.entries.specs.Bulletins.{amended}
-use Rattle.blocks.specs.Blocks.{entriesOf}
+use mathlib.Core.List.{List}
+use Prim.Native.Nat.{ℕ, _<_}
+use Rattle.blocks.specs.Blocks.{setLayout}
+use Rattle.blocks.specs.Calls.{noRoom}
 use Rattle.sweeps.specs.Sweeps.{Input, Inputs}
-use Rattle.bulletins.specs.Calls.{noRoom}
+use Rattle.bulletins.specs.Calls.{amendedWith}
 
 -- two judged sets
 pub record Two (a b : List ℕ) : Type 0 where
@@ -23,4 +23,4 @@ pub record Folds (released₁ withdrawn₁ released₂ withdrawn₂ : List ℕ) 
 pub record Writes (list released withdrawn : List ℕ) (words : ℕ) : Type 0 where
   pub inputs : Inputs 2 2 2 list released withdrawn
   pub some : 0 < words
-  pub room : noRoom words (amended (entriesOf 2 list) (entriesOf 2 released) (entriesOf 2 withdrawn)) ≡ 0
+  pub room : noRoom setLayout words (amendedWith list released withdrawn) ≡ 0

@@ -2,22 +2,29 @@
 // Every call takes any words at all. Its contract names the whole outcome by one definition of specs/Calls.
 ghost use mathlib.Core.Path.{_≡_};
 ghost use mathlib.Core.List.{[], _∷_};
-ghost use Prim.Native.Nat.{_+_, _<_};
-ghost use lib.ListN.{length};
-ghost use Rattle.entries.specs.Bulletins.{amended};
-ghost use Rattle.answers.specs.Answers.{outcome, at};
+ghost use Prim.Native.Nat.{_<_};
+ghost use lib.ListN.{length, take, drop};
+ghost use Rattle.answers.specs.Answers.{outcome};
 ghost use Rattle.answers.specs.Steps.{FirstOf};
 ghost use Rattle.answers.specs.Says.{judgedSays};
-ghost use Rattle.blocks.specs.Blocks.{entriesOf, blockOf};
+ghost use Rattle.blocks.specs.Blocks.{SoundBlock, setLayout, entriesOf, blockOf};
+ghost use Rattle.blocks.specs.Calls.{noBlock, noRoom};
+ghost use Rattle.searches.specs.Calls.{overlapping};
 ghost use Rattle.sweeps.specs.Sweeps.{Inputs};
-ghost use Rattle.bulletins.specs.Calls.{input, noBlock, overlap, noRoom, applyRefusals, applyCall, foldRefusals, foldCall};
-ghost use Rattle.bulletins.specs.Steps.{Two, Folds, Writes};
+ghost use Rattle.bulletins.specs.Calls.{amendedWith, applyRefusals, applyCall, foldRefusals, foldCall};
+ghost use Rattle.bulletins.specs.Steps.{Folds, Writes};
 use answers::Finding;
 use answers::Judged;
 use sweeps::Plan;
 
-// The table of the sweep: bit a + 2b + 4c says whether a number is kept that is in the first (a), second (b) and third set (c).
-const WITHOUT_THIRD_JOINED_WITH_SECOND: u8 = 206;
+// A list without what is withdrawn, joined with what is released: the list, the released and the withdrawn set, into a set.
+const AMEND: Plan = Plan {
+    table: sweeps::WITHOUT_THIRD_JOINED_WITH_SECOND,
+    a: blocks::SET.width,
+    b: blocks::SET.width,
+    c: blocks::SET.width,
+    out: blocks::SET.width,
+};
 
 // 1 for an output of no words, else 0.
 fn no_block(words: usize) -> u8
@@ -31,10 +38,10 @@ fn no_block(words: usize) -> u8
 
 // 14 where the two judged sets of a bulletin share a number, else 0.
 fn shared_number(released: &[u64], withdrawn: &[u64]) -> u8
-    requires { ⌜ Two (now released) (now withdrawn) ⌝ }
-    ensures { λ r. ⌜ r ≡ overlap (entriesOf 2 (now (released .entry))) (entriesOf 2 (now (withdrawn .entry))) ⌝ }
+    requires { ⌜ SoundBlock setLayout (now released) × SoundBlock setLayout (now withdrawn) ⌝ }
+    ensures { λ r. ⌜ r ≡ overlapping (entriesOf 2 (now (released .entry))) (entriesOf 2 (now (withdrawn .entry))) ⌝ }
 {
-    if operations::share_number(released, withdrawn) {
+    if searches::share_number(released, withdrawn) {
         return 14;
     }
     0
@@ -45,20 +52,13 @@ fn shared_number(released: &[u64], withdrawn: &[u64]) -> u8
 fn no_room(list: &[u64], released: &[u64], withdrawn: &[u64], words: usize) -> u8
     requires { ⌜ Inputs 2 2 2 (now list) (now released) (now withdrawn) ⌝ }
     requires { ⌜ 0 < words ⌝ }
-    ensures { λ r. ⌜ r ≡ noRoom words (amended (entriesOf 2 (now (list .entry))) (entriesOf 2 (now (released .entry))) (entriesOf 2 (now (withdrawn .entry)))) ⌝ }
+    ensures { λ r. ⌜ r ≡ noRoom setLayout words (amendedWith (now (list .entry)) (now (released .entry)) (now (withdrawn .entry))) ⌝ }
 {
-    let plan = Plan {
-        table: WITHOUT_THIRD_JOINED_WITH_SECOND,
-        a: 2,
-        b: 2,
-        c: 2,
-        out: 2,
-    };
     let bound = searches::count_of(list)
         + searches::count_of(released)
         + searches::count_of(withdrawn);
-    let cap = blocks::room_for(2, blocks::SET_LIMIT, words);
-    if sweeps::fits(list, released, withdrawn, plan, bound, cap) {
+    let cap = blocks::room_for(blocks::SET, words);
+    if sweeps::fits(list, released, withdrawn, AMEND, bound, cap) {
         return 0;
     }
     5
@@ -67,49 +67,24 @@ fn no_room(list: &[u64], released: &[u64], withdrawn: &[u64], words: usize) -> u
 // A judged list without what is withdrawn, joined with what is released, into an output that has room for it.
 fn amend(list: &[u64], released: &[u64], withdrawn: &[u64], out: &mut [u64])
     requires { ⌜ Writes (now list) (now released) (now withdrawn) (length (now out)) ⌝ }
-    ensures { λ _. ⌜ now (out .exit) ≡ blockOf (length (now (out .entry))) (amended (entriesOf 2 (now (list .entry))) (entriesOf 2 (now (released .entry))) (entriesOf 2 (now (withdrawn .entry)))) ⌝ }
+    ensures { λ _. ⌜ now (out .exit) ≡ blockOf (length (now (out .entry)))
+        (amendedWith (now (list .entry)) (now (released .entry)) (now (withdrawn .entry))) ⌝ }
 {
-    let plan = Plan {
-        table: WITHOUT_THIRD_JOINED_WITH_SECOND,
-        a: 2,
-        b: 2,
-        c: 2,
-        out: 2,
-    };
-    sweeps::write(list, released, withdrawn, plan, out);
-}
-
-// The first refusal of two input sets, the first of which stands at a position.
-fn judge_two(a: &[u64], b: &[u64], position: usize) -> Finding
-    requires { ⌜ position < 8 ⌝ }
-    ensures { λ r. ⌜ FirstOf (input position (now (a .entry)) ∷ input (position + 1) (now (b .entry)) ∷ []) r ⌝ }
-{
-    let v = blocks::judge(a, 2, blocks::SET_LIMIT);
-    if v != 0 {
-        return Finding {
-            number: v,
-            place: position,
-        };
-    }
-    let u = blocks::judge(b, 2, blocks::SET_LIMIT);
-    Finding {
-        number: u,
-        place: position + 1,
-    }
+    sweeps::write(list, released, withdrawn, AMEND, out);
 }
 
 // The first refusal of the blocks of an application: 1, 2, 3 of each input, then 1 of an output of so many words.
 fn judge_application(list: &[u64], released: &[u64], withdrawn: &[u64], words: usize) -> Finding
-    ensures { λ r. ⌜ FirstOf (input 0 (now (list .entry)) ∷ input 1 (now (released .entry)) ∷ input 2 (now (withdrawn .entry)) ∷ at 3 (noBlock words) ∷ []) r ⌝ }
+    ensures { λ r. ⌜ FirstOf (take 4 (applyRefusals (now (list .entry)) (now (released .entry)) (now (withdrawn .entry)) words)) r ⌝ }
 {
-    let v = blocks::judge(list, 2, blocks::SET_LIMIT);
+    let v = blocks::judge(list, blocks::SET);
     if v != 0 {
         return Finding {
             number: v,
             place: 0,
         };
     }
-    let bulletin = judge_two(released, withdrawn, 1);
+    let bulletin = blocks::judge_two(released, blocks::SET, withdrawn, blocks::SET, 1);
     if bulletin.number != 0 {
         return bulletin;
     }
@@ -143,7 +118,8 @@ fn application_refusal(list: &[u64], released: &[u64], withdrawn: &[u64], words:
 
 // Applies a bulletin to a list: the list without what is withdrawn, joined with what is released, into out.
 pub fn apply(list: &[u64], released: &[u64], withdrawn: &[u64], out: &mut [u64]) -> Judged
-    ensures { λ r. ⌜ outcome (judgedSays r) (now (out .exit) ∷ []) ≡ applyCall (now (list .entry)) (now (released .entry)) (now (withdrawn .entry)) (now (out .entry)) ⌝ }
+    ensures { λ r. ⌜ outcome (judgedSays r) (now (out .exit) ∷ []) ≡ applyCall
+        (now (list .entry)) (now (released .entry)) (now (withdrawn .entry)) (now (out .entry)) ⌝ }
 {
     let found = application_refusal(list, released, withdrawn, out.len());
     if found.number != 0 {
@@ -162,13 +138,14 @@ fn judge_fold(
     words4: usize,
     words5: usize,
 ) -> Finding
-    ensures { λ r. ⌜ FirstOf (input 0 (now (released1 .entry)) ∷ input 1 (now (withdrawn1 .entry)) ∷ input 2 (now (released2 .entry)) ∷ input 3 (now (withdrawn2 .entry)) ∷ at 4 (noBlock words4) ∷ at 5 (noBlock words5) ∷ []) r ⌝ }
+    ensures { λ r. ⌜ FirstOf
+        (take 6 (foldRefusals (now (released1 .entry)) (now (withdrawn1 .entry)) (now (released2 .entry)) (now (withdrawn2 .entry)) words4 words5)) r ⌝ }
 {
-    let earlier = judge_two(released1, withdrawn1, 0);
+    let earlier = blocks::judge_two(released1, blocks::SET, withdrawn1, blocks::SET, 0);
     if earlier.number != 0 {
         return earlier;
     }
-    let later = judge_two(released2, withdrawn2, 2);
+    let later = blocks::judge_two(released2, blocks::SET, withdrawn2, blocks::SET, 2);
     if later.number != 0 {
         return later;
     }
@@ -195,7 +172,8 @@ fn fold_rooms(
     words5: usize,
 ) -> Finding
     requires { ⌜ Folds (now released1) (now withdrawn1) (now released2) (now withdrawn2) words4 words5 ⌝ }
-    ensures { λ r. ⌜ FirstOf (at 4 (noRoom words4 (amended (entriesOf 2 (now (released1 .entry))) (entriesOf 2 (now (released2 .entry))) (entriesOf 2 (now (withdrawn2 .entry))))) ∷ at 5 (noRoom words5 (amended (entriesOf 2 (now (withdrawn1 .entry))) (entriesOf 2 (now (withdrawn2 .entry))) (entriesOf 2 (now (released2 .entry))))) ∷ []) r ⌝ }
+    ensures { λ r. ⌜ FirstOf
+        (drop 8 (foldRefusals (now (released1 .entry)) (now (withdrawn1 .entry)) (now (released2 .entry)) (now (withdrawn2 .entry)) words4 words5)) r ⌝ }
 {
     let full = no_room(released1, released2, withdrawn2, words4);
     if full != 0 {
@@ -219,7 +197,8 @@ fn fold_refusal(
     words4: usize,
     words5: usize,
 ) -> Finding
-    ensures { λ r. ⌜ FirstOf (foldRefusals (now (released1 .entry)) (now (withdrawn1 .entry)) (now (released2 .entry)) (now (withdrawn2 .entry)) words4 words5) r ⌝ }
+    ensures { λ r. ⌜ FirstOf
+        (foldRefusals (now (released1 .entry)) (now (withdrawn1 .entry)) (now (released2 .entry)) (now (withdrawn2 .entry)) words4 words5) r ⌝ }
 {
     let found = judge_fold(released1, withdrawn1, released2, withdrawn2, words4, words5);
     if found.number != 0 {
@@ -251,7 +230,8 @@ pub fn fold(
     released: &mut [u64],
     withdrawn: &mut [u64],
 ) -> Judged
-    ensures { λ r. ⌜ outcome (judgedSays r) (now (released .exit) ∷ now (withdrawn .exit) ∷ []) ≡ foldCall (now (released1 .entry)) (now (withdrawn1 .entry)) (now (released2 .entry)) (now (withdrawn2 .entry)) (now (released .entry)) (now (withdrawn .entry)) ⌝ }
+    ensures { λ r. ⌜ outcome (judgedSays r) (now (released .exit) ∷ now (withdrawn .exit) ∷ []) ≡ foldCall
+        (now (released1 .entry)) (now (withdrawn1 .entry)) (now (released2 .entry)) (now (withdrawn2 .entry)) (now (released .entry)) (now (withdrawn .entry)) ⌝ }
 {
     let found = fold_refusal(
         released1,

@@ -7,25 +7,27 @@ use Prim.Native.Nat.{ℕ, _≤_, _<_}
 use native.Mathlib.Omega.{arith}
 use native.Mathlib.Decide.{decLt}
 use lib.Dec.{ltb}
-use lib.ListN.{length, getD}
+use lib.ListN.{length}
 use borrow.Author.Tests.{lt-ltb}
 use Rattle.entries.specs.Entries.{Entry}
-use Rattle.entries.specs.Build.{pick}
-use Rattle.entries.specs.Sets.{M, has, member, intersection}
+use Rattle.entries.specs.Sets.{M, pastM, has, member, intersection}
 use Rattle.entries.specs.Questions.{isEmpty}
 use Rattle.entries.specs.Bulletins.{amended, shareb}
 use Rattle.entries.proofs.Values.{true≢false}
 use Rattle.entries.proofs.Plain.{set-canonical}
 use Rattle.entries.proofs.Bulletins.{amend, Apart, apart-sym, amended-is, amended-amended, amended-apart, amended-swap, effect-released, effect-withdrawn}
-use Rattle.answers.specs.Answers.{given, Outcome, outcome, Keeps, inTurn}
-use Rattle.blocks.specs.Blocks.{setLimit, entriesOf, blockOf, verdict}
-use Rattle.blocks.proofs.Judging.{verdict-sound, room}
+use Rattle.answers.specs.Answers.{given, Outcome, outcome, applies, Keeps}
+use Rattle.blocks.specs.Blocks.{setLayout, entriesOf, blockOf, verdict}
+use Rattle.blocks.specs.Calls.{noBlock, noRoom}
+use Rattle.blocks.specs.Steps.{Lent}
+use Rattle.blocks.proofs.Judging.{verdict-sound, room-words}
+use Rattle.blocks.proofs.Refusing.{some-words, room-fits}
+use Rattle.searches.specs.Calls.{overlapping}
 use Rattle.blocks.proofs.Canonical.{Zeros, entries-stored, length-stored, sound-stored, plain-shaped}
 use Rattle.sets.proofs.Asking.{entries-plain}
 use Rattle.sweeps.proofs.Tables.{bounded}
-use Rattle.bulletins.specs.Calls.{noBlock, overlap, noRoom, applyRefusals, applyCall, foldRefusals, foldCall}
-use Rattle.answers.specs.Steps.{Clear}
-use Rattle.bulletins.proofs.Amending.{some-words, room-fits}
+use Rattle.bulletins.specs.Calls.{applyRefusals, applyCall, foldRefusals, foldCall}
+use Rattle.answers.specs.Steps.{Clear, numberAt}
 use Rattle.answers.proofs.Turns.{turn-keeps, turn-accepted, clear-turn, clear-at}
 use Rattle.demands.proofs.Accepting.{SetLeft}
 use Rattle.demands.proofs.Sets.{one-form, disjoint-means, means-disjoint}
@@ -36,8 +38,8 @@ accepted after = outcome (given []) after
 
 -- «A bulletin is two set blocks with no number in common, released R and withdrawn W, in that order.»
 pub record Bulletin (released withdrawn : List ℕ) : Type 0 where
-  pub released-sound : verdict 2 setLimit released ≡ 0
-  pub withdrawn-sound : verdict 2 setLimit withdrawn ≡ 0
+  pub released-sound : verdict setLayout released ≡ 0
+  pub withdrawn-sound : verdict setLayout withdrawn ≡ 0
   pub apart : Apart (entriesOf 2 released) (entriesOf 2 withdrawn)
 
 -- REFUSED: nothing lent is changed
@@ -49,19 +51,19 @@ pub fold-keeps : (r₁ w₁ r₂ w₂ outR outW : List ℕ) → Keeps (outR ∷ 
 unfolding foldCall
 fold-keeps r₁ w₁ r₂ w₂ outR outW = turn-keeps (foldRefusals r₁ w₁ r₂ w₂ (length outR) (length outW)) (outR ∷ outW ∷ []) _ tt
 
-overlap-apart : (r w : List Entry) → overlap r w ≡ 0 → Apart r w
-unfolding overlap shareb
+overlap-apart : (r w : List Entry) → overlapping r w ≡ 0 → Apart r w
+unfolding shareb
 overlap-apart r w e = disjoint-means r w (go (intersection r w) e)
   where
-    go : (es : List Entry) → _≡_ {A = ℕ} (pick (ltb 0 (length es)) 14 0) 0 → isEmpty es ≡ true
+    go : (es : List Entry) → _≡_ {A = ℕ} (applies (ltb 0 (length es)) 14) 0 → isEmpty es ≡ true
     go [] e = refl
     go (x ∷ es) e = absurd (let z : 14 ≡ 0 = rw (lt-ltb 0 (length (x ∷ es)) (omega arith)) at e in omega arith)
 
-apart-overlap : (r w : List Entry) → Apart r w → overlap r w ≡ 0
-unfolding overlap shareb
+apart-overlap : (r w : List Entry) → Apart r w → overlapping r w ≡ 0
+unfolding shareb
 apart-overlap r w h = go (intersection r w) (means-disjoint r w h)
   where
-    go : (es : List Entry) → isEmpty es ≡ true → _≡_ {A = ℕ} (pick (ltb 0 (length es)) 14 0) 0
+    go : (es : List Entry) → isEmpty es ≡ true → _≡_ {A = ℕ} (applies (ltb 0 (length es)) 14) 0
     go [] e = refl
     go (x ∷ es) e = absurd (true≢false (sym e))
 
@@ -70,41 +72,47 @@ module _ (L : ℕ) (s r w : List Entry) where
   amended-entries : entriesOf 2 (blockOf L (amended s r w)) ≡ amended s r w
   amended-entries = entries-stored 2 (omega arith) L (amended s r w) (plain-shaped (amended s r w) (amended-is s r w .plain))
 
-  amended-left : noBlock L ≡ 0 → noRoom L (amended s r w) ≡ 0 → SetLeft L (λ x. amend (member s x) (member r x) (member w x)) (blockOf L (amended s r w))
+  amended-left : noBlock L ≡ 0 → noRoom setLayout L (amended s r w) ≡ 0
+      → SetLeft L (λ x. amend (member s x) (member r x) (member w x)) (blockOf L (amended s r w))
   amended-left b f =
       let p = some-words L b in
-      let q = room-fits L (amended s r w) f in
+      let q = room-fits setLayout L (amended s r w) f in
       let h = plain-shaped (amended s r w) (amended-is s r w .plain) in
       record {
-        sound = sound-stored 2 (omega arith) L (amended s r w) h setLimit p q (amended-is s r w .sound);
-        long = length-stored 2 (omega arith) L (amended s r w) h (room 2 setLimit L (length (amended s r w)) p q);
+        sound = sound-stored setLayout (omega arith) L (amended s r w) h p q (amended-is s r w .sound);
+        long = length-stored 2 (omega arith) L (amended s r w) h (room-words setLayout L (length (amended s r w)) p q);
         members = λ x. ap (λ (l : List Entry). member l x) amended-entries ∙ amended-is s r w .members x;
         stored-form = ap (blockOf L) (sym amended-entries);
       }
 
 -- an accepted application
 record Applied (list released withdrawn out after : List ℕ) : Type 0 where
-  clear : Clear (applyRefusals list released withdrawn (length out))
+  clear : (i : ℕ) → numberAt (applyRefusals list released withdrawn (length out)) i ≡ 0
   words : after ≡ blockOf (length out) (amended (entriesOf 2 list) (entriesOf 2 released) (entriesOf 2 withdrawn))
 
-applied : (list released withdrawn out after : List ℕ) → applyCall list released withdrawn out ≡ accepted (after ∷ []) → Applied list released withdrawn out after
+applied : (list released withdrawn out after : List ℕ) → applyCall list released withdrawn out ≡ accepted (after ∷ [])
+    → Applied list released withdrawn out after
 unfolding applyCall
 applied list released withdrawn out after e =
-    let k = turn-accepted (applyRefusals list released withdrawn (length out)) (out ∷ []) _ [] (after ∷ []) e in record { clear = k .0; words = same _ (k .1) }
+    let fs = applyRefusals list released withdrawn (length out) in
+    let k = turn-accepted fs (out ∷ []) _ [] (after ∷ []) e in
+    record { clear = clear-at fs (k .0); words = same _ (k .1) }
   where
     same : (l : List ℕ) → outcome (given []) (l ∷ []) ≡ accepted (after ∷ []) → after ≡ l
     same l d = cc
 
 -- an accepted fold
 record Folded (r₁ w₁ r₂ w₂ outR outW R W : List ℕ) : Type 0 where
-  clear : Clear (foldRefusals r₁ w₁ r₂ w₂ (length outR) (length outW))
+  clear : (i : ℕ) → numberAt (foldRefusals r₁ w₁ r₂ w₂ (length outR) (length outW)) i ≡ 0
   released : R ≡ blockOf (length outR) (amended (entriesOf 2 r₁) (entriesOf 2 r₂) (entriesOf 2 w₂))
   withdrawn : W ≡ blockOf (length outW) (amended (entriesOf 2 w₁) (entriesOf 2 w₂) (entriesOf 2 r₂))
 
 folded : (r₁ w₁ r₂ w₂ outR outW R W : List ℕ) → foldCall r₁ w₁ r₂ w₂ outR outW ≡ accepted (R ∷ W ∷ []) → Folded r₁ w₁ r₂ w₂ outR outW R W
 unfolding foldCall
 folded r₁ w₁ r₂ w₂ outR outW R W e =
-    let k = turn-accepted (foldRefusals r₁ w₁ r₂ w₂ (length outR) (length outW)) (outR ∷ outW ∷ []) _ [] (R ∷ W ∷ []) e in record { clear = k .0; released = first _ _ (k .1); withdrawn = second _ _ (k .1) }
+    let fs = foldRefusals r₁ w₁ r₂ w₂ (length outR) (length outW) in
+    let k = turn-accepted fs (outR ∷ outW ∷ []) _ [] (R ∷ W ∷ []) e in
+    record { clear = clear-at fs (k .0); released = first _ _ (k .1); withdrawn = second _ _ (k .1) }
   where
     first : (l m : List ℕ) → outcome (given []) (l ∷ m ∷ []) ≡ accepted (R ∷ W ∷ []) → R ≡ l
     first l m d = cc
@@ -117,7 +125,7 @@ pub apply-means : (list released withdrawn out after : List ℕ) → applyCall l
     → SetLeft (length out) (λ x. amend (member (entriesOf 2 list) x) (member (entriesOf 2 released) x) (member (entriesOf 2 withdrawn) x)) after
 apply-means list released withdrawn out after e =
     let a = applied list released withdrawn out after e in
-    rw (a .words) (amended-left (length out) (entriesOf 2 list) (entriesOf 2 released) (entriesOf 2 withdrawn) (a .clear .1 .1 .1 .0) (a .clear .1 .1 .1 .1 .1 .0))
+    rw (a .words) (amended-left (length out) (entriesOf 2 list) (entriesOf 2 released) (entriesOf 2 withdrawn) (a .clear 3) (a .clear 5))
 
 -- an accepted fold
 module _ (r₁ w₁ r₂ w₂ outR outW R W : List ℕ) (e : foldCall r₁ w₁ r₂ w₂ outR outW ≡ accepted (R ∷ W ∷ [])) where
@@ -127,11 +135,11 @@ module _ (r₁ w₁ r₂ w₂ outR outW R W : List ℕ) (e : foldCall r₁ w₁ 
   -- FOLD, in the words of membership alone
   pub fold-released : SetLeft (length outR) (λ x. amend (member (entriesOf 2 r₁) x) (member (entriesOf 2 r₂) x) (member (entriesOf 2 w₂) x)) R
   unfolding f
-  fold-released = rw (f .released) (amended-left (length outR) (entriesOf 2 r₁) (entriesOf 2 r₂) (entriesOf 2 w₂) (f .clear .1 .1 .1 .1 .0) (f .clear .1 .1 .1 .1 .1 .1 .1 .1 .0))
+  fold-released = rw (f .released) (amended-left (length outR) (entriesOf 2 r₁) (entriesOf 2 r₂) (entriesOf 2 w₂) (f .clear 4) (f .clear 8))
 
   pub fold-withdrawn : SetLeft (length outW) (λ x. amend (member (entriesOf 2 w₁) x) (member (entriesOf 2 w₂) x) (member (entriesOf 2 r₂) x)) W
   unfolding f
-  fold-withdrawn = rw (f .withdrawn) (amended-left (length outW) (entriesOf 2 w₁) (entriesOf 2 w₂) (entriesOf 2 r₂) (f .clear .1 .1 .1 .1 .1 .0) (f .clear .1 .1 .1 .1 .1 .1 .1 .1 .1 .0))
+  fold-withdrawn = rw (f .withdrawn) (amended-left (length outW) (entriesOf 2 w₁) (entriesOf 2 w₂) (entriesOf 2 r₂) (f .clear 5) (f .clear 9))
 
   entries-released : entriesOf 2 R ≡ amended (entriesOf 2 r₁) (entriesOf 2 r₂) (entriesOf 2 w₂)
   entries-released = ap (entriesOf 2) (f .released) ∙ amended-entries (length outR) (entriesOf 2 r₁) (entriesOf 2 r₂) (entriesOf 2 w₂)
@@ -142,7 +150,8 @@ module _ (r₁ w₁ r₂ w₂ outR outW R W : List ℕ) (e : foldCall r₁ w₁ 
   folded-apart : Apart (entriesOf 2 R) (entriesOf 2 W)
   folded-apart =
       rw (entries-released, entries-withdrawn)
-      (amended-apart (entriesOf 2 r₁) (entriesOf 2 w₁) (entriesOf 2 r₂) (entriesOf 2 w₂) (overlap-apart (entriesOf 2 r₁) (entriesOf 2 w₁) (f .clear .1 .1 .1 .1 .1 .1 .0)) (overlap-apart (entriesOf 2 r₂) (entriesOf 2 w₂) (f .clear .1 .1 .1 .1 .1 .1 .1 .0)))
+      (amended-apart (entriesOf 2 r₁) (entriesOf 2 w₁) (entriesOf 2 r₂) (entriesOf 2 w₂)
+      (overlap-apart (entriesOf 2 r₁) (entriesOf 2 w₁) (f .clear 6)) (overlap-apart (entriesOf 2 r₂) (entriesOf 2 w₂) (f .clear 7)))
 
   -- THE FOLD OF TWO BULLETINS IS A BULLETIN
   pub fold-bulletin : Bulletin R W
@@ -179,17 +188,17 @@ fold-applies list r₁ w₁ r₂ w₂ outR outW R W out₁ T out₂ U out e p q 
 
     clears : Clear (applyRefusals list R W (length out))
     clears = (
-      first .clear .0,
+      first .clear 0,
       (
         bulletin .released-sound,
         (
           bulletin .withdrawn-sound,
           (
-            ap noBlock l ∙ second .clear .1 .1 .1 .0,
+            ap noBlock l ∙ second .clear 3,
             (
               apart-overlap (entriesOf 2 R) (entriesOf 2 W) (bulletin .apart),
               (
-                ap₂ noRoom l same ∙ second .clear .1 .1 .1 .1 .1 .0,
+                ap₂ (noRoom setLayout) l same ∙ second .clear 5,
                 tt,
               ),
             ),
@@ -211,7 +220,7 @@ same-words o a b c d p q = let e : accepted (a ∷ b ∷ []) ≡ accepted (c ∷
 -- a fold of two bulletins with these results, into outputs as long as those that had room for them
 fold-as : (r₁ w₁ r₂ w₂ outR outW outR′ outW′ R W : List ℕ) (rs ws : List Entry) → Bulletin r₁ w₁ → Bulletin r₂ w₂
     → amended (entriesOf 2 r₁) (entriesOf 2 r₂) (entriesOf 2 w₂) ≡ rs → amended (entriesOf 2 w₁) (entriesOf 2 w₂) (entriesOf 2 r₂) ≡ ws
-    → noBlock (length outR) ≡ 0 → noBlock (length outW) ≡ 0 → noRoom (length outR) rs ≡ 0 → noRoom (length outW) ws ≡ 0
+    → noBlock (length outR) ≡ 0 → noBlock (length outW) ≡ 0 → noRoom setLayout (length outR) rs ≡ 0 → noRoom setLayout (length outW) ws ≡ 0
     → R ≡ blockOf (length outR) rs → W ≡ blockOf (length outW) ws → length outR′ ≡ length outR → length outW′ ≡ length outW
     → foldCall r₁ w₁ r₂ w₂ outR′ outW′ ≡ accepted (R ∷ W ∷ [])
 unfolding foldCall
@@ -237,9 +246,9 @@ fold-as r₁ w₁ r₂ w₂ outR outW outR′ outW′ R W rs ws b c er ew nr nw 
                   (
                     apart-overlap (entriesOf 2 r₂) (entriesOf 2 w₂) (c .apart),
                     (
-                      ap₂ noRoom l er ∙ fr,
+                      ap₂ (noRoom setLayout) l er ∙ fr,
                       (
-                        ap₂ noRoom m ew ∙ fw,
+                        ap₂ (noRoom setLayout) m ew ∙ fw,
                         tt,
                       ),
                     ),
@@ -258,10 +267,10 @@ module _ (r₁ w₁ r₂ w₂ outR outW R W : List ℕ) (e : foldCall r₁ w₁ 
   g = folded r₁ w₁ r₂ w₂ outR outW R W e
 
   pub earlier-bulletin : Bulletin r₁ w₁
-  earlier-bulletin = record { released-sound = g .clear .0; withdrawn-sound = g .clear .1 .0; apart = overlap-apart (entriesOf 2 r₁) (entriesOf 2 w₁) (g .clear .1 .1 .1 .1 .1 .1 .0) }
+  earlier-bulletin = record { released-sound = g .clear 0; withdrawn-sound = g .clear 1; apart = overlap-apart (entriesOf 2 r₁) (entriesOf 2 w₁) (g .clear 6) }
 
   pub later-bulletin : Bulletin r₂ w₂
-  later-bulletin = record { released-sound = g .clear .1 .1 .0; withdrawn-sound = g .clear .1 .1 .1 .0; apart = overlap-apart (entriesOf 2 r₂) (entriesOf 2 w₂) (g .clear .1 .1 .1 .1 .1 .1 .1 .0) }
+  later-bulletin = record { released-sound = g .clear 2; withdrawn-sound = g .clear 3; apart = overlap-apart (entriesOf 2 r₂) (entriesOf 2 w₂) (g .clear 7) }
 
 -- GROUPING: where (1, 2), then 3, and (2, 3) fold, so does 1 with (2, 3), into outputs of the same lengths, to the same words
 pub fold-regroups : (r₁ w₁ r₂ w₂ r₃ w₃ : List ℕ) (o₁ o₂ o₃ o₄ o₅ o₆ o₇ o₈ : List ℕ) (R₁₂ W₁₂ R W R₂₃ W₂₃ : List ℕ)
@@ -273,7 +282,7 @@ pub fold-regroups : (r₁ w₁ r₂ w₂ r₃ w₃ : List ℕ) (o₁ o₂ o₃ o
 fold-regroups r₁ w₁ r₂ w₂ r₃ w₃ o₁ o₂ o₃ o₄ o₅ o₆ o₇ o₈ R₁₂ W₁₂ R W R₂₃ W₂₃ a b c l m =
     let f = folded R₁₂ W₁₂ r₃ w₃ o₃ o₄ R W b in
     fold-as r₁ w₁ R₂₃ W₂₃ o₃ o₄ o₇ o₈ R W _ _ (earlier-bulletin r₁ w₁ r₂ w₂ o₁ o₂ R₁₂ W₁₂ a) (fold-bulletin r₂ w₂ r₃ w₃ o₅ o₆ R₂₃ W₂₃ c) released withdrawn
-    (f .clear .1 .1 .1 .1 .0) (f .clear .1 .1 .1 .1 .1 .0) (f .clear .1 .1 .1 .1 .1 .1 .1 .1 .0) (f .clear .1 .1 .1 .1 .1 .1 .1 .1 .1 .0) (f .released) (f .withdrawn) l m
+    (f .clear 4) (f .clear 5) (f .clear 8) (f .clear 9) (f .released) (f .withdrawn) l m
   where
     released : amended (entriesOf 2 r₁) (entriesOf 2 R₂₃) (entriesOf 2 W₂₃) ≡ amended (entriesOf 2 R₁₂) (entriesOf 2 r₃) (entriesOf 2 w₃)
     released =
@@ -309,8 +318,9 @@ fold-other-order r₁ w₁ r₂ w₂ outR outW outR′ outW′ R W p q a l m =
     let f = folded r₁ w₁ r₂ w₂ outR outW R W a in
     fold-as r₂ w₂ r₁ w₁ outR outW outR′ outW′ R W _ _ (later-bulletin r₁ w₁ r₂ w₂ outR outW R W a) (earlier-bulletin r₁ w₁ r₂ w₂ outR outW R W a)
     (amended-swap (entriesOf 2 r₂) (entriesOf 2 w₂) (entriesOf 2 r₁) (entriesOf 2 w₁) q p)
-    (amended-swap (entriesOf 2 w₂) (entriesOf 2 r₂) (entriesOf 2 w₁) (entriesOf 2 r₁) (apart-sym (entriesOf 2 r₁) (entriesOf 2 w₂) p) (apart-sym (entriesOf 2 r₂) (entriesOf 2 w₁) q))
-    (f .clear .1 .1 .1 .1 .0) (f .clear .1 .1 .1 .1 .1 .0) (f .clear .1 .1 .1 .1 .1 .1 .1 .1 .0) (f .clear .1 .1 .1 .1 .1 .1 .1 .1 .1 .0) (f .released) (f .withdrawn) l m
+    (amended-swap (entriesOf 2 w₂) (entriesOf 2 r₂) (entriesOf 2 w₁) (entriesOf 2 r₁) (apart-sym (entriesOf 2 r₁) (entriesOf 2 w₂) p)
+    (apart-sym (entriesOf 2 r₂) (entriesOf 2 w₁) q))
+    (f .clear 4) (f .clear 5) (f .clear 8) (f .clear 9) (f .released) (f .withdrawn) l m
 
 -- «Two bulletins, neither of which releases a number that the other withdraws, fold in either order, if accepted, to the same words,
 -- into output blocks of the same lengths.»
@@ -323,31 +333,31 @@ pub fold-either-order : (r₁ w₁ r₂ w₂ outR outW outR′ outW′ R W R′ 
 fold-either-order r₁ w₁ r₂ w₂ outR outW outR′ outW′ R W R′ W′ p q a b l m =
     same-words (foldCall r₂ w₂ r₁ w₁ outR′ outW′) R W R′ W′ (fold-other-order r₁ w₁ r₂ w₂ outR outW outR′ outW′ R W p q a l m) b
 
--- THE SAME EFFECT: two bulletins that do the same to every serial, listed before or not, hold the same ranges. A lent block's words are below 2^64.
-abbrev pub Lent : List ℕ → Type 0
-Lent w = (j : ℕ) → getD w j 0 < 18446744073709551616
-
+-- THE SAME EFFECT: two bulletins that do the same to every serial, listed before or not, hold the same ranges. A lent block's words are
+-- below 2^64.
 abbrev pub Effect : List ℕ → List ℕ → Bool → ℕ → Bool
 Effect released withdrawn listed x = amend listed (member (entriesOf 2 released) x) (member (entriesOf 2 withdrawn) x)
 
 module _ (r w r′ w′ : List ℕ) (b : Bulletin r w) (b′ : Bulletin r′ w′) (lr : Lent r) (lw : Lent w) (lr′ : Lent r′) (lw′ : Lent w′)
     (h : (listed : Bool) (x : ℕ) → x ≤ M → Effect r w listed x ≡ Effect r′ w′ listed x) where
-  outside : (v : List ℕ) → Lent v → (x : ℕ) → 18446744073709551616 ≤ x → member (entriesOf 2 v) x ≡ false
+  outside : (v : List ℕ) → Lent v → (x : ℕ) → pastM ≤ x → member (entriesOf 2 v) x ≡ false
   outside v l x k = ap has (bounded 2 v l x k)
 
   everywhere : (listed : Bool) (x : ℕ) → Effect r w listed x ≡ Effect r′ w′ listed x
-  everywhere listed x = go (decLt x 18446744073709551616)
+  everywhere listed x = go (decLt x pastM)
     where
-      go : Dec (x < 18446744073709551616) → Effect r w listed x ≡ Effect r′ w′ listed x
+      go : Dec (x < pastM) → Effect r w listed x ≡ Effect r′ w′ listed x
       go (yes k) = h listed x (omega arith)
       go (no k) =
-          let k : 18446744073709551616 ≤ x = omega arith in
+          let k : pastM ≤ x = omega arith in
           ap₂ (amend listed) (outside r lr x k ∙ sym (outside r′ lr′ x k)) (outside w lw x k ∙ sym (outside w′ lw′ x k))
 
   pub same-effect : (entriesOf 2 r ≡ entriesOf 2 r′) × (entriesOf 2 w ≡ entriesOf 2 w′)
   same-effect = (
-    set-canonical (entriesOf 2 r) (entriesOf 2 r′) (verdict-sound 2 setLimit r (b .released-sound) .sound) (verdict-sound 2 setLimit r′ (b′ .released-sound) .sound) (entries-plain r) (entries-plain r′) released,
-    set-canonical (entriesOf 2 w) (entriesOf 2 w′) (verdict-sound 2 setLimit w (b .withdrawn-sound) .sound) (verdict-sound 2 setLimit w′ (b′ .withdrawn-sound) .sound) (entries-plain w) (entries-plain w′) withdrawn,
+    set-canonical (entriesOf 2 r) (entriesOf 2 r′) (verdict-sound setLayout r (b .released-sound) .sound)
+        (verdict-sound setLayout r′ (b′ .released-sound) .sound) (entries-plain r) (entries-plain r′) released,
+    set-canonical (entriesOf 2 w) (entriesOf 2 w′) (verdict-sound setLayout w (b .withdrawn-sound) .sound)
+        (verdict-sound setLayout w′ (b′ .withdrawn-sound) .sound) (entries-plain w) (entries-plain w′) withdrawn,
   )
     where
       released : (x : ℕ) → member (entriesOf 2 r) x ≡ member (entriesOf 2 r′) x

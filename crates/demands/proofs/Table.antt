@@ -3,7 +3,7 @@
 use mathlib.Core.Path.{_≡_, refl}
 use mathlib.Core.Bool.{Bool, true, false}
 use mathlib.Core.List.{List, [], _∷_, _++_}
-use Prim.Native.Nat.{ℕ, suc}
+use Prim.Native.Nat.{ℕ, suc, _-_}
 use lib.Dec.{eqb}
 use lib.ListN.{take, replicate}
 use Rattle.entries.specs.Build.{pick, andb, sameWords, put}
@@ -16,7 +16,7 @@ use Rattle.sets.specs.Calls.{memberCall, sizeCall, leastNonMemberCall, insertCa
 use Rattle.fits.specs.Fits.{gaps, placeIn}
 use Rattle.fits.specs.Calls.{fitCall, reserveCall, firstFitCall, bestFitCall, reserveFirstCall, reserveBestCall}
 use Rattle.maps.specs.Calls.{assignCall}
-use Rattle.bulletins.specs.Calls.{noBlock, overlap, noRoom, applyCall, foldCall}
+use Rattle.bulletins.specs.Calls.{applyCall, foldCall}
 use Rattle.records.specs.Check.{fletcher, checkOf}
 use Rattle.records.specs.Records.{bodyLength, headVerdict, startVerdict, itemVerdict}
 use Rattle.runs.specs.Runs.{runOf, entriesIn, runVerdict}
@@ -59,6 +59,10 @@ refusing number place w = outcome (refused number place) (w ∷ [])
 
 abbrev answer : List ℕ → Outcome
 answer xs = outcome (given xs) []
+
+-- the number before the last
+abbrev lessM : ℕ
+lessM = M - 1
 
 -- the set of case F
 abbrev F : List ℕ
@@ -129,9 +133,9 @@ table =
     ∷ case (memberCall (2 ∷ 0 ∷ M ∷ 5 ∷ 6 ∷ []) 7) (outcome (refused 3 0) [])
     -- at 0 and at M: insert 0..M into anything; remove M..M from {0..M}; complements of {0..0} and {M..M}; {0..5} and {6..M} are one range
     ∷ case (insertCall (2 ∷ 3 ∷ 4 ∷ 8 ∷ M ∷ []) 0 M) (accepted (1 ∷ 0 ∷ M ∷ 0 ∷ 0 ∷ []))
-    ∷ case (removeCall (1 ∷ 0 ∷ M ∷ []) M M) (accepted (1 ∷ 0 ∷ 18446744073709551614 ∷ []))
+    ∷ case (removeCall (1 ∷ 0 ∷ M ∷ []) M M) (accepted (1 ∷ 0 ∷ lessM ∷ []))
     ∷ case (complementCall (1 ∷ 0 ∷ 0 ∷ []) (7 ∷ 7 ∷ 7 ∷ [])) (accepted (1 ∷ 1 ∷ M ∷ []))
-    ∷ case (complementCall (1 ∷ M ∷ M ∷ []) (7 ∷ 7 ∷ 7 ∷ [])) (accepted (1 ∷ 0 ∷ 18446744073709551614 ∷ []))
+    ∷ case (complementCall (1 ∷ M ∷ M ∷ []) (7 ∷ 7 ∷ 7 ∷ [])) (accepted (1 ∷ 0 ∷ lessM ∷ []))
     ∷ case (unionCall (1 ∷ 0 ∷ 5 ∷ []) (1 ∷ 6 ∷ M ∷ []) (7 ∷ 7 ∷ 7 ∷ [])) (accepted (1 ∷ 0 ∷ M ∷ []))
     -- L: three words holding {5..9}
     ∷ case (insertCall (1 ∷ 5 ∷ 9 ∷ []) 11 11) (refusing 5 0 (1 ∷ 5 ∷ 9 ∷ []))
@@ -139,5 +143,7 @@ table =
     ∷ []
 
 pub worked : wrong 0 table ≡ []
-unfolding editCall verdict put blockOf memberCall sizeCall leastNonMemberCall unionCall complementCall complement union intersection difference fitCall reserveCall placeIn gaps noBlock overlap shareb noRoom applyCall foldCall readCall writeCall formOf formVerdict formEntries runOf runVerdict entriesIn startVerdict itemVerdict headVerdict bodyLength checkOf fletcher
+unfolding editCall verdict put blockOf memberCall sizeCall leastNonMemberCall unionCall complementCall complement union intersection difference
+    fitCall reserveCall placeIn gaps shareb applyCall foldCall readCall writeCall formOf formVerdict formEntries runOf runVerdict entriesIn
+    startVerdict itemVerdict headVerdict bodyLength checkOf fletcher
 worked = refl

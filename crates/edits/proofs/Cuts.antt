@@ -46,15 +46,18 @@ trim-shaped s lo [] h = tt
 trim-shaped s lo (x ∷ []) h = h
 trim-shaped s lo (x ∷ y ∷ P) h = (h .0, trim-shaped s lo (y ∷ P) (h .1))
 
-pub end-entries : (s L i lo : ℕ) (P Y : List Entry) (w : List ℕ) → Shaped s P → length P ≡ i → w ≡ blockOf L (P ++ Y) → cutEnd s i lo w ≡ blockOf L (trimEnd lo P ++ Y)
+pub end-entries : (s L i lo : ℕ) (P Y : List Entry) (w : List ℕ) → Shaped s P → length P ≡ i → w ≡ blockOf L (P ++ Y)
+    → cutEnd s i lo w ≡ blockOf L (trimEnd lo P ++ Y)
 unfolding blockOf
 end-entries s L i lo [] Y w h e b = let z : i ≡ 0 = omega arith in rw (eq-eqb i 0 z) b
 end-entries s L i lo (x ∷ P) Y w h e b =
     let ne : i ≡ 0 → ⊥ = λ q. omega arith in
     let at : s * (i - 1) + 2 ≡ 1 + (s * (i - 1) + 1) = omega arith in
-    rw (ne-eqb i 0 ne) (ap (λ (l : List ℕ). update l (s * (i - 1) + 2) (λ h. min h (lo - 1))) (b ∙ ap (λ (l : List ℕ). n ∷ l) (ap (λ (l : List ℕ). l ++ R) (words-append (x ∷ P) Y) ∙ append-assoc (wordsOf (x ∷ P)) (wordsOf Y) R))
+    rw (ne-eqb i 0 ne) (ap (λ (l : List ℕ). update l (s * (i - 1) + 2) (λ h. min h (lo - 1)))
+    (b ∙ ap (λ (l : List ℕ). n ∷ l) (ap (λ (l : List ℕ). l ++ R) (words-append (x ∷ P) Y) ∙ append-assoc (wordsOf (x ∷ P)) (wordsOf Y) R))
     ∙ update-right (n ∷ []) (wordsOf (x ∷ P) ++ (wordsOf Y ++ R)) (s * (i - 1) + 2) (s * (i - 1) + 1) (λ h. min h (lo - 1)) at
-    ∙ ap (λ (l : List ℕ). n ∷ l) (end-words s (x ∷ P) (i - 1) lo (wordsOf Y ++ R) h (omega arith) ∙ sym (append-assoc (wordsOf (trimEnd lo (x ∷ P))) (wordsOf Y) R))
+    ∙ ap (λ (l : List ℕ). n ∷ l)
+    (end-words s (x ∷ P) (i - 1) lo (wordsOf Y ++ R) h (omega arith) ∙ sym (append-assoc (wordsOf (trimEnd lo (x ∷ P))) (wordsOf Y) R))
     ∙ block-path L (trimEnd lo (x ∷ P) ++ Y) n z (wordsOf (trimEnd lo (x ∷ P)) ++ wordsOf Y)
     (omega (arith, length-append (x ∷ P) Y, length-append (trimEnd lo (x ∷ P)) Y, trim-length lo (x ∷ P)))
     (sym (words-append (trimEnd lo (x ∷ P)) Y))
@@ -78,19 +81,27 @@ end-entries s L i lo (x ∷ P) Y w h e b =
     R : List ℕ
     R = replicate z 0
 
-pub start-entries : (s L k m hi : ℕ) (X Q : List Entry) (w : List ℕ) → Shaped s X → length X ≡ k → m ≡ length (X ++ Q) → w ≡ blockOf L (X ++ Q) → cutStart s k m hi w ≡ blockOf L (X ++ trimStart hi Q)
+pub start-entries : (s L k m hi : ℕ) (X Q : List Entry) (w : List ℕ) → Shaped s X → length X ≡ k → m ≡ length (X ++ Q) → w ≡ blockOf L (X ++ Q)
+    → cutStart s k m hi w ≡ blockOf L (X ++ trimStart hi Q)
 unfolding blockOf
 start-entries s L k m hi X [] w h e f b = let z : m ≤ k = omega (arith, length-append X []) in rw (le-ltb k m z) b
 start-entries s L k m hi X (q ∷ Q) w h e f b =
     let lt : k < m = omega (arith, length-append X (q ∷ Q)) in
     let at : s * k + 1 ≡ length (n ∷ wordsOf X) + 0 = omega (arith, words-length s X h, ap (λ (x : ℕ). s * x) e) in
-    rw (lt-ltb k m lt) (ap (λ (l : List ℕ). update l (s * k + 1) (λ l. max l (suc hi))) (b ∙ ap (λ (l : List ℕ). n ∷ l) (ap (λ (l : List ℕ). l ++ R) (words-append X (q ∷ Q)) ∙ append-assoc (wordsOf X) (wordsOf (q ∷ Q)) R))
+    rw (lt-ltb k m lt) (ap (λ (l : List ℕ). update l (s * k + 1) (λ l. max l (suc hi)))
+    (b ∙ ap (λ (l : List ℕ). n ∷ l) (ap (λ (l : List ℕ). l ++ R) (words-append X (q ∷ Q)) ∙ append-assoc (wordsOf X) (wordsOf (q ∷ Q)) R))
     ∙ update-right (n ∷ wordsOf X) (wordsOf (q ∷ Q) ++ R) (s * k + 1) 0 (λ l. max l (suc hi)) at
     ∙ ap (λ (l : List ℕ). n ∷ l) (sym (append-assoc (wordsOf X) (wordsOf (raise hi q ∷ Q)) R))
     ∙ block-path L (X ++ (raise hi q ∷ Q)) n z (wordsOf X ++ wordsOf (raise hi q ∷ Q))
     (omega (arith, length-append X (q ∷ Q), length-append X (raise hi q ∷ Q)))
     (sym (words-append X (raise hi q ∷ Q)))
-    (omega (arith, ap length (words-append X (q ∷ Q)), length-append (wordsOf X) (wordsOf (q ∷ Q)), ap length (words-append X (raise hi q ∷ Q)), length-append (wordsOf X) (wordsOf (raise hi q ∷ Q)))))
+    (omega (
+      arith,
+      ap length (words-append X (q ∷ Q)),
+      length-append (wordsOf X) (wordsOf (q ∷ Q)),
+      ap length (words-append X (raise hi q ∷ Q)),
+      length-append (wordsOf X) (wordsOf (raise hi q ∷ Q)),
+    )))
   where
     n : ℕ
     n = length (X ++ (q ∷ Q))
@@ -102,7 +113,8 @@ start-entries s L k m hi X (q ∷ Q) w h e f b =
     R = replicate z 0
 
 -- splice, then both cuts
-pub placed : (s L i c m lo hi : ℕ) (P N Q : List Entry) (w : List ℕ) → Shaped s P → Shaped s N → length P ≡ i → length N ≡ c → m ≡ length (P ++ (N ++ Q)) → w ≡ blockOf L (P ++ (N ++ Q))
+pub placed : (s L i c m lo hi : ℕ) (P N Q : List Entry) (w : List ℕ) → Shaped s P → Shaped s N → length P ≡ i → length N ≡ c
+    → m ≡ length (P ++ (N ++ Q)) → w ≡ blockOf L (P ++ (N ++ Q))
     → cutStart s (i + c) m hi (cutEnd s i lo w) ≡ blockOf L (trimEnd lo P ++ (N ++ trimStart hi Q))
 placed s L i c m lo hi P N Q w hp hn ei ec em b =
     start-entries s L (i + c) m hi (trimEnd lo P ++ N) Q (cutEnd s i lo w) (shaped-append s (trimEnd lo P) N (trim-shaped s lo P hp) hn)

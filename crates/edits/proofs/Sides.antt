@@ -13,19 +13,22 @@ use lib.Seq.{getD-set-other}
 use native.Mathlib.Nat.{mul-one}
 use Rattle.entries.specs.Entries.{Entry, Sound, entry}
 use Rattle.entries.proofs.Canon.{unique}
-use Rattle.entries.specs.Build.{with, put, sameWords, pick}
-use Rattle.entries.proofs.Put.{put-is, put-some, put-none, cap, trimEnd, trimStart, Left, Right, JoinsLeft, JoinsRight, cut-here, join-before, cut-there, join-after}
+use Rattle.entries.specs.Build.{with, put, sameWords}
+use Rattle.entries.proofs.Put.{put-is, put-some, put-none, cap, trimEnd, trimStart, Left, Right, JoinsLeft, JoinsRight, cut-here, join-before}
+use Rattle.entries.proofs.Put.{cut-there, join-after}
+use Rattle.blocks.specs.declared.Layout.{Layout}
 use Rattle.blocks.specs.Blocks.{itemsOf, entriesOf, capacity, blockOf, verdict}
 use Rattle.blocks.proofs.Words.{items-length, items-shaped, items-take}
 use Rattle.entries.proofs.Values.{words-true, words-false}
-use Rattle.blocks.proofs.Judging.{room, verdict-sound}
-use Rattle.blocks.specs.Steps.{Spliced, itemAt, FirstFrom, zero-item}
+use Rattle.blocks.proofs.Judging.{room-words, verdict-sound}
+use Rattle.blocks.specs.Steps.{Spliced, itemAt, zero-item}
+use Rattle.searches.specs.Steps.{FirstFrom}
 use Rattle.blocks.proofs.Moves.{entry-at, splice-entries, entries-count}
 use Rattle.edits.proofs.Cuts.{trim-length, placed}
 use Rattle.edits.specs.Steps.{cutEnd, cutStart, PlaceOk, SideOk, EditOk, CutOk, roomSays}
-use Rattle.answers.specs.Answers.{Outcome, outcome, given, refused, judged, numberSays}
+use Rattle.answers.specs.Answers.{Outcome, outcome, given, refused, judged, applies, numberSays}
 use Rattle.blocks.specs.Calls.{stored}
-use Rattle.edits.specs.Calls.{editCall}
+use Rattle.edits.specs.Calls.{edited, editCall}
 use Rattle.blocks.proofs.Tests.{span, item-in}
 
 module _ (s : ℕ) (two : 2 ≤ s) (n : ℕ) (w : List ℕ) where
@@ -40,7 +43,12 @@ module _ (s : ℕ) (two : 2 ≤ s) (n : ℕ) (w : List ℕ) where
 
   pub find-left : (i a : ℕ) → FirstFrom w s 1 n a i → Left zero-item es i a
   find-left i a f =
-      record { within = omega (arith, f .within, count); lows = λ k h. rw (item k (omega (arith, f .within))) (f .before k h); from = λ h. let m : i < n = omega (arith, count) in rw (item i m) (f .from m) }
+      record {
+        within = omega (arith, f .within, count);
+        lows = λ k h. rw (item k (omega (arith, f .within))) (f .before k h);
+        from = λ h. let m : i
+            < n = omega (arith, count) in rw (item i m) (f .from m);
+      }
 
   pub find-right : (j b : ℕ) → FirstFrom w s 2 n (b + 1) j → Right zero-item es j b
   find-right j b f =
@@ -62,19 +70,25 @@ module _ (s : ℕ) (two : 2 ≤ s) (n : ℕ) (w : List ℕ) where
       last m p = let q : m ≡ k = omega arith in rw q (item k (omega (arith, f .within)))
 
       pub left-apart : (x : ℕ) (t : Bool) → x ≡ getD w (s * (i - 1) + 2) 0 → t ≡ ltb (suc x) a → t ≡ true → JoinsLeft zero-item es i a a v
-      left-apart x t ex et e = cut-here zero-item es sound i a v (find-left i a f) (λ m p q. absurd (let g = ap (λ (x : Entry). x .high) (last m p) in let h = ltb-true (suc x) a (sym et ∙ e) in omega arith))
+      left-apart x t ex et e =
+          cut-here zero-item es sound i a v (find-left i a f)
+          (λ m p q. absurd (let g = ap (λ (x : Entry). x .high) (last m p) in let h = ltb-true (suc x) a (sym et ∙ e) in omega arith))
 
       pub left-differ : false ≡ sameWords (take (s - 2) (drop (s * (i - 1) + 3) w)) v → JoinsLeft zero-item es i a a v
-      left-differ h = cut-here zero-item es sound i a v (find-left i a f) (λ m p q e. words-false (take (s - 2) (drop (s * (i - 1) + 3) w)) v (sym h) (sym (ap (λ (x : Entry). x .value) (last m p)) ∙ e))
+      left-differ h =
+          cut-here zero-item es sound i a v (find-left i a f)
+          (λ m p q e. words-false (take (s - 2) (drop (s * (i - 1) + 3) w)) v (sym h) (sym (ap (λ (x : Entry). x .value) (last m p)) ∙ e))
 
-      pub left-join : (x : ℕ) (u : Bool) → x ≡ getD w (s * (i - 1) + 2) 0 → u ≡ ltb (suc x) a → u ≡ false → true ≡ sameWords (take (s - 2) (drop (s * (i - 1) + 3) w)) v → JoinsLeft zero-item es (i - 1) (getD w (s * (i - 1) + 1) 0) a v
+      pub left-join : (x : ℕ) (u : Bool) → x ≡ getD w (s * (i - 1) + 2) 0 → u ≡ ltb (suc x) a → u ≡ false
+          → true ≡ sameWords (take (s - 2) (drop (s * (i - 1) + 3) w)) v → JoinsLeft zero-item es (i - 1) (getD w (s * (i - 1) + 1) 0) a v
       left-join x u ex eu e t =
           let g = ltb-false (suc x) a (sym eu ∙ e) in
           let h : a ≤ suc (getD w (s * (i - 1) + 2) 0) = omega arith in
           let q : i ≡ suc k = omega arith in
           let m = item k (omega (arith, f .within)) in
           rw (ap (λ (x : Entry). x .low) m) at
-          (join-before zero-item es sound k a v (rw q at (find-left i a f)) (rw (ap (λ (x : Entry). x .high) m) h) (ap (λ (x : Entry). x .value) m ∙ words-true (take (s - 2) (drop (s * (i - 1) + 3) w)) v (sym t)))
+          (join-before zero-item es sound k a v (rw q at (find-left i a f)) (rw (ap (λ (x : Entry). x .high) m) h)
+          (ap (λ (x : Entry). x .value) m ∙ words-true (take (s - 2) (drop (s * (i - 1) + 3) w)) v (sym t)))
 
     module _ (j b : ℕ) (f : FirstFrom w s 2 n (b + 1) j) where
       pub right-none : n ≤ j → JoinsRight zero-item es j b b v
@@ -82,30 +96,43 @@ module _ (s : ℕ) (two : 2 ≤ s) (n : ℕ) (w : List ℕ) where
 
       module _ (h : j < n) where
         pub right-apart : (x : ℕ) (t : Bool) → x ≡ getD w (s * j + 1) 0 → t ≡ ltb (suc b) x → t ≡ true → JoinsRight zero-item es j b b v
-        right-apart x t ex et e = cut-there zero-item es sound j b v (find-right j b f) (λ p q. absurd (let m = ap (λ (x : Entry). x .low) (item j h) in let g = ltb-true (suc b) x (sym et ∙ e) in omega arith))
+        right-apart x t ex et e =
+            cut-there zero-item es sound j b v (find-right j b f)
+            (λ p q. absurd (let m = ap (λ (x : Entry). x .low) (item j h) in let g = ltb-true (suc b) x (sym et ∙ e) in omega arith))
 
         pub right-differ : false ≡ sameWords (take (s - 2) (drop (s * j + 3) w)) v → JoinsRight zero-item es j b b v
-        right-differ g = cut-there zero-item es sound j b v (find-right j b f) (λ p q e. words-false (take (s - 2) (drop (s * j + 3) w)) v (sym g) (sym (ap (λ (x : Entry). x .value) (item j h)) ∙ e))
+        right-differ g =
+            cut-there zero-item es sound j b v (find-right j b f)
+            (λ p q e. words-false (take (s - 2) (drop (s * j + 3) w)) v (sym g) (sym (ap (λ (x : Entry). x .value) (item j h)) ∙ e))
 
-        pub right-join : (x : ℕ) (u : Bool) → x ≡ getD w (s * j + 1) 0 → u ≡ ltb (suc b) x → u ≡ false → true ≡ sameWords (take (s - 2) (drop (s * j + 3) w)) v → JoinsRight zero-item es (j + 1) (getD w (s * j + 2) 0) b v
+        pub right-join : (x : ℕ) (u : Bool) → x ≡ getD w (s * j + 1) 0 → u ≡ ltb (suc b) x → u ≡ false
+            → true ≡ sameWords (take (s - 2) (drop (s * j + 3) w)) v → JoinsRight zero-item es (j + 1) (getD w (s * j + 2) 0) b v
         right-join x u ex eu e t =
             let y = ltb-false (suc b) x (sym eu ∙ e) in
             let g : getD w (s * j + 1) 0 ≤ suc b = omega arith in
             let m = item j h in
             let q : suc j ≡ j + 1 = omega arith in
             rw (ap (λ (x : Entry). x .high) m, q) at
-            (join-after zero-item es sound j b v (find-right j b f) (omega (arith, count)) (rw (ap (λ (x : Entry). x .low) m) g) (ap (λ (x : Entry). x .value) m ∙ words-true (take (s - 2) (drop (s * j + 3) w)) v (sym t)))
+            (join-after zero-item es sound j b v (find-right j b f) (omega (arith, count)) (rw (ap (λ (x : Entry). x .low) m) g)
+            (ap (λ (x : Entry). x .value) m ∙ words-true (take (s - 2) (drop (s * j + 3) w)) v (sym t)))
 
 -- the law of `place`
 cut-length : (s i lo : ℕ) (w : List ℕ) → length (cutEnd s i lo w) ≡ length w
 cut-length s zero lo w = refl
-cut-length s (suc i) lo w = let n : suc i ≡ 0 → ⊥ = λ e. omega arith in rw (ne-eqb (suc i) 0 n) (lib.ListN.length-set w (s * (suc i - 1) + 2) (min (getD w (s * (suc i - 1) + 2) 0) (lo - 1)))
+cut-length s (suc i) lo w =
+    let n : suc i ≡ 0 → ⊥ = λ e. omega arith in
+    rw (ne-eqb (suc i) 0 n) (lib.ListN.length-set w (s * (suc i - 1) + 2) (min (getD w (s * (suc i - 1) + 2) 0) (lo - 1)))
 
 cut-keeps : (s i lo p : ℕ) (w : List ℕ) → 2 ≤ s → s * i + 2 ≤ p → getD (cutEnd s i lo w) p 0 ≡ getD w p 0
 cut-keeps s zero lo p w two h = refl
-cut-keeps s (suc i) lo p w two h = let n : suc i ≡ 0 → ⊥ = λ e. omega arith in rw (ne-eqb (suc i) 0 n) (getD-set-other w (s * (suc i - 1) + 2) p (min (getD w (s * (suc i - 1) + 2) 0) (lo - 1)) 0 (λ e. let z : suc i - 1 ≡ i = omega arith in omega (arith, mul-suc s i, ap (λ (x : ℕ). s * x) z)))
+cut-keeps s (suc i) lo p w two h =
+    let n : suc i ≡ 0 → ⊥ = λ e. omega arith in
+    rw (ne-eqb (suc i) 0 n)
+    (getD-set-other w (s * (suc i - 1) + 2) p (min (getD w (s * (suc i - 1) + 2) 0) (lo - 1)) 0
+    (λ e. let z : suc i - 1 ≡ i = omega arith in omega (arith, mul-suc s i, ap (λ (x : ℕ). s * x) z)))
 
-module _ {w new w1 : List ℕ} {s n i j c hi mm : ℕ} (ok : PlaceOk w new s n i j c hi) (lo m : ℕ) (em : m ≡ i + c + (n - j)) (sp : (length w1 ≡ length w) × Spliced w new (s * i + 1) (s * j + 1) (s * n + 1) mm w1) where
+module _ {w new w1 : List ℕ} {s n i j c hi mm : ℕ} (ok : PlaceOk w new s n i j c hi) (lo m : ℕ) (em : m ≡ i + c + (n - j))
+    (sp : (length w1 ≡ length w) × Spliced w new (s * i + 1) (s * j + 1) (s * n + 1) mm w1) where
   pub cut-ok : (w2 : List ℕ) → w2 ≡ cutEnd s i lo w1 → CutOk s (i + c) m hi w2
   cut-ok w2 e =
       let g = span s n i j c (ok .two) (ok .i-le) (ok .j-le) in
@@ -126,7 +153,8 @@ module _ {w new w1 : List ℕ} {s n i j c hi mm : ℕ} (ok : PlaceOk w new s n i
   place-law w2 w3 mme e f =
       f ∙ ap (cutStart s (i + c) m hi) e
       ∙ placed s (length w) i c m lo hi (take i (itemsOf s n (drop 1 w))) (itemsOf s c new) (drop j (itemsOf s n (drop 1 w))) w1
-      (rw (items-take s (ok .two) n i (drop 1 w) (ok .i-le)) (items-shaped s (ok .two) i (drop 1 w) (omega (arith, length-drop 1 w, (span s n i j c (ok .two) (ok .i-le) (ok .j-le)) .si, ok .held))))
+      (rw (items-take s (ok .two) n i (drop 1 w) (ok .i-le))
+      (items-shaped s (ok .two) i (drop 1 w) (omega (arith, length-drop 1 w, (span s n i j c (ok .two) (ok .i-le) (ok .j-le)) .si, ok .held))))
       (items-shaped s (ok .two) c new (omega (arith, ok .whole)))
       (omega (arith, length-take i (itemsOf s n (drop 1 w)), items-length s n (drop 1 w), ok .i-le))
       (items-length s c new)
@@ -135,10 +163,13 @@ module _ {w new w1 : List ℕ} {s n i j c hi mm : ℕ} (ok : PlaceOk w new s n i
 
 -- the sides at the numbers that the code holds
 pub to-left : {es : List Entry} {i lo lo' a a' : ℕ} {v : List ℕ} → lo ≡ lo' → a ≡ a' → JoinsLeft zero-item es i lo a v → JoinsLeft zero-item es i lo' a' v
-to-left {es} {i} {lo} {lo'} {a} {a'} {v} e f j = mathlib.Core.Path.subst (λ (x : ℕ). JoinsLeft zero-item es i lo' x v) f (mathlib.Core.Path.subst (λ (x : ℕ). JoinsLeft zero-item es i x a v) e j)
+to-left {es} {i} {lo} {lo'} {a} {a'} {v} e f j =
+    mathlib.Core.Path.subst (λ (x : ℕ). JoinsLeft zero-item es i lo' x v) f (mathlib.Core.Path.subst (λ (x : ℕ). JoinsLeft zero-item es i x a v) e j)
 
 pub to-right : {es : List Entry} {i lo lo' a a' : ℕ} {v : List ℕ} → lo ≡ lo' → a ≡ a' → JoinsRight zero-item es i lo a v → JoinsRight zero-item es i lo' a' v
-to-right {es} {i} {lo} {lo'} {a} {a'} {v} e f j = mathlib.Core.Path.subst (λ (x : ℕ). JoinsRight zero-item es i lo' x v) f (mathlib.Core.Path.subst (λ (x : ℕ). JoinsRight zero-item es i x a v) e j)
+to-right {es} {i} {lo} {lo'} {a} {a'} {v} e f j =
+    mathlib.Core.Path.subst (λ (x : ℕ). JoinsRight zero-item es i lo' x v) f
+    (mathlib.Core.Path.subst (λ (x : ℕ). JoinsRight zero-item es i x a v) e j)
 
 pub two-set : (l : List ℕ) (a b : ℕ) → 2 ≤ length l → set (set l 0 a) 1 b ≡ a ∷ b ∷ drop 2 l
 two-set [] a b h = absurd (omega arith)
@@ -149,7 +180,10 @@ pub ends-length : (lo hi : ℕ) (new new' : List ℕ) → new' ≡ lo ∷ hi ∷
 ends-length lo hi new new' e h = omega (arith, ap length e, length-drop 2 new)
 
 -- the law of the edits
-module _ {w : List ℕ} {s limit n : ℕ} (ok : EditOk w s limit n) where
+module _ {w : List ℕ} {l : Layout} {n : ℕ} (ok : EditOk w l n) where
+  abbrev s : ℕ
+  s = l .width
+
   abbrev list : List Entry
   list = itemsOf s n (drop 1 w)
 
@@ -160,7 +194,7 @@ module _ {w : List ℕ} {s limit n : ℕ} (ok : EditOk w s limit n) where
   list-sound = rw same-list (ok .block .sound)
 
   pub held : 1 + s * n ≤ length w
-  held = room s limit (length w) n (ok .block .some) (rw (ok .count) (ok .block .fits))
+  held = room-words l (length w) n (ok .block .some) (rw (ok .count) (ok .block .fits))
 
   pub list-count : length list ≡ n
   list-count = items-length s n (drop 1 w)
@@ -172,16 +206,17 @@ module _ {w : List ℕ} {s limit n : ℕ} (ok : EditOk w s limit n) where
   start-length hi [] = refl
   start-length hi (x ∷ l) = refl
 
-  answer-no : (X Y : List Entry) (cap m : ℕ) → X ≡ Y → m ≡ length Y → cap ≡ capacity s limit (length w) → cap < m → outcome (roomSays false) (w ∷ []) ≡ stored 0 s limit w X
-  answer-no X Y cap m e f g h = let k : capacity s limit (length w) < length X = omega (arith, ap length e) in rw (lt-ltb (capacity s limit (length w)) (length X) k)
+  answer-no : (X Y : List Entry) (cap m : ℕ) → X ≡ Y → m ≡ length Y → cap ≡ capacity l (length w) → cap < m → outcome (roomSays false) (w ∷ []) ≡ stored 0 l w X
+  answer-no X Y cap m e f g h = let k : capacity l (length w) < length X = omega (arith, ap length e) in rw (lt-ltb (capacity l (length w)) (length X) k)
 
-  answer-yes : (X Y : List Entry) (cap m : ℕ) (w' : List ℕ) → X ≡ Y → m ≡ length Y → cap ≡ capacity s limit (length w) → m ≤ cap → w' ≡ blockOf (length w) Y → outcome (roomSays true) (w' ∷ []) ≡ stored 0 s limit w X
+  answer-yes : (X Y : List Entry) (cap m : ℕ) (w' : List ℕ) → X ≡ Y → m ≡ length Y → cap ≡ capacity l (length w) → m ≤ cap
+      → w' ≡ blockOf (length w) Y → outcome (roomSays true) (w' ∷ []) ≡ stored 0 l w X
   answer-yes X Y cap m w' e f g h b =
-      let k : length X ≤ capacity s limit (length w) = omega (arith, ap length e) in
-      rw (le-ltb (capacity s limit (length w)) (length X) k) (ap (λ (l : List ℕ). outcome (given []) (l ∷ [])) (b ∙ ap (blockOf (length w)) (sym e)))
+      let k : length X ≤ capacity l (length w) = omega (arith, ap length e) in
+      rw (le-ltb (capacity l (length w)) (length X) k) (ap (λ (l : List ℕ). outcome (given []) (l ∷ [])) (b ∙ ap (blockOf (length w)) (sym e)))
 
-  room-of : (i j c cap : ℕ) → i ≤ n → j ≤ n → cap ≡ capacity s limit (length w) → i + c + (n - j) ≤ cap → 1 + (s * i + s * c + s * (n - j)) ≤ length w
-  room-of i j c cap hi hj e h = omega (arith, room s limit (length w) (i + c + (n - j)) (ok .block .some) (omega arith), (span s n i j c (ok .two) hi hj) .all)
+  room-of : (i j c cap : ℕ) → i ≤ n → j ≤ n → cap ≡ capacity l (length w) → i + c + (n - j) ≤ cap → 1 + (s * i + s * c + s * (n - j)) ≤ length w
+  room-of i j c cap hi hj e h = omega (arith, room-words l (length w) (i + c + (n - j)) (ok .block .some) (omega arith), (span s n i j c (ok .two) hi hj) .all)
 
   high-of : (j hi : ℕ) → Right zero-item list j hi → j < n → hi < getD w (s * j + 2) 0
   high-of j hi r h = let g = r .from (omega (arith, list-count)) in let m = ap (λ (x : Entry). x .high) (entry-at s (ok .two) n j w zero-item h) in omega arith
@@ -191,83 +226,126 @@ module _ {w : List ℕ} {s limit n : ℕ} (ok : EditOk w s limit n) where
     result = trimEnd lo (take i list) ++ (entry lo hi v ∷ trimStart hi (drop j list))
 
     put-result : put (entriesOf s w) a b (some v) ≡ result
-    put-result = ap (λ (l : List Entry). put l a b (some v)) (sym same-list)
+    put-result = ap (λ (es : List Entry). put es a b (some v)) (sym same-list)
         ∙ unique (with list a b (some v)) _ _ (put-is list a b (some v)) (put-some zero-item list list-sound i j lo hi (p .left) (q .right) a b ab v p q)
 
     result-count : i + 1 + (n - j) ≡ length result
-    result-count = omega (arith, length-append (trimEnd lo (take i list)) (entry lo hi v ∷ trimStart hi (drop j list)), trim-length lo (take i list), length-take i list, start-length hi (drop j list), length-drop j list, list-count, p .left .within)
+    result-count =
+        omega (
+          arith,
+          length-append (trimEnd lo (take i list)) (entry lo hi v ∷ trimStart hi (drop j list)),
+          trim-length lo (take i list),
+          length-take i list,
+          start-length hi (drop j list),
+          length-drop j list,
+          list-count,
+          p .left .within,
+        )
 
-    module _ (cap : ℕ) (g : cap ≡ capacity s limit (length w)) where
-      pub put-no : cap < i + 1 + (n - j) → outcome (roomSays false) (w ∷ []) ≡ stored 0 s limit w (put (entriesOf s w) a b (some v))
+    module _ (cap : ℕ) (g : cap ≡ capacity l (length w)) where
+      pub put-no : cap < i + 1 + (n - j) → outcome (roomSays false) (w ∷ []) ≡ stored 0 l w (edited l w a b (some v))
       put-no h = answer-no _ result cap (i + 1 + (n - j)) put-result result-count g h
 
-      pub put-yes : (w' : List ℕ) → i + 1 + (n - j) ≤ cap → w' ≡ blockOf (length w) result → outcome (roomSays true) (w' ∷ []) ≡ stored 0 s limit w (put (entriesOf s w) a b (some v))
+      pub put-yes : (w' : List ℕ) → i + 1 + (n - j) ≤ cap → w' ≡ blockOf (length w) result
+          → outcome (roomSays true) (w' ∷ []) ≡ stored 0 l w (edited l w a b (some v))
       put-yes w' h e = answer-yes _ result cap (i + 1 + (n - j)) w' put-result result-count g h e
 
       pub put-done : (new new' w' : List ℕ) → v ≡ take (s - 2) (drop 2 new) → new' ≡ lo ∷ hi ∷ drop 2 new → i + 1 + (n - j) ≤ cap
           → w' ≡ blockOf (length w) (trimEnd lo (take i list) ++ (itemsOf s 1 new' ++ trimStart hi (drop j list)))
-          → outcome (roomSays true) (w' ∷ []) ≡ stored 0 s limit w (put (entriesOf s w) a b (some v))
+          → outcome (roomSays true) (w' ∷ []) ≡ stored 0 l w (edited l w a b (some v))
       put-done new new' w' ve e h b =
-          put-yes w' h (b ∙ ap (λ (l : List ℕ). blockOf (length w) (trimEnd lo (take i list) ++ (itemsOf s 1 l ++ trimStart hi (drop j list)))) e
+          put-yes w' h (b ∙ ap (λ (x : List ℕ). blockOf (length w) (trimEnd lo (take i list) ++ (itemsOf s 1 x ++ trimStart hi (drop j list)))) e
           ∙ ap (λ (x : List ℕ). blockOf (length w) (trimEnd lo (take i list) ++ (entry lo hi x ∷ trimStart hi (drop j list)))) (sym ve))
 
       pub put-ok : (new : List ℕ) → length new ≡ s → i + 1 + (n - j) ≤ cap → PlaceOk w new s n i j 1 hi
       put-ok new e h =
           let hi' : i ≤ n = omega (arith, p .left .within, list-count) in
           let hj' : j ≤ n = omega (arith, q .right .within, list-count) in
-          record { two = ok .two; held = held; i-le = hi'; j-le = hj'; whole = omega (arith, mul-one s); room = room-of i j 1 cap hi' hj' g h; from = high-of j hi (q .right) }
+          record {
+            two = ok .two;
+            held = held;
+            i-le = hi';
+            j-le = hj';
+            whole = omega (arith, mul-one s);
+            room = room-of i j 1 cap hi' hj' g h;
+            from =
+                high-of j hi (q .right);
+          }
 
   module _ (a b i j : ℕ) (ab : a ≤ b) (f : FirstFrom w s 1 n a i) (h : FirstFrom w s 2 n (b + 1) j) where
     abbrev rest : List Entry
     rest = trimEnd a (take i list) ++ trimStart b (drop j list)
 
     out-result : put (entriesOf s w) a b none ≡ rest
-    out-result = ap (λ (l : List Entry). put l a b none) (sym same-list)
-        ∙ unique (with list a b none) _ _ (put-is list a b none) (put-none zero-item list list-sound i j a b (find-left s (ok .two) n w i a f) (find-right s (ok .two) n w j b h) ab)
+    out-result = ap (λ (es : List Entry). put es a b none) (sym same-list)
+        ∙ unique (with list a b none) _ _ (put-is list a b none)
+        (put-none zero-item list list-sound i j a b (find-left s (ok .two) n w i a f) (find-right s (ok .two) n w j b h) ab)
 
     rest-count : i + (n - j) ≡ length rest
-    rest-count = omega (arith, length-append (trimEnd a (take i list)) (trimStart b (drop j list)), trim-length a (take i list), length-take i list, start-length b (drop j list), length-drop j list, list-count, f .within)
+    rest-count =
+        omega (
+          arith,
+          length-append (trimEnd a (take i list)) (trimStart b (drop j list)),
+          trim-length a (take i list),
+          length-take i list,
+          start-length b (drop j list),
+          length-drop j list,
+          list-count,
+          f .within,
+        )
 
-    module _ (cap : ℕ) (g : cap ≡ capacity s limit (length w)) where
-      pub out-no : cap < i + (n - j) → outcome (roomSays false) (w ∷ []) ≡ stored 0 s limit w (put (entriesOf s w) a b none)
+    module _ (cap : ℕ) (g : cap ≡ capacity l (length w)) where
+      pub out-no : cap < i + (n - j) → outcome (roomSays false) (w ∷ []) ≡ stored 0 l w (edited l w a b none)
       out-no m = answer-no _ rest cap (i + (n - j)) out-result rest-count g m
 
-      pub out-yes : (w' : List ℕ) → i + (n - j) ≤ cap → w' ≡ blockOf (length w) rest → outcome (roomSays true) (w' ∷ []) ≡ stored 0 s limit w (put (entriesOf s w) a b none)
+      pub out-yes : (w' : List ℕ) → i + (n - j) ≤ cap → w' ≡ blockOf (length w) rest → outcome (roomSays true) (w' ∷ []) ≡ stored 0 l w (edited l w a b none)
       out-yes w' m e = answer-yes _ rest cap (i + (n - j)) w' out-result rest-count g m e
 
       pub out-ok : (new : List ℕ) → length new ≡ 0 → i + (n - j) ≤ cap → PlaceOk w new s n i j 0 b
       out-ok new e m =
-          record { two = ok .two; held = held; i-le = f .within; j-le = h .within; whole = omega (arith, mul-zero s); room = room-of i j 0 cap (f .within) (h .within) g (omega arith); from = high-of j b (find-right s (ok .two) n w j b h) }
+          record {
+            two = ok .two;
+            held = held;
+            i-le = f .within;
+            j-le = h .within;
+            whole = omega (arith, mul-zero s);
+            room = room-of i j 0 cap
+                (f .within) (h .within) g (omega arith);
+            from = high-of j b (find-right s (ok .two) n w j b h);
+          }
 
 -- the call, by the tests of the code
-module _ (s limit : ℕ) (w : List ℕ) (a b : ℕ) (o : Option (List ℕ)) (v : ℕ) (e : v ≡ verdict s limit w) where
+module _ (l : Layout) (w : List ℕ) (a b : ℕ) (o : Option (List ℕ)) (v : ℕ) (e : v ≡ verdict l w) where
   abbrev kept : Outcome
-  kept = stored 0 s limit w (put (entriesOf s w) a b o)
+  kept = stored 0 l w (edited l w a b o)
 
-  by-verdict : (x : Outcome) → x ≡ judged v 0 (w ∷ []) (pick (ltb b a) (outcome (refused 4 0) (w ∷ [])) kept) → x ≡ editCall s limit w a b o
+  abbrev ordered : Outcome
+  ordered = judged (applies (ltb b a) 4) 0 (w ∷ []) kept
+
+  by-verdict : (x : Outcome) → x ≡ judged v 0 (w ∷ []) ordered → x ≡ editCall l w a b o
   unfolding editCall
-  by-verdict x d = d ∙ ap (λ (k : ℕ). judged k 0 (w ∷ []) (pick (ltb b a) (outcome (refused 4 0) (w ∷ [])) kept)) e
+  by-verdict x d = d ∙ ap (λ (k : ℕ). judged k 0 (w ∷ []) ordered) e
 
-  pub edit-refused : (v ≡ 0 → ⊥) → outcome (numberSays v 0) (w ∷ []) ≡ editCall s limit w a b o
+  pub edit-refused : (v ≡ 0 → ⊥) → outcome (numberSays v 0) (w ∷ []) ≡ editCall l w a b o
   edit-refused n = by-verdict (outcome (numberSays v 0) (w ∷ [])) (go v n)
     where
-      go : (k : ℕ) → (k ≡ 0 → ⊥) → outcome (numberSays k 0) (w ∷ []) ≡ judged k 0 (w ∷ []) (pick (ltb b a) (outcome (refused 4 0) (w ∷ [])) kept)
+      go : (k : ℕ) → (k ≡ 0 → ⊥) → outcome (numberSays k 0) (w ∷ []) ≡ judged k 0 (w ∷ []) ordered
       go zero m = absurd (m refl)
       go (suc k) m = refl
 
   module _ (z : v ≡ 0) where
-    pub edit-ok : (n : ℕ) → 2 ≤ s → n ≡ getD w 0 0 → EditOk w s limit n
-    edit-ok n two c = record { two = two; block = verdict-sound s limit w (sym e ∙ z); count = c }
+    pub edit-ok : (n : ℕ) → 2 ≤ l .width → n ≡ getD w 0 0 → EditOk w l n
+    edit-ok n two c = record { two = two; block = verdict-sound l w (sym e ∙ z); count = c }
 
-    pub edit-backwards : (x y : ℕ) → x ≡ b → y ≡ a → x < y → outcome (numberSays 4 0) (w ∷ []) ≡ editCall s limit w a b o
+    pub edit-backwards : (x y : ℕ) → x ≡ b → y ≡ a → x < y → outcome (numberSays 4 0) (w ∷ []) ≡ editCall l w a b o
     edit-backwards x y p q h = let k : b < a = omega arith in by-verdict (outcome (refused 4 0) (w ∷ [])) (rw (z, lt-ltb b a k))
 
     module _ (x y : ℕ) (p : x ≡ b) (q : y ≡ a) (h : y ≤ x) (t : Bool) (w' : List ℕ) (k : outcome (roomSays t) (w' ∷ []) ≡ kept) where
-      in-order : kept ≡ judged v 0 (w ∷ []) (pick (ltb b a) (outcome (refused 4 0) (w ∷ [])) kept)
+      in-order : kept ≡ judged v 0 (w ∷ []) ordered
       in-order = let m : a ≤ b = omega arith in rw (z, le-ltb b a m)
 
-      pub edit-done : t ≡ true → outcome (numberSays 0 0) (w' ∷ []) ≡ editCall s limit w a b o
+      pub edit-done : t ≡ true → outcome (numberSays 0 0) (w' ∷ []) ≡ editCall l w a b o
       edit-done f = by-verdict (outcome (given []) (w' ∷ [])) (ap (λ (u : Bool). outcome (roomSays u) (w' ∷ [])) (sym f) ∙ k ∙ in-order)
 
-      pub edit-full : t ≡ false → outcome (numberSays 5 0) (w' ∷ []) ≡ editCall s limit w a b o
+      pub edit-full : t ≡ false → outcome (numberSays 5 0) (w' ∷ []) ≡ editCall l w a b o
       edit-full f = by-verdict (outcome (refused 5 0) (w' ∷ [])) (ap (λ (u : Bool). outcome (roomSays u) (w' ∷ [])) (sym f) ∙ k ∙ in-order)

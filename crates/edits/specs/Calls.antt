@@ -2,16 +2,23 @@
 use mathlib.Core.Option.{Option}
 use mathlib.Core.List.{List, [], _∷_}
 use Prim.Native.Nat.{ℕ}
-use lib.Dec.{ltb}
-use Rattle.entries.specs.Entries.{Value}
-use Rattle.entries.specs.Build.{pick, put}
-use Rattle.answers.specs.Answers.{Outcome, refuse, judged}
-use Rattle.blocks.specs.Blocks.{entriesOf, verdict}
-use Rattle.blocks.specs.Calls.{stored}
+use lib.ListN.{length}
+use Rattle.entries.specs.Entries.{Value, Entry}
+use Rattle.entries.specs.Build.{put}
+use Rattle.answers.specs.declared.Finding.{Finding}
+use Rattle.answers.specs.Answers.{Outcome, inTurn}
+use Rattle.blocks.specs.declared.Layout.{Layout}
+use Rattle.blocks.specs.Blocks.{entriesOf}
+use Rattle.blocks.specs.Calls.{input, backwards, room, holding}
 
--- o on a..b, in a block of s words an item: 1, 2, 3 of the block, then «4 Backwards: a range given as an argument has low above
--- high», then 5
-unfoldable pub editCall : ℕ → ℕ → List ℕ → ℕ → ℕ → Option Value → Outcome
-editCall s limit w a b o =
-    judged (verdict s limit w) 0 (w ∷ [])
-    (pick (ltb b a) (refuse 4 0 (w ∷ [])) (stored 0 s limit w (put (entriesOf s w) a b o)))
+-- the entries of the block w with o on a..b
+abbrev pub edited : Layout → List ℕ → ℕ → ℕ → Option Value → List Entry
+edited l w a b o = put (entriesOf (l .width) w) a b o
+
+-- 1, 2, 3 of the block, then 4, then 5
+abbrev pub editRefusals : Layout → List ℕ → ℕ → ℕ → List Entry → List Finding
+editRefusals l w a b es = input 0 l w ∷ backwards a b ∷ room 0 l (length w) es ∷ []
+
+-- o on a..b, in a block of any layout
+unfoldable pub editCall : Layout → List ℕ → ℕ → ℕ → Option Value → Outcome
+editCall l w a b o = inTurn (editRefusals l w a b (edited l w a b o)) (w ∷ []) (holding w (edited l w a b o))

@@ -4,10 +4,11 @@ use mathlib.Core.Path.{_≡_}
 use mathlib.Core.Bool.{Bool, true, false}
 use mathlib.Core.List.{List, []}
 use lib.Dec.{eqb, ltb}
-use lib.ListN.{length, getD, set, drop}
+use lib.ListN.{length, getD, set, take, drop}
 use Rattle.entries.specs.Build.{pick}
 use Rattle.entries.specs.Entries.{Sound}
 use Rattle.answers.specs.Answers.{Answer, given, refused}
+use Rattle.blocks.specs.declared.Layout.{Layout}
 use Rattle.blocks.specs.Blocks.{itemsOf, SoundBlock}
 
 -- one word changed
@@ -44,10 +45,21 @@ pub record SideOk (w new : List ℕ) (s n : ℕ) : Type 0 where
   pub whole : length new ≡ s
   pub sound : Sound (itemsOf s n (drop 1 w))
 
-pub record EditOk (w : List ℕ) (s limit n : ℕ) : Type 0 where
-  pub two : 2 ≤ s
-  pub block : SoundBlock s limit w
+-- a sound block of n items
+pub record EditOk (w : List ℕ) (l : Layout) (n : ℕ) : Type 0 where
+  pub two : 2 ≤ l .width
+  pub block : SoundBlock l w
   pub count : n ≡ getD w 0 0
+
+-- and a new item with its ends in order
+pub record PutOk (w new : List ℕ) (l : Layout) (n : ℕ) : Type 0 where
+  pub edit : EditOk w l n
+  pub whole : length new ≡ l .width
+  pub order : getD new 0 0 ≤ getD new 1 0
+
+-- the value of an item of s words
+abbrev pub valueOf : ℕ → List ℕ → List ℕ
+valueOf s new = take (s - 2) (drop 2 new)
 
 -- whether there was room
 abbrev pub roomSays : Bool → Answer

@@ -1,20 +1,20 @@
-// One edit in place for sets and maps: an entry put in, or a range taken out, of a block of s words an item.
+// One edit in place for sets and maps: an entry put into a block of any layout, or a range taken out of it.
 ghost use mathlib.Core.Path.{_≡_};
 ghost use mathlib.Core.Option.{none, some};
-ghost use Prim.Native.Nat.{ℕ, suc, _+_, _-_, _*_, _<_, _≤_, min, max};
+ghost use Prim.Native.Nat.{suc, _+_, _-_, _*_, _<_, _≤_, min, max};
 ghost use mathlib.Core.List.{_++_, [], _∷_};
 ghost use lib.Dec.{ltb};
 ghost use lib.ListN.{length, getD, take, drop};
-ghost use Rattle.entries.specs.Build.{put};
 ghost use Rattle.entries.proofs.Put.{trimEnd, trimStart, JoinsLeft, JoinsRight};
 ghost use Rattle.answers.specs.Answers.{outcome, numberSays};
-ghost use Rattle.blocks.specs.Blocks.{itemsOf, entriesOf, blockOf};
+ghost use Rattle.blocks.specs.Blocks.{itemsOf, blockOf};
 ghost use Rattle.blocks.specs.Steps.{zero-item};
 ghost use Rattle.blocks.specs.Calls.{stored};
-ghost use Rattle.edits.specs.Calls.{editCall};
-ghost use Rattle.edits.specs.Steps.{cutEnd, cutStart, update, CutOk, PlaceOk, SideOk, EditOk, roomSays};
+ghost use Rattle.edits.specs.Calls.{edited, editCall};
+ghost use Rattle.edits.specs.Steps.{cutEnd, cutStart, update, CutOk, PlaceOk, SideOk, EditOk, PutOk, valueOf, roomSays};
+use blocks::Layout;
 
-// The high end of an entry, brought below lo.
+// The high that an entry keeps when every number from lo on is cut off it.
 fn below(high: u64, lo: u64) -> u64
     ensures { λ r. ⌜ r ≡ min high (lo - 1) ⌝ }
 {
@@ -24,7 +24,7 @@ fn below(high: u64, lo: u64) -> u64
     if lo == 0 { 0 } else { lo - 1 }
 }
 
-// The least number at or above low that is past hi, for an hi below high.
+// The low that an entry keeps when every number up to hi is cut off it; its high is above hi, so some of it is left.
 pub fn above(low: u64, hi: u64, high: u64) -> u64
     requires { ⌜ hi < high ⌝ }
     ensures { λ r. ⌜ r ≡ max low (suc hi) ⌝ }
@@ -32,7 +32,7 @@ pub fn above(low: u64, hi: u64, high: u64) -> u64
     if hi < low { low } else { hi + 1 }
 }
 
-// Brings word `at` below lo.
+// Cuts the entry whose high is word `at`, so that it ends before lo.
 fn lower(block: &mut [u64], at: usize, lo: u64)
     requires { ⌜ at < length (now block) ⌝ }
     ensures { λ _. ⌜ now (block .exit) ≡ update (now (block .entry)) at (λ h. min h (lo - 1)) ⌝ }
@@ -40,7 +40,7 @@ fn lower(block: &mut [u64], at: usize, lo: u64)
     block[at] = below(block[at], lo);
 }
 
-// Brings word `at`, the low end of an item that ends past hi, past hi.
+// Cuts the entry whose low is word `at` and whose high is above hi, so that it begins after hi.
 fn raise(block: &mut [u64], at: usize, hi: u64)
     requires { ⌜ (at + 1 < length (now block)) × (hi < getD (now block) (at + 1) 0) ⌝ }
     ensures { λ _. ⌜ now (block .exit) ≡ update (now (block .entry)) at (λ l. max l (suc hi)) ⌝ }
@@ -48,7 +48,7 @@ fn raise(block: &mut [u64], at: usize, hi: u64)
     block[at] = above(block[at], hi, block[at + 1]);
 }
 
-// Brings the high end of item i - 1 below lo.
+// Cuts the last of the first i items, if there is one, so that it ends before lo.
 fn cut_end(block: &mut [u64], s: usize, i: usize, lo: u64)
     requires { ⌜ (2 ≤ s) × (1 + s * i ≤ length (now block)) ⌝ }
     ensures { λ _. ⌜ now (block .exit) ≡ cutEnd s i lo (now (block .entry)) ⌝ }
@@ -59,7 +59,7 @@ fn cut_end(block: &mut [u64], s: usize, i: usize, lo: u64)
     lower(block, s * (i - 1) + 2, lo);
 }
 
-// Brings the low end of item k of m past hi.
+// Cuts item k of m, if there is one, so that it begins after hi.
 fn cut_start(block: &mut [u64], s: usize, k: usize, m: usize, hi: u64)
     requires { ⌜ CutOk s k m hi (now block) ⌝ }
     ensures { λ _. ⌜ now (block .exit) ≡ cutStart s k m hi (now (block .entry)) ⌝ }
@@ -70,7 +70,8 @@ fn cut_start(block: &mut [u64], s: usize, k: usize, m: usize, hi: u64)
     raise(block, s * k + 1, hi);
 }
 
-// The first i items, cut below lo; then the c new ones; then the items from j on, cut past hi.
+// Rewrites a block of n items: the first i, the last of them cut before lo; then the c new ones; then those from j on, the first of
+// them cut after hi. Where i is above j, the item between them is split: a part of it stays on either side.
 fn place(
     block: &mut [u64],
     new: &[u64],
@@ -84,7 +85,8 @@ fn place(
 )
     requires { ⌜ PlaceOk (now block) (now new) s n i j c hi ⌝ }
     ensures { λ _. ⌜ now (block .exit) ≡ blockOf (length (now (block .entry)))
-        (trimEnd lo (take i (itemsOf s n (drop 1 (now (block .entry))))) ++ (itemsOf s c (now (new .entry)) ++ trimStart hi (drop j (itemsOf s n (drop 1 (now (block .entry))))))) ⌝ }
+        (trimEnd lo (take i (itemsOf s n (drop 1 (now (block .entry)))))
+        ++ (itemsOf s c (now (new .entry)) ++ trimStart hi (drop j (itemsOf s n (drop 1 (now (block .entry))))))) ⌝ }
 {
     let m = i + c + (n - j);
     blocks::splice(
@@ -99,7 +101,7 @@ fn place(
     cut_start(block, s, i + c, m, hi);
 }
 
-// Whether y is beyond x + 1.
+// Whether a range that begins at y lies apart from one that ends at x: it neither shares a number with it nor touches it.
 fn beyond(x: u64, y: u64) -> bool
     ensures { λ r. ⌜ r ≡ ltb (suc x) y ⌝ }
 {
@@ -112,19 +114,21 @@ fn beyond(x: u64, y: u64) -> bool
     false
 }
 
-// Where the left or the right part of a list ends, and the end of the new entry there.
+// One side of an edit: how many items stay before the new entry, or the first that stays behind it; and the new entry's end there.
 pub struct Side {
     pub at: usize,
     pub end: u64,
 }
 
-// The new entry joins the entry that ends right before it or within it, if that has the same value.
+// The side before a new entry: the items that begin before it stay, but that the last of them is joined with it, and gives it its
+// low, if it touches or reaches into it and has the same value.
 fn left_of(block: &[u64], new: &[u64], s: usize, n: usize) -> Side
     requires { ⌜ SideOk (now block) (now new) s n ⌝ }
-    ensures { λ r. ⌜ JoinsLeft zero-item (itemsOf s n (drop 1 (now (block .entry)))) (r .at) (r .end) (getD (now (new .entry)) 0 0) (take (s - 2) (drop 2 (now (new .entry)))) ⌝ }
+    ensures { λ r. ⌜ JoinsLeft zero-item (itemsOf s n (drop 1 (now (block .entry)))) (r .at) (r .end)
+        (getD (now (new .entry)) 0 0) (valueOf s (now (new .entry))) ⌝ }
 {
     let a = blocks::word(new, 0);
-    let i = blocks::first_from(block, s, 1, n, a);
+    let i = searches::first_from(block, s, 1, n, a);
     if i == 0 {
         return Side { at: 0, end: a };
     }
@@ -139,13 +143,15 @@ fn left_of(block: &[u64], new: &[u64], s: usize, n: usize) -> Side
     Side { at: i, end: a }
 }
 
-// The new entry joins the entry that begins right after it or within it, if that has the same value.
+// The side behind a new entry: the items that end after it stay, but that the first of them is joined with it, and gives it its
+// high, if it touches or begins in it and has the same value.
 fn right_of(block: &[u64], new: &[u64], s: usize, n: usize) -> Side
     requires { ⌜ SideOk (now block) (now new) s n ⌝ }
-    ensures { λ r. ⌜ JoinsRight zero-item (itemsOf s n (drop 1 (now (block .entry)))) (r .at) (r .end) (getD (now (new .entry)) 1 0) (take (s - 2) (drop 2 (now (new .entry)))) ⌝ }
+    ensures { λ r. ⌜ JoinsRight zero-item (itemsOf s n (drop 1 (now (block .entry)))) (r .at) (r .end)
+        (getD (now (new .entry)) 1 0) (valueOf s (now (new .entry))) ⌝ }
 {
     let b = blocks::word(new, 1);
-    let j = blocks::first_past(block, s, 2, n, b);
+    let j = searches::first_past(block, s, 2, n, b);
     if n <= j {
         return Side { at: j, end: b };
     }
@@ -171,20 +177,21 @@ fn set_ends(new: &mut [u64], lo: u64, hi: u64)
     new[1] = hi;
 }
 
-// Puts the new entry into a sound block of n items; false where there is no room.
-pub fn put_value(block: &mut [u64], new: &mut [u64], n: usize, limit: usize) -> bool
-    requires { ⌜ EditOk (now block) (length (now new)) limit n × (getD (now new) 0 0 ≤ getD (now new) 1 0) ⌝ }
-    ensures { λ r. ⌜ outcome (roomSays r) (now (block .exit) ∷ []) ≡ stored 0 (length (now (new .entry))) limit (now (block .entry))
-        (put (entriesOf (length (now (new .entry))) (now (block .entry))) (getD (now (new .entry)) 0 0) (getD (now (new .entry)) 1 0) (some (take (length (now (new .entry)) - 2) (drop 2 (now (new .entry)))))) ⌝ }
+// Puts the new entry into a sound block of n items; false where there is no room, and then nothing is changed.
+pub fn put_value(block: &mut [u64], new: &mut [u64], n: usize, layout: Layout) -> bool
+    requires { ⌜ PutOk (now block) (now new) layout n ⌝ }
+    ensures { λ r. ⌜ outcome (roomSays r) (now (block .exit) ∷ []) ≡ stored 0 layout (now (block .entry))
+        (edited layout (now (block .entry)) (getD (now (new .entry)) 0 0) (getD (now (new .entry)) 1 0)
+        (some (valueOf (layout .width) (now (new .entry))))) ⌝ }
 {
-    let s = new.len();
+    let s = layout.width;
     let l = left_of(block, new, s, n);
     let r = right_of(block, new, s, n);
     let i = l.at;
     let j = r.at;
     let lo = l.end;
     let hi = r.end;
-    if blocks::room_for(s, limit, block.len()) < i + 1 + (n - j) {
+    if blocks::room_for(layout, block.len()) < i + 1 + (n - j) {
         return false;
     }
     set_ends(new, lo, hi);
@@ -192,15 +199,15 @@ pub fn put_value(block: &mut [u64], new: &mut [u64], n: usize, limit: usize) -> 
     true
 }
 
-// Takes a..b out of a sound block of n items; false where there is no room.
-fn take_out(block: &mut [u64], s: usize, n: usize, limit: usize, a: u64, b: u64) -> bool
-    requires { ⌜ EditOk (now block) s limit n × (a ≤ b) ⌝ }
-    ensures { λ r. ⌜ outcome (roomSays r) (now (block .exit) ∷ []) ≡ stored 0 s limit (now (block .entry))
-        (put (entriesOf s (now (block .entry))) a b none) ⌝ }
+// Takes a..b out of a sound block of n items; false where there is no room, and then nothing is changed.
+fn take_out(block: &mut [u64], n: usize, layout: Layout, a: u64, b: u64) -> bool
+    requires { ⌜ EditOk (now block) layout n × (a ≤ b) ⌝ }
+    ensures { λ r. ⌜ outcome (roomSays r) (now (block .exit) ∷ []) ≡ stored 0 layout (now (block .entry)) (edited layout (now (block .entry)) a b none) ⌝ }
 {
-    let i = blocks::first_from(block, s, 1, n, a);
-    let j = blocks::first_past(block, s, 2, n, b);
-    if blocks::room_for(s, limit, block.len()) < i + (n - j) {
+    let s = layout.width;
+    let i = searches::first_from(block, s, 1, n, a);
+    let j = searches::first_past(block, s, 2, n, b);
+    if blocks::room_for(layout, block.len()) < i + (n - j) {
         return false;
     }
     let nothing = [0; 1];
@@ -208,12 +215,13 @@ fn take_out(block: &mut [u64], s: usize, n: usize, limit: usize, a: u64, b: u64)
     true
 }
 
-// The number of the refusal, or 0 and the new entry is in.
-pub fn edit_put(block: &mut [u64], new: &mut [u64], limit: usize) -> u8
-    requires { ⌜ 2 ≤ length (now new) ⌝ }
-    ensures { λ r. ⌜ outcome (numberSays r 0) (now (block .exit) ∷ []) ≡ editCall (length (now (new .entry))) limit (now (block .entry)) (getD (now (new .entry)) 0 0) (getD (now (new .entry)) 1 0) (some (take (length (now (new .entry)) - 2) (drop 2 (now (new .entry))))) ⌝ }
+// Gives the range new[0]..new[1] of any words lent as a block the value in the rest of new: 0, or the number of the refusal.
+pub fn edit_put(block: &mut [u64], new: &mut [u64], layout: Layout) -> u8
+    requires { ⌜ (2 ≤ layout .width) × (length (now new) ≡ layout .width) ⌝ }
+    ensures { λ r. ⌜ outcome (numberSays r 0) (now (block .exit) ∷ []) ≡ editCall layout (now (block .entry))
+        (getD (now (new .entry)) 0 0) (getD (now (new .entry)) 1 0) (some (valueOf (layout .width) (now (new .entry)))) ⌝ }
 {
-    let v = blocks::judge(block, new.len(), limit);
+    let v = blocks::judge(block, layout);
     if v != 0 {
         return v;
     }
@@ -221,18 +229,18 @@ pub fn edit_put(block: &mut [u64], new: &mut [u64], limit: usize) -> u8
         return 4;
     }
     let n = blocks::wide(blocks::word(block, 0));
-    if put_value(block, new, n, limit) {
+    if put_value(block, new, n, layout) {
         return 0;
     }
     5
 }
 
-// The number of the refusal, or 0 and a..b is out.
-pub fn edit_out(block: &mut [u64], s: usize, limit: usize, a: u64, b: u64) -> u8
-    requires { ⌜ 2 ≤ s ⌝ }
-    ensures { λ r. ⌜ outcome (numberSays r 0) (now (block .exit) ∷ []) ≡ editCall s limit (now (block .entry)) a b none ⌝ }
+// Takes the range a..b out of any words lent as a block: 0, or the number of the refusal.
+pub fn edit_out(block: &mut [u64], layout: Layout, a: u64, b: u64) -> u8
+    requires { ⌜ 2 ≤ layout .width ⌝ }
+    ensures { λ r. ⌜ outcome (numberSays r 0) (now (block .exit) ∷ []) ≡ editCall layout (now (block .entry)) a b none ⌝ }
 {
-    let v = blocks::judge(block, s, limit);
+    let v = blocks::judge(block, layout);
     if v != 0 {
         return v;
     }
@@ -240,7 +248,7 @@ pub fn edit_out(block: &mut [u64], s: usize, limit: usize, a: u64, b: u64) -> u8
         return 4;
     }
     let n = blocks::wide(blocks::word(block, 0));
-    if take_out(block, s, n, limit, a, b) {
+    if take_out(block, n, layout, a, b) {
         return 0;
     }
     5

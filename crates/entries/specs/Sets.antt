@@ -12,6 +12,10 @@ use Rattle.entries.specs.Build.{andb, build, cutsOf, combine}
 abbrev pub M : ℕ
 M = 18446744073709551615
 
+-- the number past the last, 2^64: every lent word is below it
+abbrev pub pastM : ℕ
+pastM = 18446744073709551616
+
 -- no entry carries a value
 abbrev pub Plain : List Entry → Type 0
 Plain [] = Unit {0}
@@ -58,4 +62,4 @@ symmetricDifference = setOp xorb
 
 -- «complement within 0..M»
 unfoldable pub complement : List Entry → List Entry
-complement es = build (λ x. mark (lessb (leb x M) (member es x))) (suc M ∷ cutsOf es)
+complement es = build (λ x. mark (lessb (leb x M) (member es x))) (pastM ∷ cutsOf es)

@@ -1,101 +1,71 @@
 -- What the code's tests make of the questions' definition.
-use mathlib.Core.Path.{_≡_, refl, sym, _∙_, ap}
+use mathlib.Core.Path.{_≡_, sym, _∙_, ap}
 use mathlib.Core.Bool.{Bool, true, false}
 use mathlib.Core.Option.{Option, none, some}
-use mathlib.Core.List.{List, []}
-use Prim.Native.Nat.{ℕ, zero, suc, _≤_}
+use mathlib.Core.List.{List, [], _∷_}
+use Prim.Native.Nat.{ℕ, _≤_}
 use native.Mathlib.Omega.{arith}
-use lib.Dec.{ltb, eqb}
-use borrow.Author.Tests.{eqb-true, eqb-false, eq-eqb, ne-eqb, le-ltb}
+use lib.Dec.{eqb}
+use borrow.Author.Tests.{eqb-false, eq-eqb, ne-eqb, le-ltb}
 use Rattle.entries.specs.Entries.{Entry, entry}
 use Rattle.entries.specs.Build.{pick}
 use Rattle.entries.specs.Questions.{filter}
 use Rattle.answers.specs.declared.Refusal.{Refusal}
-use Rattle.answers.specs.Answers.{Answer, given, refused, Outcome, outcome, refuse, judged}
+use Rattle.answers.specs.Answers.{Answer, Outcome, outcome, refuse, judged, at, applies}
+use Rattle.answers.specs.Steps.{Clear, FirstOf}
 use Rattle.answers.specs.Says.{refusalSays, refusalOf}
-use Rattle.answers.proofs.Numbers.{refused-as, given-as, refusal-says}
-use Rattle.blocks.specs.Blocks.{setLimit, entriesOf, verdict, SoundBlock}
+use Rattle.answers.proofs.Numbers.{refusal-says}
+use Rattle.answers.proofs.Turns.{stops-in, passes-in, ends, refusal-by, given-by, applies-clear}
+use Rattle.blocks.specs.Blocks.{setLayout, entriesOf, SoundBlock}
 use Rattle.blocks.proofs.Judging.{sound-verdict}
-use Rattle.searches.specs.Calls.{windowVerdict}
-use Rattle.searches.proofs.Windows.{judged-window, window-most}
+use Rattle.searches.specs.Calls.{windowRefusals}
+use Rattle.searches.proofs.Windows.{clear-window}
 use Rattle.fits.specs.declared.Gap.{Gap}
 use Rattle.fits.specs.Fits.{gaps, fits, anywhere, startIn, placeIn}
-use Rattle.fits.specs.Calls.{atPlace, asked, answered, fitCall}
-use Rattle.fits.specs.Steps.{chooser, fitter, gapOf, Asked, askVerdict}
+use Rattle.fits.specs.Calls.{zeroRun, gapless, placeOf, askRefusals, answered, fitCall}
+use Rattle.fits.specs.Steps.{chooser, fitter, gapOf, Asked}
 
 -- THE REFUSALS before a place is sought
-module _ (w : List ℕ) (a b k v : ℕ) (e : v ≡ windowVerdict 2 setLimit w a b) where
-  pub ask-window : (v ≡ 0 → ⊥) → v ≡ askVerdict w a b k
-  unfolding askVerdict
-  ask-window n = rw (ne-eqb (windowVerdict 2 setLimit w a b) 0 (λ q. n (e ∙ q))) e
+module _ (w : List ℕ) (a b k v : ℕ) (f : FirstOf (windowRefusals setLayout w a b) (at 0 v)) where
+  pub ask-window : (v ≡ 0 → ⊥) → FirstOf (askRefusals w a b k) (at 0 v)
+  ask-window n = stops-in (windowRefusals setLayout w a b) (zeroRun k ∷ []) (at 0 v) f n
 
   module _ (z : v ≡ 0) where
-    pub ask-zero : k ≡ 0 → 6 ≡ askVerdict w a b k
-    unfolding askVerdict
-    ask-zero h = rw (eq-eqb (windowVerdict 2 setLimit w a b) 0 (sym e ∙ z), eq-eqb k 0 h)
+    pub ask-zero : k ≡ 0 → FirstOf (askRefusals w a b k) (at 0 6)
+    ask-zero h =
+        passes-in (windowRefusals setLayout w a b) (zeroRun k ∷ []) (at 0 v) (at 0 6) f z
+        (ends 6 (applies (eqb k 0) 6) 0 (rw (eq-eqb k 0 h)) (rw (eq-eqb k 0 h) (omega arith)))
 
-    pub ask-right : (k ≡ 0 → ⊥) → 0 ≡ askVerdict w a b k
-    unfolding askVerdict
-    ask-right n = rw (eq-eqb (windowVerdict 2 setLimit w a b) 0 (sym e ∙ z), ne-eqb k 0 n)
+    pub ask-right : (k ≡ 0 → ⊥) → FirstOf (askRefusals w a b k) (at 0 0)
+    ask-right n =
+        passes-in (windowRefusals setLayout w a b) (zeroRun k ∷ []) (at 0 v) (at 0 0) f z
+        (ends 0 (applies (eqb k 0) 6) 0 (rw (ne-eqb k 0 n)) (rw (ne-eqb k 0 n) (omega arith)))
 
-pub asked-right : (w : List ℕ) (a b k : ℕ) → askVerdict w a b k ≡ 0 → Asked w a b k
-unfolding askVerdict
-asked-right w a b k v = go (eqb (windowVerdict 2 setLimit w a b) 0) refl (eqb k 0) refl v
-  where
-    go : (s : Bool) → eqb (windowVerdict 2 setLimit w a b) 0 ≡ s → (t : Bool) → eqb k 0 ≡ t
-        → pick s (pick t 6 0) (windowVerdict 2 setLimit w a b) ≡ 0 → Asked w a b k
-    go true p true q h = absurd (omega arith)
-    go true p false q h =
-        let j = judged-window 2 setLimit w a b (omega arith) (eqb-true (windowVerdict 2 setLimit w a b) 0 p) in
-        let n : k ≡ 0 → ⊥ = eqb-false k 0 q in
-        record { block = j .block; order = j .order; run = omega arith }
-    go false p t q h = absurd (eqb-false (windowVerdict 2 setLimit w a b) 0 p h)
+pub asked-right : (w : List ℕ) (a b k : ℕ) → Clear (askRefusals w a b k) → Asked w a b k
+asked-right w a b k c =
+    let j = clear-window setLayout w a b (omega arith) (c .0, (c .1 .0, tt)) in
+    let n : k ≡ 0 → ⊥ = eqb-false k 0 (applies-clear (eqb k 0) 5 (c .1 .1 .0)) in
+    record { block = j .block; order = j .order; run = omega arith }
 
-ask-most : (w : List ℕ) (a b k : ℕ) → askVerdict w a b k ≤ 15
-unfolding askVerdict
-ask-most w a b k = go (eqb (windowVerdict 2 setLimit w a b) 0) (eqb k 0)
-  where
-    go : (s t : Bool) → pick s (pick t 6 0) (windowVerdict 2 setLimit w a b) ≤ 15
-    go true true = omega arith
-    go true false = omega arith
-    go false t = window-most 2 setLimit w a b
-
--- the calls' definition goes by that verdict
+-- the question refused, given, or with no gap
 module _ (fit : ℕ → ℕ → ℕ → List Entry → Option ℕ) (w : List ℕ) (a b k : ℕ) where
-  pub asked-by : (lent : List (List ℕ)) (next : ℕ → Outcome)
-      → asked fit w a b k lent next ≡ judged (askVerdict w a b k) 0 lent (atPlace (fit a b k (entriesOf 2 w)) lent next)
-  unfolding askVerdict windowVerdict
-  asked-by lent next = go (verdict 2 setLimit w) (ltb b a) (eqb k 0)
-    where
-      x : Outcome
-      x = atPlace (fit a b k (entriesOf 2 w)) lent next
+  -- what the question says of a place, or of none, where nothing is refused before
+  abbrev pub atPlace : Option ℕ → Outcome
+  atPlace o = judged (gapless o) 0 [] (answered (placeOf o))
 
-      go : (v : ℕ) (s t : Bool) → judged v 0 lent (pick s (refuse 4 0 lent) (pick t (refuse 6 0 lent) x))
-          ≡ judged (pick (eqb (pick (eqb v 0) (pick s 4 0) v) 0) (pick t 6 0) (pick (eqb v 0) (pick s 4 0) v)) 0 lent x
-      go zero true t = refl
-      go zero false true = refl
-      go zero false false = refl
-      go (suc v) s t = rw (ne-eqb (suc v) 0 (λ q. omega arith), ne-eqb (suc v) 0 (λ q. omega arith))
-
-  -- the question refused, given, or with no gap
-  module _ (v : ℕ) (e : v ≡ askVerdict w a b k) where
-    pub fit-refused : (f : Refusal) → (v ≡ 0 → ⊥) → f ≡ refusalOf v 0 → outcome (refusalSays f) [] ≡ fitCall fit w a b k
+  module _ (v : ℕ) (f : FirstOf (askRefusals w a b k) (at 0 v)) where
+    pub fit-refused : (x : Refusal) → (v ≡ 0 → ⊥) → x ≡ refusalOf v 0 → outcome (refusalSays x) [] ≡ fitCall fit w a b k
     unfolding fitCall
-    fit-refused f n r =
-        refused-as [] 0 (atPlace (fit a b k (entriesOf 2 w)) [] answered) v (askVerdict w a b k) f e (ask-most w a b k) n r
-        ∙ sym (asked-by [] answered)
+    fit-refused x n r = refusal-by (askRefusals w a b k) (at 0 v) f [] (atPlace (fit a b k (entriesOf 2 w))) x n r
 
-    pub fit-answers : (o : Option ℕ) (y : Outcome) → v ≡ 0 → fit a b k (entriesOf 2 w) ≡ o → y ≡ atPlace o [] answered → y ≡ fitCall fit w a b k
+    pub fit-answers : (o : Option ℕ) (y : Outcome) → v ≡ 0 → fit a b k (entriesOf 2 w) ≡ o → y ≡ atPlace o → y ≡ fitCall fit w a b k
     unfolding fitCall
-    fit-answers o y z p q =
-        given-as [] 0 (atPlace (fit a b k (entriesOf 2 w)) [] answered) y v (askVerdict w a b k) e z
-        (q ∙ ap (λ (x : Option ℕ). atPlace x [] answered) (sym p))
-        ∙ sym (asked-by [] answered)
+    fit-answers o y z p q = given-by (askRefusals w a b k) (at 0 v) f [] (atPlace (fit a b k (entriesOf 2 w))) y z (q ∙ ap atPlace (sym p))
 
   -- Where nothing is refused before, the question answers what `fit` names: its place, or 7 where it names none.
-  pub fit-asked : SoundBlock 2 setLimit w → a ≤ b → 1 ≤ k → fitCall fit w a b k ≡ atPlace (fit a b k (entriesOf 2 w)) [] answered
+  pub fit-asked : SoundBlock setLayout w → a ≤ b → 1 ≤ k → fitCall fit w a b k ≡ atPlace (fit a b k (entriesOf 2 w))
   unfolding fitCall
-  fit-asked s h n = rw (sound-verdict 2 setLimit w s, le-ltb b a h, ne-eqb k 0 (λ z. omega arith))
+  fit-asked s h n = rw (sound-verdict setLayout w s, le-ltb b a h, ne-eqb k 0 (λ z. omega arith))
 
 -- the gap that was found, as a place
 module _ (shortest : Bool) (a b k : ℕ) (es : List Entry) (g : Gap)

@@ -98,7 +98,8 @@ hold-one t g c gs e = rw e (go (leb (numbers c) t) refl (leb (numbers g) (number
     n = leb-false (numbers g) t e
 
     go : (s : Bool) → leb (numbers c) t ≡ s → (u : Bool) → leb (numbers g) (numbers c) ≡ u
-        → some (shorter g (some (pick s c (shorter c (search t gs))))) ≡ some (pick (leb (numbers (pick u g c)) t) (pick u g c) (shorter (pick u g c) (search t gs)))
+        → some (shorter g (some (pick s c (shorter c (search t gs))))) ≡ some
+        (pick (leb (numbers (pick u g c)) t) (pick u g c) (shorter (pick u g c) (search t gs)))
     go true p true q =
         let x = leb-true (numbers c) t p in
         let y = leb-true (numbers g) (numbers c) q in

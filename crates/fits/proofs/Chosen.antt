@@ -52,7 +52,8 @@ module _ (up : ℕ → ℕ) (above : (s : ℕ) → s ≤ up s) (k : ℕ) (run : 
       on t none c = pass-none e gs t c
       on t (some g) c = record { listed = inr (c .listed); fits = c .fits; least = λ l h i q. c .least l h (not-first e gs t l h i q) q }
 
-      go : (t : Bool) → fits up k e ≡ t → Chose First gs (firstGap (filter (fits up k) gs)) → Chose First (e ∷ gs) (firstGap (pick t (e ∷ filter (fits up k) gs) (filter (fits up k) gs)))
+      go : (t : Bool) → fits up k e ≡ t → Chose First gs (firstGap (filter (fits up k) gs))
+          → Chose First (e ∷ gs) (firstGap (pick t (e ∷ filter (fits up k) gs) (filter (fits up k) gs)))
       go true t c = record {
         listed = inl (refl, refl);
         fits = leb-true (up (e .low) + k) (suc (e .high)) t;
@@ -121,6 +122,7 @@ module _ (up : ℕ → ℕ) (above : (s : ℕ) → s ≤ up s) (k : ℕ) (run : 
       first t none c = alone t c
       first t (some f) c = two t f c (leb (numbers e) (numbers f)) refl
 
-      go : (t : Bool) → fits up k e ≡ t → Chose Shortest gs (shortestGap (filter (fits up k) gs)) → Chose Shortest (e ∷ gs) (shortestGap (pick t (e ∷ filter (fits up k) gs) (filter (fits up k) gs)))
+      go : (t : Bool) → fits up k e ≡ t → Chose Shortest gs (shortestGap (filter (fits up k) gs))
+          → Chose Shortest (e ∷ gs) (shortestGap (pick t (e ∷ filter (fits up k) gs) (filter (fits up k) gs)))
       go true t c = first t (shortestGap (filter (fits up k) gs)) c
       go false t c = on t (shortestGap (filter (fits up k) gs)) c

@@ -65,7 +65,9 @@ plain-piece false g e = tt
 
 from-plain : (x N : ℕ) (es : List Entry) → Plain (gapsFrom x N es)
 from-plain x N [] = plain-piece (ltb x N) (entry x (N - 1) []) refl
-from-plain x N (e ∷ es) = plain-append (ltb x (min N (e .low))) (entry x (min N (e .low) - 1) []) (gapsFrom (max x (suc (e .high))) N es) refl (from-plain (max x (suc (e .high))) N es)
+from-plain x N (e ∷ es) =
+    plain-append (ltb x (min N (e .low))) (entry x (min N (e .low) - 1) []) (gapsFrom (max x (suc (e .high))) N es) refl
+    (from-plain (max x (suc (e .high))) N es)
 
 -- they end below N
 from-below : (x N : ℕ) (es : List Entry) → All (λ g. g .high < N) (gapsFrom x N es)
@@ -173,13 +175,15 @@ from-members x N (e ∷ es) s z =
 
     go : Side e z → orb (inRun x y z) (lessb (inRun c N z) (member es z)) ≡ lessb (inRun x N z) (member (e ∷ es) z)
     go (under h) =
-        ap₂ (λ (t u : Bool). orb t (lessb u (member es z))) (run-alike x y x N z (λ p q. (p, omega arith)) (λ p q. (p, omega arith))) (run-low c N z (omega (arith, s .0)))
+        ap₂ (λ (t u : Bool). orb t (lessb u (member es z))) (run-alike x y x N z (λ p q. (p, omega arith)) (λ p q. (p, omega arith)))
+        (run-low c N z (omega (arith, s .0)))
         ∙ or-false (inRun x N z) ∙ sym (less-false (inRun x N z)) ∙ ap (lessb (inRun x N z)) (sym (ap has (none-under e es s z h)))
     go (inside h k) =
         ap₂ (λ (t u : Bool). orb t (lessb u (member es z))) (run-high x y z (omega arith)) (run-low c N z (omega arith))
         ∙ sym (less-true (inRun x N z)) ∙ ap (lessb (inRun x N z)) (sym (ap has (val-in e es z h k)))
     go (past h) =
-        ap₂ (λ (t u : Bool). orb t (lessb u (member es z))) (run-high x y z (omega (arith, s .0))) (run-alike c N x N z (λ p q. (omega arith, q)) (λ p q. (omega arith, q)))
+        ap₂ (λ (t u : Bool). orb t (lessb u (member es z))) (run-high x y z (omega (arith, s .0)))
+        (run-alike c N x N z (λ p q. (omega arith, q)) (λ p q. (omega arith, q)))
         ∙ ap (lessb (inRun x N z)) (sym (ap has (val-past e es z h)))
 
 window-member : (a b z : ℕ) → member (entry a b [] ∷ []) z ≡ inRun a (suc b) z

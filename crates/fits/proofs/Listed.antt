@@ -62,7 +62,8 @@ in-member (g ∷ gs) l h x (inr i) p q = go (side g x) (in-member gs l h x i p q
 pub in-before : (gs : List Entry) (l h x : ℕ) → Sound gs → Plain gs → In l h gs → suc x ≡ l → member gs x ≡ false
 in-before [] l h x s f i e = absurd i
 in-before (g ∷ gs) l h x s f (inl p) e = ap has (none-under g gs s x (omega arith))
-in-before (g ∷ gs) l h x s f (inr i) e = ap has (val-past g gs x (omega (arith, near gs (gap-of g gs f (s .1)) (s .2) i))) ∙ in-before gs l h x (s .2) (f .1) i e
+in-before (g ∷ gs) l h x s f (inr i) e =
+    ap has (val-past g gs x (omega (arith, near gs (gap-of g gs f (s .1)) (s .2) i))) ∙ in-before gs l h x (s .2) (f .1) i e
   where
     near : (fs : List Entry) → Gap g fs → Sound fs → In l h fs → g .high + 2 ≤ l
     near [] d t j = absurd j
@@ -76,7 +77,8 @@ in-after (g ∷ gs) l h x s f (inl p) e = ap has (val-past g gs x (omega arith))
     next : (fs : List Entry) → Gap g fs → Sound fs → member fs x ≡ false
     next [] d t = refl
     next (q ∷ fs) d t = ap has (none-under q fs t x (omega arith))
-in-after (g ∷ gs) l h x s f (inr i) e = ap has (val-past g gs x (omega (arith, in-far g gs l h s i, in-order gs l h (s .2) i))) ∙ in-after gs l h x (s .2) (f .1) i e
+in-after (g ∷ gs) l h x s f (inr i) e =
+    ap has (val-past g gs x (omega (arith, in-far g gs l h s i, in-order gs l h (s .2) i))) ∙ in-after gs l h x (s .2) (f .1) i e
 
 -- a run of members lies in one range
 pub record Around (gs : List Entry) (x y : ℕ) : Type 0 where

@@ -7,13 +7,13 @@ use native.Mathlib.Omega.{arith}
 use Rattle.entries.specs.Entries.{Entry}
 use Rattle.entries.specs.Questions.{filter}
 use Rattle.answers.specs.Answers.{refuse}
-use Rattle.blocks.specs.Blocks.{setLimit, entriesOf, SoundBlock}
-use Rattle.fits.specs.Calls.{atPlace, answered, fitCall, firstFitCall, bestFitCall}
+use Rattle.blocks.specs.Blocks.{setLayout, entriesOf, SoundBlock}
+use Rattle.fits.specs.Calls.{fitCall, firstFitCall, bestFitCall}
 use Rattle.fits.specs.Fits.{gaps, fits, firstGap, shortestGap, startIn, placeIn, anywhere, firstFit, bestFit}
 use Rattle.fits.specs.Meaning.{FreeRun, IsGap, FirstOf, BestOf, LeastUp, FirstAt, Holds, BestAt}
 use Rattle.fits.proofs.Listed.{In, Around}
 use Rattle.fits.proofs.Runs.{all, run-around, listed-gap, gap-listed}
-use Rattle.fits.proofs.Asking.{fit-asked}
+use Rattle.fits.proofs.Asking.{atPlace, fit-asked}
 use Rattle.fits.proofs.Chosen.{Chose, First, Shortest, chose-first, chose-shortest}
 
 -- `gaps` ARE EXACTLY THE GAPS.
@@ -21,7 +21,8 @@ pub gaps-are : (a b : ℕ) (es : List Entry) (l h : ℕ) → (In l h (gaps a b e
 gaps-are a b es l h = (listed-gap a b es l h, gap-listed a b es l h)
 
 -- FIRST FIT, for any allowed starts
-pub first-at : (up : ℕ → ℕ) (Allowed : ℕ → Type 0) → LeastUp up Allowed → (a b k : ℕ) (es : List Entry) → 1 ≤ k → FirstAt Allowed a b k es (placeIn up firstGap a b k es)
+pub first-at : (up : ℕ → ℕ) (Allowed : ℕ → Type 0) → LeastUp up Allowed → (a b k : ℕ) (es : List Entry) → 1 ≤ k
+    → FirstAt Allowed a b k es (placeIn up firstGap a b k es)
 unfolding placeIn
 first-at up Allowed u a b k es one =
     go (firstGap (filter (fits up k) (gaps a b es))) (chose-first up (u .above) k one (gaps a b es) ((all a b es) .sound))
@@ -50,7 +51,8 @@ first-at up Allowed u a b k es one =
             omega (arith, c .least (r .l) (r .h) (r .listed) (fitting t ok r), u .least (r .l) t (r .low) ok)
 
 -- BEST FIT, for any allowed starts
-pub best-at : (up : ℕ → ℕ) (Allowed : ℕ → Type 0) → LeastUp up Allowed → (a b k : ℕ) (es : List Entry) → 1 ≤ k → BestAt Allowed a b k es (placeIn up shortestGap a b k es)
+pub best-at : (up : ℕ → ℕ) (Allowed : ℕ → Type 0) → LeastUp up Allowed → (a b k : ℕ) (es : List Entry) → 1 ≤ k
+    → BestAt Allowed a b k es (placeIn up shortestGap a b k es)
 unfolding placeIn
 best-at up Allowed u a b k es one =
     go (shortestGap (filter (fits up k) (gaps a b es))) (chose-shortest up (u .above) k one (gaps a b es) ((all a b es) .sound))
@@ -91,7 +93,8 @@ best-fit a b k es one = go (bestFit a b k es) (best-at anywhere (λ s. Unit {0})
     go : (o : Option ℕ) → BestAt (λ s. Unit {0}) a b k es o → BestOf a b k es o
     go none n = λ l h g m. n l h l g (run l h m)
     go (some s) c =
-        let e : s ≡ c .low = omega (arith, c .holds .from, c .holds .upto, c .least (c .low) (run (c .low) (c .high) (omega (arith, c .holds .from, c .holds .upto)))) in
+        let e : s ≡ c .low = omega
+        (arith, c .holds .from, c .holds .upto, c .least (c .low) (run (c .low) (c .high) (omega (arith, c .holds .from, c .holds .upto)))) in
         record {
           high = c .high;
           gap = rw e (c .gap);
@@ -135,19 +138,19 @@ module _ (up : ℕ → ℕ) (a b k : ℕ) (es : List Entry) where
       go (g ∷ gs) q = let z : _≡_ {A = ℕ} 0 1 = cc in absurd (omega arith)
 
 -- «7 NoGap: no free run as asked exists in the window», exactly, of both questions where nothing is refused before.
-module _ (w : List ℕ) (a b k : ℕ) (sound : SoundBlock 2 setLimit w) (order : a ≤ b) (one : 1 ≤ k) where
+module _ (w : List ℕ) (a b k : ℕ) (sound : SoundBlock setLayout w) (order : a ≤ b) (one : 1 ≤ k) where
   abbrev NoRun : Type 0
   NoRun = (t : ℕ) → FreeRun a b (entriesOf 2 w) t (t + k - 1) → ⊥
 
   no-place : (fit : ℕ → ℕ → ℕ → List Entry → Option ℕ) → fitCall fit w a b k ≡ refuse 7 0 [] → fit a b k (entriesOf 2 w) ≡ none
   no-place fit e = go (fit a b k (entriesOf 2 w)) refl (sym (fit-asked fit w a b k sound order one) ∙ e)
     where
-      go : (o : Option ℕ) → fit a b k (entriesOf 2 w) ≡ o → atPlace o [] answered ≡ refuse 7 0 [] → fit a b k (entriesOf 2 w) ≡ none
+      go : (o : Option ℕ) → fit a b k (entriesOf 2 w) ≡ o → atPlace fit w a b k o ≡ refuse 7 0 [] → fit a b k (entriesOf 2 w) ≡ none
       go none q h = q
       go (some s) q h = let z : _≡_ {A = ℕ} 0 1 = cc in absurd (omega arith)
 
   place-no : (fit : ℕ → ℕ → ℕ → List Entry → Option ℕ) → fit a b k (entriesOf 2 w) ≡ none → fitCall fit w a b k ≡ refuse 7 0 []
-  place-no fit e = fit-asked fit w a b k sound order one ∙ ap (λ (o : Option ℕ). atPlace o [] answered) e
+  place-no fit e = fit-asked fit w a b k sound order one ∙ ap (atPlace fit w a b k) e
 
   none-run : firstFit a b k (entriesOf 2 w) ≡ none → NoRun
   none-run e = subst (FirstOf a b k (entriesOf 2 w)) e (first-fit a b k (entriesOf 2 w) one)
@@ -159,5 +162,8 @@ module _ (w : List ℕ) (a b k : ℕ) (sound : SoundBlock 2 setLimit w) (order :
   first-no-gap = (λ e. none-run (no-place firstFit e), λ n. place-no firstFit (run-none n))
 
   pub best-no-gap : (bestFitCall w a b k ≡ refuse 7 0 [] → NoRun) × (NoRun → bestFitCall w a b k ≡ refuse 7 0 [])
-  best-no-gap =
-      (λ e. none-run (best-none anywhere a b k (entriesOf 2 w) (no-place bestFit e)), λ n. place-no bestFit (first-none anywhere a b k (entriesOf 2 w) (run-none n)))
+  best-no-gap = (
+    λ e. none-run (best-none anywhere a b k (entriesOf 2 w) (no-place bestFit e)),
+    λ n. place-no bestFit
+        (first-none anywhere a b k (entriesOf 2 w) (run-none n)),
+  )

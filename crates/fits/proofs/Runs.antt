@@ -49,7 +49,13 @@ module _ (a b : ℕ) (es : List Entry) where
   run-around l h r = around (gaps a b es) l h (all .sound) (all .plain) (r .some) (run-in l h r)
 
   pub listed-gap : (l h : ℕ) → In l h (gaps a b es) → IsGap a b es l h
-  listed-gap l h i = record { run = record { some = order; from = (at l (omega arith) order) .from; upto = (at h order (omega arith)) .upto; free = λ x p q. (at x p q) .free }; longest = longest }
+  listed-gap l h i =
+      record {
+        run = record
+            { some = order; from = (at l (omega arith) order) .from; upto = (at h order (omega arith)) .upto; free = λ x p q. (at x p q) .free };
+        longest =
+            longest;
+      }
     where
       order : l ≤ h
       order = in-order (gaps a b es) l h (all .sound) i
@@ -61,11 +67,15 @@ module _ (a b : ℕ) (es : List Entry) where
       longest u v r p q = (low (decLt u l), high (decLt h v))
         where
           low : Dec (u < l) → u ≡ l
-          low (yes k) = absurd (true≢false (sym (run-in u v r (l - 1) (omega arith) (omega (arith, order))) ∙ in-before (gaps a b es) l h (l - 1) (all .sound) (all .plain) i (omega arith)))
+          low (yes k) =
+              absurd (true≢false (sym (run-in u v r (l - 1) (omega arith) (omega (arith, order)))
+              ∙ in-before (gaps a b es) l h (l - 1) (all .sound) (all .plain) i (omega arith)))
           low (no k) = omega arith
 
           high : Dec (h < v) → v ≡ h
-          high (yes k) = absurd (true≢false (sym (run-in u v r (suc h) (omega (arith, order)) (omega arith)) ∙ in-after (gaps a b es) l h (suc h) (all .sound) (all .plain) i refl))
+          high (yes k) =
+              absurd (true≢false (sym (run-in u v r (suc h) (omega (arith, order)) (omega arith))
+              ∙ in-after (gaps a b es) l h (suc h) (all .sound) (all .plain) i refl))
           high (no k) = omega arith
 
   pub gap-listed : (l h : ℕ) → IsGap a b es l h → In l h (gaps a b es)

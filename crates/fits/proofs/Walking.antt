@@ -15,8 +15,8 @@ use Rattle.entries.specs.Build.{pick, andb}
 use Rattle.entries.specs.Sets.{M}
 use Rattle.entries.specs.Questions.{filter}
 use Rattle.entries.proofs.Values.{true≢false}
-use Rattle.blocks.specs.Blocks.{setLimit, itemsOf, entriesOf}
-use Rattle.blocks.proofs.Judging.{room}
+use Rattle.blocks.specs.Blocks.{setLayout, itemsOf, entriesOf}
+use Rattle.blocks.proofs.Judging.{room-words}
 use Rattle.fits.specs.declared.Gap.{Gap}
 use Rattle.fits.specs.Fits.{gaps, numbers, fits, anywhere}
 use Rattle.fits.specs.Steps.{chooser, gapOf, heldIn, piece, better, taken, Took, Trying, Asked}
@@ -62,7 +62,9 @@ module _ (best : Gap) (low high k : ℕ) (g : Trying best low high k) where
       where
         go : (t : Bool) → andb t (leb (best .high - best .low) (high - low)) ≡ true
             → pick t (entry (best .low) (best .high) [] ∷ []) [] ≡ better (pick t (entry (best .low) (best .high) [] ∷ []) []) new
-        go true q = let m = leb-true (best .high - best .low) (high - low) q in rw (le-leb (suc (best .high) - best .low) (suc high - low) (omega (arith, g .held, g .order)))
+        go true q =
+            let m = leb-true (best .high - best .low) (high - low) q in
+            rw (le-leb (suc (best .high) - best .low) (suc high - low) (omega (arith, g .held, g .order)))
         go false q = absurd (true≢false (sym q))
 
     -- no gap is held, or a longer one
@@ -146,7 +148,8 @@ search-held t g = go (g .found) (leb (numbers (entry (g .low) (g .high) [])) t)
     go false u = refl
 
 -- the place of a range that is left
-pub walked-inside : {w : List ℕ} {o : Option Entry} {b k enough : ℕ} {best : Gap} {from p left : ℕ} → Walked w o b k enough best from p left → 0 < left → p + 2 ≤ length w
+pub walked-inside : {w : List ℕ} {o : Option Entry} {b k enough : ℕ} {best : Gap} {from p left : ℕ} → Walked w o b k enough best from p left
+    → 0 < left → p + 2 ≤ length w
 walked-inside s h = omega (arith, s .place, s .held)
 
 -- at a range, with the gap before it tried
@@ -172,7 +175,8 @@ module _ {w : List ℕ} {o : Option Entry} {b k enough : ℕ} {best : Gap} {from
       let es : List Entry = itemsOf 2 m (drop 2 (drop p w)) in (
         subst Sound i (s .sound .2),
         s .rest
-            ∙ hold-piece (suc enough) k (heldIn best) from (min (suc b) (getD (drop p w) 0 0)) (gapsFrom (max from (suc (getD (drop p w) 1 0))) (suc b) es) (held-one best) (s .goes)
+            ∙ hold-piece (suc enough) k (heldIn best) from (min (suc b) (getD (drop p w) 0 0))
+            (gapsFrom (max from (suc (getD (drop p w) 1 0))) (suc b) es) (held-one best) (s .goes)
             ∙ ap₂ (λ (x y : ℕ). search (suc enough) (taken k (heldIn best) (piece from (min (suc b) x)) ++ kept (gapsFrom (max from (suc y)) (suc b) es))) lo hi
             ∙ ap₂ (λ (x y : List Entry). search (suc enough) (x ++ kept (gapsFrom (max from (suc high)) (suc b) y))) (sym (t .is)) i,
       )
@@ -187,7 +191,8 @@ module _ {w : List ℕ} {o : Option Entry} {b k enough : ℕ} {best : Gap} {from
   pub walked-over : b ≤ high → gapOf r ≡ o
   walked-over e =
       let a = ahead left some s in
-      sym (a .1 ∙ ap (λ (gs : List Entry). search (suc enough) (heldIn r ++ kept gs)) (from-none (max from (suc high)) (suc b) later (omega arith)) ∙ search-held (suc enough) r)
+      sym (a .1 ∙ ap (λ (gs : List Entry). search (suc enough) (heldIn r ++ kept gs)) (from-none (max from (suc high)) (suc b) later (omega arith))
+      ∙ search-held (suc enough) r)
 
   pub walked-on : (next q m : ℕ) → andb (r .found) (leb (r .high - r .low) enough) ≡ false → high < b → next ≡ max from (suc high) → q ≡ p + 2 → m ≡ left - 1
       → Walked w o b k enough r next q m
@@ -225,11 +230,12 @@ walked-end {w} {o} {b} {k} {enough} {best} {from} {p} {left} s z r t =
     whole = rw last
 
 -- before the first range
-pub walked-start : (w : List ℕ) (a b k : ℕ) (shortest : Bool) (enough n : ℕ) (g : Gap) → Asked w a b k → b ≤ M → enough ≡ pick shortest (k - 1) M → n ≡ getD w 0 0 → g .found ≡ false → g .low ≡ 0 → g .high ≡ 0
+pub walked-start : (w : List ℕ) (a b k : ℕ) (shortest : Bool) (enough n : ℕ) (g : Gap) → Asked w a b k → b ≤ M → enough ≡ pick shortest (k - 1) M
+    → n ≡ getD w 0 0 → g .found ≡ false → g .low ≡ 0 → g .high ≡ 0
     → Walked w (chooser shortest (filter (fits anywhere k) (gaps a b (entriesOf 2 w)))) b k enough g a 1 n
 walked-start w a b k shortest enough n g s m e c f lo hi = record {
   place = omega arith;
-  held = room 2 setLimit (length w) (getD w 0 0) (s .block .some) (s .block .fits);
+  held = room-words setLayout (length w) (getD w 0 0) (s .block .some) (s .block .fits);
   sound = rw c (s .block .sound);
   run = s .run;
   inside = s .order;
@@ -255,9 +261,13 @@ walked-start w a b k shortest enough n g s m e c f lo hi = record {
         chosen true =
             let j : suc (k - 1) ≡ k = omega (arith, s .run) in
             ap (λ (i : ℕ). search i list) j
-            ∙ search-shortest k list (filter-keeps (λ x. k ≤ numbers x) (fits anywhere k) (λ x q. let y = leb-true (x .low + k) (suc (x .high)) q in omega arith) (gaps a b (entriesOf 2 w)))
+            ∙ search-shortest k list
+            (filter-keeps (λ x. k ≤ numbers x) (fits anywhere k) (λ x q. let y = leb-true (x .low + k) (suc (x .high)) q in omega arith)
+            (gaps a b (entriesOf 2 w)))
         chosen false =
-            search-first (suc M) list (filter-all (λ x. numbers x ≤ suc M) (fits anywhere k) (gaps a b (entriesOf 2 w)) (short (gaps a b (entriesOf 2 w)) (gaps-below a b (entriesOf 2 w) (s .block .sound))))
+            search-first (suc M) list
+            (filter-all (λ x. numbers x ≤ suc M) (fits anywhere k) (gaps a b (entriesOf 2 w))
+            (short (gaps a b (entriesOf 2 w)) (gaps-below a b (entriesOf 2 w) (s .block .sound))))
           where
             short : (gs : List Entry) → All (λ x. x .high < suc b) gs → All (λ x. numbers x ≤ suc M) gs
             short [] h = tt

@@ -2,8 +2,9 @@
 use mathlib.Core.Path.{_≡_}
 use mathlib.Core.Bool.{false}
 use mathlib.Core.Option.{Option, none, some}
-use mathlib.Core.List.{List}
+use mathlib.Core.List.{List, [], _∷_}
 use Prim.Native.Nat.{ℕ, suc, _+_, _-_, _≤_}
+use Rattle.answers.specs.Answers.{given, refused, Outcome, outcome}
 use Rattle.entries.specs.Entries.{Entry}
 use Rattle.entries.specs.Sets.{member}
 
@@ -76,3 +77,8 @@ pub record BestFrom (Allowed : ℕ → Type 0) (a b k : ℕ) (es : List Entry) (
 abbrev pub BestAt : (ℕ → Type 0) → ℕ → ℕ → ℕ → List Entry → Option ℕ → Type 0
 BestAt Allowed a b k es (some s) = BestFrom Allowed a b k es s
 BestAt Allowed a b k es none = (l h t : ℕ) → IsGap a b es l h → Holds Allowed k l h t → ⊥
+
+-- an outcome that, accepted, answers s: of a reservation, which is the question followed by the insertion
+abbrev pub answering : ℕ → Outcome → Outcome
+answering s (outcome (given xs) lent) = outcome (given (s ∷ [])) lent
+answering s (outcome (refused n p) lent) = outcome (refused n p) lent

@@ -4,12 +4,15 @@ use mathlib.Core.Bool.{Bool, true, false}
 use mathlib.Core.Option.{Option, none, some}
 use mathlib.Core.List.{List, [], _∷_}
 use Prim.Native.Nat.{ℕ, suc, _+_, _-_, _≤_, _<_}
-use lib.Dec.{ltb, eqb}
+use lib.Dec.{ltb}
+use lib.ListN.{length}
 use Rattle.entries.specs.Entries.{Entry, entry}
 use Rattle.entries.specs.Build.{pick}
 use Rattle.entries.specs.Sets.{M}
-use Rattle.blocks.specs.Blocks.{SoundBlock, setLimit}
-use Rattle.searches.specs.Calls.{windowVerdict}
+use Rattle.answers.specs.Answers.{Outcome, inTurn}
+use Rattle.blocks.specs.Blocks.{SoundBlock, setLayout}
+use Rattle.blocks.specs.Calls.{room}
+use Rattle.fits.specs.Calls.{reservedAt, reservedWith}
 use Rattle.fits.specs.declared.Gap.{Gap}
 use Rattle.fits.specs.Fits.{anywhere, fits, shorter, firstGap, shortestGap, placeIn}
 
@@ -54,16 +57,16 @@ pub record Trying (best : Gap) (low high k : ℕ) : Type 0 where
 
 -- a sound set, a window in order, a run of at least one number
 pub record Asked (w : List ℕ) (a b k : ℕ) : Type 0 where
-  pub block : SoundBlock 2 setLimit w
+  pub block : SoundBlock setLayout w
   pub order : a ≤ b
   pub run : 0 < k
 
 -- a sound set, and a run of k from s on
 pub record Placing (w : List ℕ) (s k : ℕ) : Type 0 where
-  pub block : SoundBlock 2 setLimit w
+  pub block : SoundBlock setLayout w
   pub run : 0 < k
   pub fits : s + k ≤ suc M
 
--- the number of a refusal, before a place is sought
-unfoldable pub askVerdict : List ℕ → ℕ → ℕ → ℕ → ℕ
-askVerdict w a b k = pick (eqb (windowVerdict 2 setLimit w a b) 0) (pick (eqb k 0) 6 0) (windowVerdict 2 setLimit w a b)
+-- what remains of a reservation at s: room for it
+abbrev pub reserving : List ℕ → ℕ → ℕ → Outcome
+reserving w s k = inTurn (room 0 setLayout (length w) (reservedAt w s k) ∷ []) (w ∷ []) (reservedWith w s k)

@@ -1,7 +1,6 @@
 // Fitting: a free run of k numbers in a window of a set, found by first fit or by best fit, and reserved.
 // Every call takes any words at all. Its contract names the whole outcome by one definition of specs/Calls.
 ghost use mathlib.Core.Path.{_≡_};
-ghost use mathlib.Core.Option.{some};
 ghost use mathlib.Core.List.{[], _∷_};
 ghost use Prim.Native.Nat.{suc, _+_, _-_, _<_, _≤_, min};
 ghost use lib.Dec.{leb};
@@ -9,16 +8,14 @@ ghost use Rattle.entries.specs.Entries.{entry};
 ghost use Rattle.entries.specs.Build.{pick, andb};
 ghost use Rattle.entries.specs.Sets.{M};
 ghost use Rattle.entries.specs.Questions.{filter};
-ghost use Rattle.answers.specs.Answers.{outcome};
+ghost use Rattle.answers.specs.Answers.{outcome, at};
+ghost use Rattle.answers.specs.Steps.{FirstOf};
 ghost use Rattle.answers.specs.Says.{placedSays};
-ghost use Rattle.blocks.specs.Blocks.{setLimit, entriesOf};
-ghost use Rattle.edits.specs.Calls.{editCall};
+ghost use Rattle.blocks.specs.Blocks.{entriesOf};
 ghost use Rattle.fits.specs.Fits.{gaps, fits, anywhere};
-ghost use Rattle.fits.specs.Calls.{answering, fitCall, reserveCall, firstFitCall, bestFitCall, reserveFirstCall, reserveBestCall};
-ghost use Rattle.fits.specs.Steps.{chooser, fitter, gapOf, piece, Took, Trying, Asked, Placing, askVerdict};
+ghost use Rattle.fits.specs.Calls.{askRefusals, fitCall, reserveCall, firstFitCall, bestFitCall, reserveFirstCall, reserveBestCall};
+ghost use Rattle.fits.specs.Steps.{chooser, fitter, gapOf, piece, Took, Trying, Asked, Placing, reserving};
 use answers::Placed;
-
-const MAX: u64 = 18446744073709551615;
 
 // The gap low..high that is held so far, if one was found. Low is at most high either way.
 pub struct Gap {
@@ -76,7 +73,7 @@ fn enough_for(k: u64, shortest: bool) -> u64
     requires { ⌜ 0 < k ⌝ }
     ensures { λ r. ⌜ r ≡ pick shortest (k - 1) M ⌝ }
 {
-    if shortest { k - 1 } else { MAX }
+    if shortest { k - 1 } else { blocks::M }
 }
 
 // The first gap of the window a..b in which k numbers fit, or the shortest: one walk over the ranges of a sound set.
@@ -110,11 +107,11 @@ fn gap_for(block: &[u64], a: u64, b: u64, k: u64, shortest: bool) -> Gap
     tried(best, from, b, k)
 }
 
-// The number of the refusal of a run of k in the window a..b, before a place is sought, or 0.
+// The number of the first refusal of a run of k in the window a..b, before a place is sought; 0 where there is none.
 fn ask_verdict(block: &[u64], a: u64, b: u64, k: u64) -> u8
-    ensures { λ r. ⌜ r ≡ askVerdict (now (block .entry)) a b k ⌝ }
+    ensures { λ r. ⌜ FirstOf (askRefusals (now (block .entry)) a b k) (at 0 r) ⌝ }
 {
-    let v = searches::window_verdict(block, 2, blocks::SET_LIMIT, a, b);
+    let v = searches::window_verdict(block, blocks::SET, a, b);
     if v != 0 {
         return v;
     }
@@ -142,11 +139,11 @@ fn fit(block: &[u64], a: u64, b: u64, k: u64, shortest: bool) -> Placed
 // Inserts the k numbers from s on into a sound set, where there is room.
 fn reserve_at(block: &mut [u64], s: u64, k: u64) -> Placed
     requires { ⌜ Placing (now block) s k ⌝ }
-    ensures { λ r. ⌜ outcome (placedSays r) (now (block .exit) ∷ []) ≡ answering s (editCall 2 setLimit (now (block .entry)) s (s + k - 1) (some [])) ⌝ }
+    ensures { λ r. ⌜ outcome (placedSays r) (now (block .exit) ∷ []) ≡ reserving (now (block .entry)) s k ⌝ }
 {
     let n = searches::count_of(block);
     let mut new = [s, s + (k - 1)];
-    if edits::put_value(block, &mut new, n, blocks::SET_LIMIT) {
+    if edits::put_value(block, &mut new, n, blocks::SET) {
         return Placed::At(s);
     }
     Placed::Refused(answers::refusal_of(5, 0))
@@ -177,14 +174,14 @@ pub fn best_fit(block: &[u64], a: u64, b: u64, k: u64) -> Placed
     fit(block, a, b, k, true)
 }
 
-// Makes the k numbers from the first fit on members, and answers it.
+// Reserves the first fit: inserts the k numbers from it on, and answers it.
 pub fn reserve_first(block: &mut [u64], a: u64, b: u64, k: u64) -> Placed
     ensures { λ r. ⌜ outcome (placedSays r) (now (block .exit) ∷ []) ≡ reserveFirstCall (now (block .entry)) a b k ⌝ }
 {
     reserve(block, a, b, k, false)
 }
 
-// Makes the k numbers from the best fit on members, and answers it.
+// Reserves the best fit: inserts the k numbers from it on, and answers it.
 pub fn reserve_best(block: &mut [u64], a: u64, b: u64, k: u64) -> Placed
     ensures { λ r. ⌜ outcome (placedSays r) (now (block .exit) ∷ []) ≡ reserveBestCall (now (block .entry)) a b k ⌝ }
 {

@@ -16,7 +16,8 @@ use Rattle.answers.proofs.Turns.{turn-accepted, clear-turn, applies-clear}
 use Rattle.blocks.specs.Blocks.{capacity, entriesOf, wordsOf, blockOf, verdict}
 use Rattle.blocks.specs.declared.Layout.{Layout}
 use Rattle.blocks.proofs.Words.{Shaped, items-shaped, items-length, words-length, read-back}
-use Rattle.blocks.proofs.Judging.{verdict-sound, sound-verdict, room}
+use Rattle.blocks.proofs.Judging.{verdict-sound, sound-verdict, room-words}
+use Rattle.blocks.proofs.Refusing.{some-words, room-fits}
 use Rattle.numbers.specs.Numbers.{Bytes, over, patch}
 use Rattle.runs.specs.Runs.{lengths}
 use Rattle.runs.proofs.Running.{clear-split, clear-join}
@@ -28,22 +29,22 @@ use Rattle.verdicts.specs.Steps.{FormKind}
 use Rattle.verdicts.proofs.Whole.{Formed, made, back, whole, size}
 
 -- the block of sound entries is sound, and says them
-module _ (s limit L : ℕ) (es : List Entry) (two : 2 ≤ s) (h : Shaped s es) where
-  block-entries : entriesOf s (blockOf L es) ≡ es
+module _ (l : Layout) (L : ℕ) (es : List Entry) (two : 2 ≤ l .width) (h : Shaped (l .width) es) where
+  block-entries : entriesOf (l .width) (blockOf L es) ≡ es
   unfolding blockOf
-  block-entries = read-back s two es (replicate (L - (1 + length (wordsOf es))) 0) h
+  block-entries = read-back (l .width) two es (replicate (L - (1 + length (wordsOf es))) 0) h
 
-  block-verdict : Sound es → 0 < L → length es ≤ capacity s limit L → verdict s limit (blockOf L es) ≡ 0
+  block-verdict : Sound es → 0 < L → length es ≤ capacity l L → verdict l (blockOf L es) ≡ 0
   unfolding blockOf
-  block-verdict d p l =
+  block-verdict d p c =
       let z = L - (1 + length (wordsOf es)) in
       let lb : length (blockOf L es) ≡ L =
-      omega (arith, length-append (wordsOf es) (replicate z 0), length-replicate {A = ℕ} z 0, words-length s es h, room s limit L (length es) p l) in
-      sound-verdict s limit (blockOf L es) record { some = omega arith; fits = rw lb l; sound = rw block-entries d }
+      omega (arith, length-append (wordsOf es) (replicate z 0), length-replicate {A = ℕ} z 0, words-length (l .width) es h, room-words l L (length es) p c) in
+      sound-verdict l (blockOf L es) record { some = omega arith; fits = rw lb c; sound = rw block-entries d }
 
 -- an output that has words, and room
-pub some-words : (l : ℕ) → 0 < l → applies (eqb l 0) 1 ≡ 0
-some-words l h = rw (ne-eqb l 0 (λ z. omega arith))
+pub has-words : (l : ℕ) → 0 < l → applies (eqb l 0) 1 ≡ 0
+has-words l h = rw (ne-eqb l 0 (λ z. omega arith))
 
 pub has-room : (c n : ℕ) → n ≤ c → applies (ltb c n) 5 ≡ 0
 has-room c n h = rw (le-ltb c n h)
@@ -57,25 +58,23 @@ module _ (layout : Layout) (two : 2 ≤ layout .width) where
   held-stored [] [] l h = refl
   held-stored [] (es ∷ runs) l h = absurd (omega arith)
   held-stored (w ∷ outs) [] l h = absurd (omega arith)
-  held-stored (w ∷ outs) (es ∷ runs) l h = ap₂ _∷_ (block-entries s (layout .limit) (length w) es two (h .0)) (held-stored outs runs (omega arith) (h .1))
+  held-stored (w ∷ outs) (es ∷ runs) l h = ap₂ _∷_ (block-entries layout (length w) es two (h .0)) (held-stored outs runs (omega arith) (h .1))
 
   sound-stored : (i j q : ℕ) (outs : List (List ℕ)) (runs : List (List Entry)) → Clear (noBlocks i (lengths outs)) → Clear (noRooms layout j (lengths outs) (lengths runs))
       → Each (Fine s (layout .limit)) runs → Clear (inputs layout q (storedIn outs runs))
   sound-stored i j q [] runs c d h = tt
   sound-stored i j q (w ∷ outs) [] c d h = tt
   sound-stored i j q (w ∷ outs) (es ∷ runs) c d h =
-      let n = eqb-false (length w) 0 (applies-clear (eqb (length w) 0) 0 (c .0)) in
-      let g : length es ≤ capacity s (layout .limit) (length w) =
-      ltb-false (capacity s (layout .limit) (length w)) (length es) (applies-clear (ltb (capacity s (layout .limit) (length w)) (length es)) 4 (d .0)) in
-      (block-verdict s (layout .limit) (length w) es two (h .0 .shaped) (h .0 .sound) (omega arith) g,
+      let g = room-fits layout (length w) es (d .0) in
+      (block-verdict layout (length w) es two (h .0 .shaped) (h .0 .sound) (some-words (length w) (c .0)) g,
       sound-stored (suc i) (suc j) (suc q) outs runs (c .1) (d .1) (h .1))
 
   pub held-fine : (q : ℕ) (ws : List (List ℕ)) → Clear (inputs layout q ws) → Each (Fine s (layout .limit)) (heldIn layout ws)
   held-fine q [] c = tt
   held-fine q (w ∷ ws) c =
-      let d = verdict-sound s (layout .limit) w (c .0) in
+      let d = verdict-sound layout w (c .0) in
       let n = getD w 0 0 in
-      let h = items-shaped s two n (drop 1 w) (omega (arith, room s (layout .limit) (length w) n (d .some) (d .fits), length-drop 1 w)) in
+      let h = items-shaped s two n (drop 1 w) (omega (arith, room-words layout (length w) n (d .some) (d .fits), length-drop 1 w)) in
       (record { sound = d .sound; shaped = h; within = omega (arith, items-length s n (drop 1 w), d .fits) }, held-fine (suc q) ws (c .1))
 
 many-stored : (outs : List (List ℕ)) (runs : List (List Entry)) → length outs ≡ length runs → length (storedIn outs runs) ≡ length runs

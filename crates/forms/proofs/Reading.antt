@@ -18,7 +18,7 @@ use Rattle.answers.specs.declared.Judged.the-variants as answer
 use Rattle.answers.proofs.Turns.{stops-in, passes-in, refused-by, given-by, applies-clear}
 use Rattle.blocks.specs.Blocks.{capacity, blockOf}
 use Rattle.blocks.specs.declared.Layout.{Layout}
-use Rattle.blocks.proofs.Judging.{room}
+use Rattle.blocks.proofs.Judging.{room-words}
 use Rattle.numbers.specs.Numbers.{Bytes, num2}
 use Rattle.records.specs.Reads.{secondCount}
 use Rattle.records.proofs.Items.{counts-two}
@@ -41,24 +41,24 @@ refused-first fs r f nz lent next = go (r .number) nz ∙ f .turn lent next
     go zero nz = absurd (nz refl)
     go (suc v) nz = refl
 
-each-length : (r s : ℕ) (x y : List ℕ) → Shape r s → take r (length x ∷ length y ∷ []) ≡ lengths (take r (x ∷ y ∷ []))
-each-length r s x y lone = refl
-each-length r s x y pair = refl
+each-length : (r : ℕ) (l : Layout) (x y : List ℕ) → Shape r l → take r (length x ∷ length y ∷ []) ≡ lengths (take r (x ∷ y ∷ []))
+each-length r l x y lone = refl
+each-length r l x y pair = refl
 
 -- a block that has words, and room for n items
 record Roomy (layout : Layout) (l n : ℕ) : Type 0 where
   some : 0 < l
-  fits : n ≤ capacity (layout .width) (layout .limit) l
+  fits : n ≤ capacity layout l
 
-roomy : (layout : Layout) (l n : ℕ) → applies (eqb l 0) 1 ≡ 0 → applies (ltb (capacity (layout .width) (layout .limit) l) n) 5 ≡ 0 → Roomy layout l n
+roomy : (layout : Layout) (l n : ℕ) → applies (eqb l 0) 1 ≡ 0 → applies (ltb (capacity layout l) n) 5 ≡ 0 → Roomy layout l n
 roomy layout l n c d =
     let z = eqb-false l 0 (applies-clear (eqb l 0) 0 c) in
-    record { some = omega arith; fits = ltb-false (capacity (layout .width) (layout .limit) l) n (applies-clear (ltb (capacity (layout .width) (layout .limit) l) n) 4 d) }
+    record { some = omega arith; fits = ltb-false (capacity layout l) n (applies-clear (ltb (capacity layout l) n) 4 d) }
 
-each-roomy : (layout : Layout) (r s i j n m : ℕ) → Shape r s → Clear (outRefusals layout (take r (i ∷ j ∷ [])) (take r (n ∷ m ∷ [])))
+each-roomy : (layout : Layout) (r i j n m : ℕ) → Shape r layout → Clear (outRefusals layout (take r (i ∷ j ∷ [])) (take r (n ∷ m ∷ [])))
     → Roomy layout i n × ((r ≡ 1 → ⊥) → Roomy layout j m)
-each-roomy layout r s i j n m lone c = (roomy layout i n (c .0) (c .1 .0), λ nz. absurd (nz refl))
-each-roomy layout r s i j n m pair c = (roomy layout i n (c .0) (c .1 .1 .0), λ nz. roomy layout j m (c .1 .0) (c .1 .1 .1 .0))
+each-roomy layout r i j n m lone c = (roomy layout i n (c .0) (c .1 .0), λ nz. absurd (nz refl))
+each-roomy layout r i j n m pair c = (roomy layout i n (c .0) (c .1 .1 .0), λ nz. roomy layout j m (c .1 .0) (c .1 .1 .1 .0))
 
 module _ (f : Form) (k : FormKind f) (b x y : List ℕ) (v : Finding) (fv : FirstOf (formRefusals f b) v) where
   abbrev outs : List (List ℕ)
@@ -86,7 +86,7 @@ module _ (f : Form) (k : FormKind f) (b x y : List ℕ) (v : Finding) (fv : Firs
       all-passed : FirstOf (formRefusals f b ++ O) u
       all-passed =
           passes-in (formRefusals f b) O v u fv zv
-          (subst (λ (l : List Finding). FirstOf l u) (ap₂ (outRefusals (f .layout)) (each-length (f .runs) (f .layout .width) x y (k .shape)) counts-are) fu)
+          (subst (λ (l : List Finding). FirstOf l u) (ap₂ (outRefusals (f .layout)) (each-length (f .runs) (f .layout) x y (k .shape)) counts-are) fu)
 
       pub outs-refused : (u .number ≡ 0 → ⊥) → (r : Judged) → r ≡ judgedOf (u .number) (u .place) → outcome (judgedSays r) outs ≡ readCall f b outs
       unfolding readCall
@@ -95,7 +95,7 @@ module _ (f : Form) (k : FormKind f) (b x y : List ℕ) (v : Finding) (fv : Firs
       module _ (zu : u .number ≡ 0) where
         pub to-store : Bytes b → Stores f n m b x y
         to-store w =
-            let r = each-roomy (f .layout) (f .runs) (f .layout .width) (length x) (length y) n m (k .shape) (fu .clear zu) in
+            let r = each-roomy (f .layout) (f .runs) (length x) (length y) n m (k .shape) (fu .clear zu) in
             let l : length b ≡ secondAt f n + itemSize f * m =
             accepted-size f k b w (fv .clear zv) ∙ ap (sizeOf f) (counted f k b) ∙ size-here f k b
             ∙ ap₂ (λ (i j : ℕ). secondAt f i + itemSize f * j) (sym en) (sym em) in
@@ -113,7 +113,7 @@ module _ (f : Form) (k : FormKind f) (b x y : List ℕ) (v : Finding) (fv : Firs
                 two = k .first .two;
                 four = k .first .four;
                 held = l;
-                room = omega (arith, room (f .layout .width) (f .layout .limit) (length z) i (r .some) (r .fits), length-drop 1 z);
+                room = omega (arith, room-words (f .layout) (length z) i (r .some) (r .fits), length-drop 1 z);
               };
             }
 
@@ -124,13 +124,13 @@ module _ (f : Form) (k : FormKind f) (b x y : List ℕ) (v : Finding) (fv : Firs
             (ap (outcome (given [])) (q ∙ ap (storedIn outs) (ap₂ (λ (i j : ℕ). runsHere f i j b) en em ∙ sym (entries-here f k b))))
 
 -- the outputs that were filled
-pub one-stored : (r s : ℕ) (x y x' y' : List ℕ) (es fs : List Entry) → r ≡ 1 → x' ≡ blockOf (length x) es
+pub one-stored : (r : ℕ) (x y x' y' : List ℕ) (es fs : List Entry) → r ≡ 1 → x' ≡ blockOf (length x) es
     → take r (x' ∷ y' ∷ []) ≡ storedIn (take r (x ∷ y ∷ [])) (take r (es ∷ fs ∷ []))
-one-stored r s x y x' y' es fs e p = rw (e, p)
+one-stored r x y x' y' es fs e p = rw (e, p)
 
-pub two-stored : (r s : ℕ) (x y x' y' : List ℕ) (es fs : List Entry) → r ≡ 2 → x' ≡ blockOf (length x) es → y' ≡ blockOf (length y) fs
+pub two-stored : (r : ℕ) (x y x' y' : List ℕ) (es fs : List Entry) → r ≡ 2 → x' ≡ blockOf (length x) es → y' ≡ blockOf (length y) fs
     → take r (x' ∷ y' ∷ []) ≡ storedIn (take r (x ∷ y ∷ [])) (take r (es ∷ fs ∷ []))
-two-stored r s x y x' y' es fs e p q = rw (e, p, q)
+two-stored r x y x' y' es fs e p q = rw (e, p, q)
 
 -- judging and asking, of a set
 module _ (b : List ℕ) (v : Finding) (fv : FirstOf (formRefusals ofSet b) v) where

@@ -5,7 +5,7 @@ use mathlib.Core.Bool.{Bool, true, false}
 use mathlib.Core.Path.{_≡_, refl, sym, subst, ap, ap₂, _∙_}
 use native.Mathlib.Omega.{arith}
 use native.Mathlib.Nat.{mul-comm, mul-add, mul-le-mul-left}
-use lib.Dec.{ltb, eqb, lit≤}
+use lib.Dec.{lit≤}
 use lib.ListN.{length, getD, take, drop, length-drop, length-append}
 use borrow.Rule.Slice.PartMut.{putMid}
 use Rattle.entries.specs.Entries.{Entry}
@@ -19,16 +19,15 @@ use Rattle.answers.specs.declared.Refusal.{Refusal}
 use Rattle.answers.specs.declared.Written.the-variants as written
 use Rattle.answers.proofs.Numbers.{refusal-says}
 use Rattle.answers.proofs.Turns.{stops, passes, ends, stops-in, passes-in, given-by, applies-small}
-use Rattle.blocks.specs.Blocks.{capacity, entriesOf, itemsOf, soundb, verdict, SoundBlock}
+use Rattle.blocks.specs.Blocks.{setLayout, entriesOf, itemsOf, verdict, SoundBlock}
 use Rattle.blocks.specs.declared.Layout.{Layout}
 use Rattle.blocks.proofs.Words.{Shaped, items-shaped, items-length}
-use Rattle.blocks.proofs.Judging.{verdict-sound, room}
+use Rattle.blocks.proofs.Judging.{verdict-sound, verdict-small, room-words}
 use Rattle.numbers.specs.Numbers.{countBytes, over, patch}
 use Rattle.numbers.proofs.Patch.{tail-part, mid-patch, mid-over}
 use Rattle.records.specs.Records.{startRecord}
 use Rattle.records.specs.Reads.{countsOf}
 use Rattle.records.specs.Steps.{ItemKind}
-use Rattle.records.proofs.Heads.{pick-small}
 use Rattle.records.proofs.Items.{counts-length}
 use Rattle.runs.specs.Runs.{runOf, total, lengths, runsOf}
 use Rattle.runs.proofs.Turns.{length-record}
@@ -49,13 +48,6 @@ small-size : (s n : ℕ) → s ≤ 4 → n < 131072 → (8 * s + 5) * n ≤ 4849
 small-size s n h l =
     let k : 8 * s + 5 ≤ 37 = omega arith in
     omega (arith, mul-le-mul-left n k, mul-comm n (8 * s + 5))
-
--- a block's verdict is a number of the table
-pub verdict-small : (s limit : ℕ) (w : List ℕ) → verdict s limit w ≤ lastNumber
-unfolding verdict
-verdict-small s limit w =
-    pick-small (eqb (length w) 0) (lit≤ tt)
-    (pick-small (ltb (capacity s limit (length w)) (getD w 0 0)) (lit≤ tt) (pick-small (soundb (entriesOf s w)) (lit≤ tt) (lit≤ tt)))
 
 -- the bytes of a form with one run, and with two
 form-lone : (mark st a c r : ℕ) (es fs : List Entry) → r ≡ 1
@@ -120,64 +112,64 @@ module _ (f : Form) (n m : ℕ) (w w2 b : List ℕ) (k : Puts f n m w w2 b) (x y
       let b2 = putMid (startSize f) (length b1 - startSize f) b1 u in
       mid-over (S ++ R) (runOf (f .mark) (f .second) fs) b b2 v (secondAt f n) first-length first-put
       (o ∙ ap (λ (l : List ℕ). over (runOf (f .mark) (f .second) (itemsOf (f .layout .width) m l)) (take (length b2 - secondAt f n) (drop (secondAt f n) b2))) (tail-part 1 w2))
-      ∙ ap (λ (l : List ℕ). over l b) (form-pair (f .mark) (f .start) (f .first) (f .second) (f .runs) es fs (not-one (f .runs) (f .layout .width) (k .kind .shape) nz .0))
+      ∙ ap (λ (l : List ℕ). over l b) (form-pair (f .mark) (f .start) (f .first) (f .second) (f .runs) es fs (not-one (f .runs) (f .layout) (k .kind .shape) nz .0))
 
 -- the blocks, one or two: over the number of runs r
-each-verdict : (layout : Layout) (r s : ℕ) (x y : List ℕ) → Shape r s → Clear (inputs layout 0 (take r (x ∷ y ∷ [])))
-    → (verdict (layout .width) (layout .limit) x ≡ 0) × ((r ≡ 1 → ⊥) → verdict (layout .width) (layout .limit) y ≡ 0)
-each-verdict layout r s x y lone c = (c .0, λ nz. absurd (nz refl))
-each-verdict layout r s x y pair c = (c .0, λ nz. c .1 .0)
+each-verdict : (layout : Layout) (r : ℕ) (x y : List ℕ) → Shape r layout → Clear (inputs layout 0 (take r (x ∷ y ∷ [])))
+    → (verdict layout x ≡ 0) × ((r ≡ 1 → ⊥) → verdict layout y ≡ 0)
+each-verdict layout r x y lone c = (c .0, λ nz. absurd (nz refl))
+each-verdict layout r x y pair c = (c .0, λ nz. c .1 .0)
 
-each-held : (layout : Layout) (r s : ℕ) (x y : List ℕ) → Shape r s
+each-held : (layout : Layout) (r : ℕ) (x y : List ℕ) → Shape r layout
     → heldIn layout (take r (x ∷ y ∷ [])) ≡ take r (itemsOf (layout .width) (getD x 0 0) (drop 1 x) ∷ itemsOf (layout .width) (countHeld r y) (drop 1 y) ∷ [])
-each-held layout r s x y lone = refl
-each-held layout r s x y pair = refl
+each-held layout r x y lone = refl
+each-held layout r x y pair = refl
 
-each-total : (r s : ℕ) (es fs : List Entry) (m : ℕ) → Shape r s → length fs ≡ m → (r ≡ 1 → m ≡ 0) → total (lengths (take r (es ∷ fs ∷ []))) ≡ length es + m
-each-total r s es fs m lone h z = omega (arith, z refl)
-each-total r s es fs m pair h z = omega arith
+each-total : (r : ℕ) (l : Layout) (es fs : List Entry) (m : ℕ) → Shape r l → length fs ≡ m → (r ≡ 1 → m ≡ 0) → total (lengths (take r (es ∷ fs ∷ []))) ≡ length es + m
+each-total r l es fs m lone h z = omega (arith, z refl)
+each-total r l es fs m pair h z = omega arith
 
 none-second : (r : ℕ) (y : List ℕ) → r ≡ 1 → countHeld r y ≡ 0
 none-second r y e = rw e
 
-pub second-there : (r s : ℕ) (l : ℕ) → Shape r s → ((r ≡ 1 → ⊥) → 0 < l) → r ≤ 1 + l
-second-there r s l lone h = omega arith
-second-there r s l pair h = omega (arith, h (λ z. omega arith))
+second-there : (r : ℕ) (layout : Layout) (l : ℕ) → Shape r layout → ((r ≡ 1 → ⊥) → 0 < l) → r ≤ 1 + l
+second-there r layout l lone h = omega arith
+second-there r layout l pair h = omega (arith, h (λ z. omega arith))
 
-second-small : (r s m : ℕ) (y : List ℕ) → Shape r s → m ≡ countHeld r y → ((r ≡ 1 → ⊥) → getD y 0 0 < 65536) → m < 65536
-second-small r s m y lone e h = omega arith
-second-small r s m y pair e h = omega (arith, h (λ z. omega arith))
+second-small : (r : ℕ) (l : Layout) (m : ℕ) (y : List ℕ) → Shape r l → m ≡ countHeld r y → ((r ≡ 1 → ⊥) → getD y 0 0 < 65536) → m < 65536
+second-small r l m y lone e h = omega arith
+second-small r l m y pair e h = omega (arith, h (λ z. omega arith))
 
 -- the first refusal of the blocks x and y, of which the second is there where there are two runs
-module _ (layout : Layout) (r s : ℕ) (x y : List ℕ) (h : Shape r s) (v : ℕ) (ev : v ≡ verdict (layout .width) (layout .limit) x) where
+module _ (layout : Layout) (r : ℕ) (x y : List ℕ) (h : Shape r layout) (v : ℕ) (ev : v ≡ verdict layout x) where
   abbrev refusals : List Finding
   refusals = inputs layout 0 (take r (x ∷ y ∷ [])) ++ (overlap (heldIn layout (take r (x ∷ y ∷ []))) ∷ [])
 
   pub first-unsound : (v ≡ 0 → ⊥) → FirstOf refusals (at 0 v)
-  first-unsound nz = go r s h
+  first-unsound nz = go r layout h
     where
-      go : (r s : ℕ) → Shape r s → FirstOf (inputs layout 0 (take r (x ∷ y ∷ [])) ++ (overlap (heldIn layout (take r (x ∷ y ∷ []))) ∷ [])) (at 0 v)
-      go r s lone = stops v (verdict (layout .width) (layout .limit) x) 0 _ ev (verdict-small (layout .width) (layout .limit) x) nz
-      go r s pair = stops v (verdict (layout .width) (layout .limit) x) 0 _ ev (verdict-small (layout .width) (layout .limit) x) nz
+      go : (r : ℕ) (l : Layout) → Shape r l → FirstOf (inputs layout 0 (take r (x ∷ y ∷ [])) ++ (overlap (heldIn layout (take r (x ∷ y ∷ []))) ∷ [])) (at 0 v)
+      go r l lone = stops v (verdict layout x) 0 _ ev (verdict-small layout x) nz
+      go r l pair = stops v (verdict layout x) 0 _ ev (verdict-small layout x) nz
 
   module _ (z : v ≡ 0) where
     pub one-sound : r ≡ 1 → FirstOf refusals (at 0 0)
-    one-sound e = rw e (passes (verdict (layout .width) (layout .limit) x) 0 (at 0 0 ∷ []) (at 0 0) (sym ev ∙ z) (ends 0 0 0 refl (lit≤ tt)))
+    one-sound e = rw e (passes (verdict layout x) 0 (at 0 0 ∷ []) (at 0 0) (sym ev ∙ z) (ends 0 0 0 refl (lit≤ tt)))
 
-    module _ (e : r ≡ 2) (u : ℕ) (eu : u ≡ verdict (layout .width) (layout .limit) y) where
+    module _ (e : r ≡ 2) (u : ℕ) (eu : u ≡ verdict layout y) where
       abbrev shared : ℕ
       shared = applies (shareb (entriesOf (layout .width) x) (entriesOf (layout .width) y)) 14
 
-      behind : (q : Finding) → FirstOf (at 1 (verdict (layout .width) (layout .limit) y) ∷ at 0 shared ∷ []) q → FirstOf refusals q
-      behind q g = rw e (passes (verdict (layout .width) (layout .limit) x) 0 (at 1 (verdict (layout .width) (layout .limit) y) ∷ at 0 shared ∷ []) q (sym ev ∙ z) g)
+      behind : (q : Finding) → FirstOf (at 1 (verdict layout y) ∷ at 0 shared ∷ []) q → FirstOf refusals q
+      behind q g = rw e (passes (verdict layout x) 0 (at 1 (verdict layout y) ∷ at 0 shared ∷ []) q (sym ev ∙ z) g)
 
       pub second-unsound : (u ≡ 0 → ⊥) → FirstOf refusals (at 1 u)
-      second-unsound nz = behind (at 1 u) (stops u (verdict (layout .width) (layout .limit) y) 1 (at 0 shared ∷ []) eu (verdict-small (layout .width) (layout .limit) y) nz)
+      second-unsound nz = behind (at 1 u) (stops u (verdict layout y) 1 (at 0 shared ∷ []) eu (verdict-small layout y) nz)
 
-      pub both-sound : u ≡ 0 → layout .width ≡ 2 → (t : Bool) → t ≡ shareb (entriesOf 2 x) (entriesOf 2 y) → (w : ℕ) → w ≡ applies t 14 → FirstOf refusals (at 0 w)
+      pub both-sound : u ≡ 0 → layout ≡ setLayout → (t : Bool) → t ≡ shareb (entriesOf 2 x) (entriesOf 2 y) → (w : ℕ) → w ≡ applies t 14 → FirstOf refusals (at 0 w)
       both-sound y0 two t et w q =
-          let i : shareb (entriesOf (layout .width) x) (entriesOf (layout .width) y) ≡ t = ap (λ (s : ℕ). shareb (entriesOf s x) (entriesOf s y)) two ∙ sym et in
-          behind (at 0 w) (passes (verdict (layout .width) (layout .limit) y) 1 (at 0 shared ∷ []) (at 0 w) (sym eu ∙ y0)
+          let i : shareb (entriesOf (layout .width) x) (entriesOf (layout .width) y) ≡ t = ap (λ (l : Layout). shareb (entriesOf (l .width) x) (entriesOf (l .width) y)) two ∙ sym et in
+          behind (at 0 w) (passes (verdict layout y) 1 (at 0 shared ∷ []) (at 0 w) (sym eu ∙ y0)
           (ends w shared 0 (q ∙ sym (ap (λ (b : Bool). applies b 14) i)) (applies-small (shareb (entriesOf (layout .width) x) (entriesOf (layout .width) y)) 14 (lit≤ tt))))
 
 -- writing from the blocks x and y
@@ -203,27 +195,27 @@ module _ (f : Form) (k : FormKind f) (x y bytes : List ℕ) (p : ℕ) (v : Findi
       ∙ refused-first (blockRefusals f ws ++ T) v (stops-in (blockRefusals f ws) T v fv nz) nz (bytes ∷ []) (writtenAt p g bytes)
 
   module _ (zv : v .number ≡ 0) where
-    judged : (verdict (f .layout .width) (f .layout .limit) x ≡ 0) × ((f .runs ≡ 1 → ⊥) → verdict (f .layout .width) (f .layout .limit) y ≡ 0)
-    judged = each-verdict (f .layout) (f .runs) (f .layout .width) x y (k .shape) (clear-split (inputs (f .layout) 0 ws) (overlap (heldIn (f .layout) ws) ∷ []) (fv .clear zv) .0)
+    judged : (verdict (f .layout) x ≡ 0) × ((f .runs ≡ 1 → ⊥) → verdict (f .layout) y ≡ 0)
+    judged = each-verdict (f .layout) (f .runs) x y (k .shape) (clear-split (inputs (f .layout) 0 ws) (overlap (heldIn (f .layout) ws) ∷ []) (fv .clear zv) .0)
 
-    pub first-sound : SoundBlock (f .layout .width) (f .layout .limit) x
-    first-sound = verdict-sound (f .layout .width) (f .layout .limit) x (judged .0)
+    pub first-sound : SoundBlock (f .layout) x
+    first-sound = verdict-sound (f .layout) x (judged .0)
 
-    pub second-sound : (f .runs ≡ 1 → ⊥) → SoundBlock (f .layout .width) (f .layout .limit) y
-    second-sound nz = verdict-sound (f .layout .width) (f .layout .limit) y (judged .1 nz)
+    pub second-sound : (f .runs ≡ 1 → ⊥) → SoundBlock (f .layout) y
+    second-sound nz = verdict-sound (f .layout) y (judged .1 nz)
 
     pub second-words : f .runs ≤ 1 + length y
-    second-words = second-there (f .runs) (f .layout .width) (length y) (k .shape) (λ nz. second-sound nz .some)
+    second-words = second-there (f .runs) (f .layout) (length y) (k .shape) (λ nz. second-sound nz .some)
 
     module _ (n m : ℕ) (en : n ≡ getD x 0 0) (em : m ≡ countHeld (f .runs) y) where
       room-first : 1 + f .layout .width * n ≤ length x
-      room-first = room (f .layout .width) (f .layout .limit) (length x) n (first-sound .some) (omega (arith, first-sound .fits))
+      room-first = room-words (f .layout) (length x) n (first-sound .some) (omega (arith, first-sound .fits))
 
       small : n < 65536
       small = omega (arith, first-sound .fits, k .small)
 
       small-too : m < 65536
-      small-too = second-small (f .runs) (f .layout .width) m y (k .shape) em (λ nz. omega (arith, second-sound nz .fits, k .small))
+      small-too = second-small (f .runs) (f .layout) m y (k .shape) em (λ nz. omega (arith, second-sound nz .fits, k .small))
 
       pub size-small : (n + m < 131072) × (itemSize f * (n + m) ≤ 4849664)
       size-small =
@@ -231,29 +223,29 @@ module _ (f : Form) (k : FormKind f) (x y bytes : List ℕ) (p : ℕ) (v : Findi
           (l, small-size (f .layout .width) (n + m) (k .first .four) l)
 
       count-second : (f .runs ≡ 1 → ⊥) → m ≡ getD y 0 0
-      count-second nz = em ∙ rw (not-one (f .runs) (f .layout .width) (k .shape) nz .0)
+      count-second nz = em ∙ rw (not-one (f .runs) (f .layout) (k .shape) nz .0)
 
       room-second : (f .runs ≡ 1 → ⊥) → 1 + f .layout .width * m ≤ length y
       room-second nz =
-          room (f .layout .width) (f .layout .limit) (length y) m (second-sound nz .some) (omega (arith, second-sound nz .fits, count-second nz))
+          room-words (f .layout) (length y) m (second-sound nz .some) (omega (arith, second-sound nz .fits, count-second nz))
 
       abbrev held : List (List Entry)
       held = eachOf f (itemsOf (f .layout .width) n (drop 1 x)) (itemsOf (f .layout .width) m (drop 1 y))
 
       held-are : heldIn (f .layout) ws ≡ held
       held-are =
-          each-held (f .layout) (f .runs) (f .layout .width) x y (k .shape)
+          each-held (f .layout) (f .runs) x y (k .shape)
           ∙ ap₂ (λ (i j : ℕ). eachOf f (itemsOf (f .layout .width) i (drop 1 x)) (itemsOf (f .layout .width) j (drop 1 y))) (sym en) (sym em)
 
       long : length g ≡ startSize f + itemSize f * (n + m)
       long =
           let s = f .layout .width in
           let c = clear-split (inputs (f .layout) 0 ws) (overlap (heldIn (f .layout) ws) ∷ []) (fv .clear zv) .0 in
-          size f k (heldIn (f .layout) ws) (many-held (f .layout) ws ∙ as-many (f .runs) s x y (k .shape))
+          size f k (heldIn (f .layout) ws) (many-held (f .layout) ws ∙ as-many (f .runs) (f .layout) x y (k .shape))
           (shapes s (f .layout .limit) (heldIn (f .layout) ws) (held-fine (f .layout) (k .first .two) 0 ws c))
           ∙ ap (λ (r : List (List Entry)). startSize f + itemSize f * total (lengths r)) held-are
           ∙ ap (λ (t : ℕ). startSize f + itemSize f * t)
-          (each-total (f .runs) s (itemsOf s n (drop 1 x)) (itemsOf s m (drop 1 y)) m (k .shape) (items-length s m (drop 1 y)) (λ z. em ∙ none-second (f .runs) y z)
+          (each-total (f .runs) (f .layout) (itemsOf s n (drop 1 x)) (itemsOf s m (drop 1 y)) m (k .shape) (items-length s m (drop 1 y)) (λ z. em ∙ none-second (f .runs) y z)
           ∙ ap (λ (i : ℕ). i + m) (items-length s n (drop 1 x)))
 
       module _ (t : Bool) (et : t ≡ noSpace p (startSize f + itemSize f * (n + m)) (length bytes)) where

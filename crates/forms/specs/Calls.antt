@@ -9,7 +9,8 @@ use Rattle.entries.specs.Build.{pick}
 use Rattle.entries.specs.Sets.{member}
 use Rattle.answers.specs.Answers.{Answer, given, refused, Outcome, outcome, truth, at, inTurn, applies}
 use Rattle.answers.specs.declared.Finding.{Finding}
-use Rattle.blocks.specs.Blocks.{entriesOf, blockOf, verdict}
+use Rattle.blocks.specs.Blocks.{entriesOf, blockOf}
+use Rattle.blocks.specs.Calls.{input}
 use Rattle.blocks.specs.declared.Layout.{Layout}
 use Rattle.numbers.specs.Numbers.{patch}
 use Rattle.verdicts.specs.declared.Form.{Form}
@@ -46,7 +47,7 @@ heldIn layout (w ∷ ws) = entriesOf (layout .width) w ∷ heldIn layout ws
 
 abbrev pub inputs : Layout → ℕ → List (List ℕ) → List Finding
 inputs layout position [] = []
-inputs layout position (w ∷ ws) = at position (verdict (layout .width) (layout .limit) w) ∷ inputs layout (suc position) ws
+inputs layout position (w ∷ ws) = input position layout w ∷ inputs layout (suc position) ws
 
 -- «Refusal 15 exactly if p is above the buffer's length or the rest is too short.»
 abbrev pub noSpace : ℕ → ℕ → ℕ → Bool

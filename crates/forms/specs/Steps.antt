@@ -20,7 +20,7 @@ pub record Stored (s n p : ℕ) (b out : List ℕ) : Type 0 where
 pub record Stores (f : Form) (n m : ℕ) (b out out2 : List ℕ) : Type 0 where
   pub first : Stored (f .layout .width) n (startSize f) b out
   pub second : (f .runs ≡ 1 → ⊥) → Stored (f .layout .width) m (secondAt f n) b out2
-  pub shape : Shape (f .runs) (f .layout .width)
+  pub shape : Shape (f .runs) (f .layout)
 
 -- the count in the second block of a form, 0 where there is one run
 abbrev pub countHeld : ℕ → List ℕ → ℕ

@@ -87,7 +87,7 @@ fn block_refusal(first: &[u64], second: &[u64], form: Form) -> Finding
     requires { ⌜ FormKind form ⌝ }
     ensures { λ r. ⌜ FirstOf (blockRefusals form (eachOf form (now (first .entry)) (now (second .entry)))) r ⌝ }
 {
-    let v = blocks::judge(first, form.layout.width, form.layout.limit);
+    let v = blocks::judge(first, form.layout);
     if v != 0 {
         return Finding {
             number: v,
@@ -100,14 +100,14 @@ fn block_refusal(first: &[u64], second: &[u64], form: Form) -> Finding
             place: 0,
         };
     }
-    let u = blocks::judge(second, form.layout.width, form.layout.limit);
+    let u = blocks::judge(second, form.layout);
     if u != 0 {
         return Finding {
             number: u,
             place: 1,
         };
     }
-    if operations::share_number(first, second) {
+    if searches::share_number(first, second) {
         return Finding {
             number: 14,
             place: 0,

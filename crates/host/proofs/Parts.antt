@@ -14,16 +14,9 @@ use Rattle.searches.specs.declared.Part.{Part}
 use Rattle.searches.specs.Calls.{windowPlace, windowLength, windowVerdict, windowAtCall, windowRefusalCall, entryPlace}
 use Rattle.searches.specs.Steps.{PartOf}
 use Rattle.maps.specs.Calls.{deciding, accepted, siteRefusalCall, siteOverFactoryCall}
-use Rattle.records.specs.Numbers.{num2}
-use Rattle.runs.specs.Steps.{formRead}
-use Rattle.runs.specs.declared.FormRead.{FormRead}
-use Rattle.runs.specs.declared.FormRead.the-variants as form
-use Rattle.forms.specs.Forms.{formVerdict}
-use Rattle.forms.proofs.Whole.{form-bare}
-use Rattle.forms.proofs.Answering.{told-good, told-refused}
-use Rattle.host.specs.declared.Told.{Told}
-use Rattle.host.specs.Told.{told, reply, inC}
-use Rattle.host.specs.Calls.{counted, judgeFormCall, decidingAt, siteOverFactoryAtCall}
+use Rattle.told.specs.declared.Told.{Told}
+use Rattle.told.specs.Told.{told, reply, inC}
+use Rattle.host.specs.Calls.{decidingAt, siteOverFactoryAtCall}
 
 -- a verdict that the code found, before what follows it
 module _ (v place : ℕ) (t : Told) (x : Outcome) where
@@ -75,20 +68,6 @@ module _ (site factory : List ℕ) (x v : ℕ) (e : v ≡ verdict 3 mapLimit sit
     both-sound y q =
         goes-on v 0 t _ (verdict 3 mapLimit site) e z
         (goes-on u 1 t (outcome (given (decidingAt site factory x)) []) (verdict 3 mapLimit factory) f y (ap (λ (s : Told). reply s []) q))
-
--- a form judged with no block
-module _ (b : List ℕ) (v : FormRead) (e : v ≡ formRead (formVerdict 0x01 0x10 2 setLimit b) (num2 b 3)) (t : Told) where
-  pub form-counted : (n : ℕ) → v ≡ form.Good n → t ≡ told (given (n ∷ [])) → reply t [] ≡ inC (judgeFormCall b)
-  unfolding judgeFormCall
-  form-counted n q r =
-      let g = told-good n (num2 b 3) v (form-bare 0x01 0x10 2 setLimit b) e q in
-      ap (λ (s : Told). reply s []) (r ∙ ap (λ (k : ℕ). told (given (k ∷ []))) (g .1)) ∙ sym (ap (λ (a : Answer). inC (counted a (num2 b 3))) (g .0))
-
-  pub form-refused : (number place : ℕ) → v ≡ form.Refused number place → t ≡ told (refused number place) → reply t [] ≡ inC (judgeFormCall b)
-  unfolding judgeFormCall
-  form-refused number place q r =
-      ap (λ (s : Told). reply s []) r
-      ∙ sym (ap (λ (a : Answer). inC (counted a (num2 b 3))) ((told-refused number place (num2 b 3) v (form-bare 0x01 0x10 2 setLimit b) e q) .is))
 
 -- the map at a position, and the part that an outcome with an offset, a length and a position names
 abbrev pub mapAt : List ℕ → List ℕ → ℕ → List ℕ

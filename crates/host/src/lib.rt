@@ -7,191 +7,19 @@ ghost use lib.Dec.{leb};
 ghost use lib.ListN.{length, drop};
 ghost use Rattle.entries.specs.Build.{andb};
 ghost use Rattle.entries.specs.Sets.{member};
-ghost use Rattle.answers.specs.Answers.{given, refused};
-ghost use Rattle.answers.specs.Says.{judgedSays, truthSays, foundSays, rangedSays, sizedSays, placedSays, writtenSays, refusalSays};
+ghost use Rattle.answers.specs.Answers.{given};
 ghost use Rattle.blocks.specs.Blocks.{SoundBlock, setLimit, mapLimit};
 ghost use Rattle.searches.specs.Calls.{windowAtCall};
 ghost use Rattle.sets.specs.Calls.{makeEmptyCall, memberCall, rangeAtCall, sizeCall, leastMemberCall, leastNonMemberCall, insertCall, removeCall, equalCall, withinCall, disjointCall, unionCall, intersectionCall, differenceCall, symmetricDifferenceCall, complementCall};
 ghost use Rattle.fits.specs.Calls.{firstFitCall, bestFitCall, reserveFirstCall, reserveBestCall};
 ghost use Rattle.maps.specs.Calls.{lookUpCall, assignCall, eraseCall, overlayCall, restrictionCall, domainCall};
 ghost use Rattle.bulletins.specs.Calls.{applyCall, foldCall};
-ghost use Rattle.forms.specs.Calls.{readSetCall, readMapCall, writeSetCall, writeMapCall};
-ghost use Rattle.bulletin_forms.specs.Calls.{readBulletinCall, writeBulletinCall};
-ghost use Rattle.runs.specs.Runs.{entriesIn};
-ghost use Rattle.host.specs.Told.{told, reply, inC};
-ghost use Rattle.host.specs.Calls.{memberOfFormCall, judgeFormCall, decidingAt, siteOverFactoryAtCall};
-use answers::Found;
-use answers::Judged;
-use answers::Placed;
-use answers::Ranged;
-use answers::Refusal;
-use answers::Sized;
-use answers::Truth;
-use answers::Written;
-use runs::FormRead;
-
-// What a call tells C: its status, the place of a refusal, how many values it answers, and the values.
-#[repr(C)]
-pub struct Told {
-    pub status: u64,
-    pub place: u64,
-    pub count: u64,
-    pub first: u64,
-    pub second: u64,
-    pub third: u64,
-}
-
-// Accepted, with no value.
-fn accepted() -> Told
-    ensures { λ r. ⌜ r ≡ told (given []) ⌝ }
-{
-    Told {
-        status: 0,
-        place: 0,
-        count: 0,
-        first: 0,
-        second: 0,
-        third: 0,
-    }
-}
-
-// Accepted, with one value.
-fn one_value(first: u64) -> Told
-    ensures { λ r. ⌜ r ≡ told (given (first ∷ [])) ⌝ }
-{
-    Told {
-        status: 0,
-        place: 0,
-        count: 1,
-        first,
-        second: 0,
-        third: 0,
-    }
-}
-
-// Accepted, with two values.
-fn two_values(first: u64, second: u64) -> Told
-    ensures { λ r. ⌜ r ≡ told (given (first ∷ second ∷ [])) ⌝ }
-{
-    Told {
-        status: 0,
-        place: 0,
-        count: 2,
-        first,
-        second,
-        third: 0,
-    }
-}
-
-// Accepted, with three values.
-fn three_values(first: u64, second: u64, third: u64) -> Told
-    ensures { λ r. ⌜ r ≡ told (given (first ∷ second ∷ third ∷ [])) ⌝ }
-{
-    Told {
-        status: 0,
-        place: 0,
-        count: 3,
-        first,
-        second,
-        third,
-    }
-}
-
-// Refused with a number of the table.
-fn refused(number: u8, place: usize) -> Told
-    ensures { λ r. ⌜ r ≡ told (refused number place) ⌝ }
-{
-    Told {
-        status: 16 + number as u64,
-        place: place as u64,
-        count: 0,
-        first: 0,
-        second: 0,
-        third: 0,
-    }
-}
-
-// A refusal.
-fn tell_refusal(f: Refusal) -> Told
-    ensures { λ r. ⌜ r ≡ told (refusalSays f) ⌝ }
-{
-    let reason = f.reason;
-    refused(answers::number_of(reason), f.place)
-}
-
-// Whether a call was accepted.
-fn tell_judged(a: Judged) -> Told
-    ensures { λ r. ⌜ r ≡ told (judgedSays a) ⌝ }
-{
-    match a {
-        Judged::Accepted => accepted(),
-        Judged::Refused(f) => tell_refusal(f),
-    }
-}
-
-// Whether something is so.
-fn tell_truth(a: Truth) -> Told
-    ensures { λ r. ⌜ r ≡ told (truthSays a) ⌝ }
-{
-    match a {
-        Truth::Yes => one_value(1),
-        Truth::No => one_value(0),
-        Truth::Refused(f) => tell_refusal(f),
-    }
-}
-
-// A number, or none.
-fn tell_found(a: Found) -> Told
-    ensures { λ r. ⌜ r ≡ told (foundSays a) ⌝ }
-{
-    match a {
-        Found::Number(n) => one_value(n),
-        Found::Nothing => accepted(),
-        Found::Refused(f) => tell_refusal(f),
-    }
-}
-
-// A range, or none.
-fn tell_ranged(a: Ranged) -> Told
-    ensures { λ r. ⌜ r ≡ told (rangedSays a) ⌝ }
-{
-    match a {
-        Ranged::Range(low, high) => two_values(low, high),
-        Ranged::Nothing => accepted(),
-        Ranged::Refused(f) => tell_refusal(f),
-    }
-}
-
-// Empty, or a size less one.
-fn tell_sized(a: Sized) -> Told
-    ensures { λ r. ⌜ r ≡ told (sizedSays a) ⌝ }
-{
-    match a {
-        Sized::Empty => accepted(),
-        Sized::LessOne(n) => one_value(n),
-        Sized::Refused(f) => tell_refusal(f),
-    }
-}
-
-// The place of a fit.
-fn tell_placed(a: Placed) -> Told
-    ensures { λ r. ⌜ r ≡ told (placedSays a) ⌝ }
-{
-    match a {
-        Placed::At(s) => one_value(s),
-        Placed::Refused(f) => tell_refusal(f),
-    }
-}
-
-// The length that was written.
-fn tell_written(a: Written) -> Told
-    ensures { λ r. ⌜ r ≡ told (writtenSays a) ⌝ }
-{
-    match a {
-        Written::Length(n) => one_value(n as u64),
-        Written::Refused(f) => tell_refusal(f),
-    }
-}
+ghost use Rattle.forms.specs.Calls.{readSetCall, readMapCall, readBulletinCall, judgeSetCall, writeSetCall, writeMapCall, writeBulletinCall};
+ghost use Rattle.forms.specs.Calls as of-forms;
+ghost use Rattle.told.specs.Told.{told, reply, inC, Tells};
+ghost use Rattle.host.specs.Calls.{decidingAt, siteOverFactoryAtCall};
+use forms::FormRead;
+use told::Told;
 
 // The part of a window, as its offset and its length.
 fn tell_window(block: &[u64], s: usize, limit: usize, a: u64, b: u64) -> Told
@@ -200,10 +28,10 @@ fn tell_window(block: &[u64], s: usize, limit: usize, a: u64, b: u64) -> Told
 {
     let v = searches::window_verdict(block, s, limit, a, b);
     if v != 0 {
-        return refused(v, 0);
+        return told::refused(v, 0);
     }
     let p = searches::part_at(block, s, limit, a, b);
-    two_values(p.place as u64, p.length as u64)
+    told::two_values(p.place as u64, p.length as u64)
 }
 
 // The entry of two sound maps that decides x, as the offset and the length of its part and the position of its map.
@@ -213,61 +41,61 @@ fn tell_deciding(site: &[u64], factory: &[u64], x: u64) -> Told
 {
     let a = searches::entry_place(site, 3, blocks::MAP_LIMIT, x);
     if a != 0 {
-        return three_values(a as u64, 3, 0);
+        return told::three_values(a as u64, 3, 0);
     }
     let b = searches::entry_place(factory, 3, blocks::MAP_LIMIT, x);
     if b != 0 {
-        return three_values(b as u64, 3, 1);
+        return told::three_values(b as u64, 3, 1);
     }
-    three_values(0, 0, 0)
+    told::three_values(0, 0, 0)
 }
 
 // Makes the block the empty set, or the empty map, whatever stood in it.
 #[no_mangle]
 pub extern "C" fn wimblorque_set_make_empty(block: &mut [u64]) -> Told
-    ensures { λ r. ⌜ reply r (now (block .exit) ∷ []) ≡ inC (makeEmptyCall (now (block .entry))) ⌝ }
+    ensures { λ r. ⌜ Tells r (now (block .exit) ∷ []) (makeEmptyCall (now (block .entry))) ⌝ }
 {
-    tell_judged(sets::make_empty(block))
+    told::tell_judged(sets::make_empty(block))
 }
 
 // Is x a member? One value, 1 or 0.
 #[no_mangle]
 pub extern "C" fn wimblorque_set_member(block: &[u64], x: u64) -> Told
-    ensures { λ r. ⌜ reply r [] ≡ inC (memberCall (now (block .entry)) x) ⌝ }
+    ensures { λ r. ⌜ Tells r [] (memberCall (now (block .entry)) x) ⌝ }
 {
-    tell_truth(sets::member(block, x))
+    told::tell_truth(sets::member(block, x))
 }
 
 // The low and the high of the range at index i, or no values.
 #[no_mangle]
 pub extern "C" fn wimblorque_set_range_at(block: &[u64], i: u64) -> Told
-    ensures { λ r. ⌜ reply r [] ≡ inC (rangeAtCall (now (block .entry)) i) ⌝ }
+    ensures { λ r. ⌜ Tells r [] (rangeAtCall (now (block .entry)) i) ⌝ }
 {
-    tell_ranged(sets::range_at(block, i))
+    told::tell_ranged(sets::range_at(block, i))
 }
 
 // The number of members less one, or no value for the empty set.
 #[no_mangle]
 pub extern "C" fn wimblorque_set_size(block: &[u64]) -> Told
-    ensures { λ r. ⌜ reply r [] ≡ inC (sizeCall (now (block .entry))) ⌝ }
+    ensures { λ r. ⌜ Tells r [] (sizeCall (now (block .entry))) ⌝ }
 {
-    tell_sized(sets::size(block))
+    told::tell_sized(sets::size(block))
 }
 
 // The least member at or above x, or no value.
 #[no_mangle]
 pub extern "C" fn wimblorque_set_least_member(block: &[u64], x: u64) -> Told
-    ensures { λ r. ⌜ reply r [] ≡ inC (leastMemberCall (now (block .entry)) x) ⌝ }
+    ensures { λ r. ⌜ Tells r [] (leastMemberCall (now (block .entry)) x) ⌝ }
 {
-    tell_found(sets::least_member(block, x))
+    told::tell_found(sets::least_member(block, x))
 }
 
 // The least number at or above x that is not a member, or no value.
 #[no_mangle]
 pub extern "C" fn wimblorque_set_least_non_member(block: &[u64], x: u64) -> Told
-    ensures { λ r. ⌜ reply r [] ≡ inC (leastNonMemberCall (now (block .entry)) x) ⌝ }
+    ensures { λ r. ⌜ Tells r [] (leastNonMemberCall (now (block .entry)) x) ⌝ }
 {
-    tell_found(sets::least_non_member(block, x))
+    told::tell_found(sets::least_non_member(block, x))
 }
 
 // The part of the block with the ranges that share a number with a..b: its offset and its length.
@@ -281,65 +109,65 @@ pub extern "C" fn wimblorque_set_window(block: &[u64], a: u64, b: u64) -> Told
 // Makes every number of a..b a member.
 #[no_mangle]
 pub extern "C" fn wimblorque_set_insert(block: &mut [u64], a: u64, b: u64) -> Told
-    ensures { λ r. ⌜ reply r (now (block .exit) ∷ []) ≡ inC (insertCall (now (block .entry)) a b) ⌝ }
+    ensures { λ r. ⌜ Tells r (now (block .exit) ∷ []) (insertCall (now (block .entry)) a b) ⌝ }
 {
-    tell_judged(sets::insert(block, a, b))
+    told::tell_judged(sets::insert(block, a, b))
 }
 
 // Makes no number of a..b a member.
 #[no_mangle]
 pub extern "C" fn wimblorque_set_remove(block: &mut [u64], a: u64, b: u64) -> Told
-    ensures { λ r. ⌜ reply r (now (block .exit) ∷ []) ≡ inC (removeCall (now (block .entry)) a b) ⌝ }
+    ensures { λ r. ⌜ Tells r (now (block .exit) ∷ []) (removeCall (now (block .entry)) a b) ⌝ }
 {
-    tell_judged(sets::remove(block, a, b))
+    told::tell_judged(sets::remove(block, a, b))
 }
 
 // Have the two sets the same members? One value, 1 or 0.
 #[no_mangle]
 pub extern "C" fn wimblorque_set_equal(one: &[u64], two: &[u64]) -> Told
-    ensures { λ r. ⌜ reply r [] ≡ inC (equalCall (now (one .entry)) (now (two .entry))) ⌝ }
+    ensures { λ r. ⌜ Tells r [] (equalCall (now (one .entry)) (now (two .entry))) ⌝ }
 {
-    tell_truth(sets::equal(one, two))
+    told::tell_truth(sets::equal(one, two))
 }
 
 // Is every member of the first one of the second? One value, 1 or 0.
 #[no_mangle]
 pub extern "C" fn wimblorque_set_within(one: &[u64], two: &[u64]) -> Told
-    ensures { λ r. ⌜ reply r [] ≡ inC (withinCall (now (one .entry)) (now (two .entry))) ⌝ }
+    ensures { λ r. ⌜ Tells r [] (withinCall (now (one .entry)) (now (two .entry))) ⌝ }
 {
-    tell_truth(sets::within(one, two))
+    told::tell_truth(sets::within(one, two))
 }
 
 // Have the two sets no number in common? One value, 1 or 0.
 #[no_mangle]
 pub extern "C" fn wimblorque_set_disjoint(one: &[u64], two: &[u64]) -> Told
-    ensures { λ r. ⌜ reply r [] ≡ inC (disjointCall (now (one .entry)) (now (two .entry))) ⌝ }
+    ensures { λ r. ⌜ Tells r [] (disjointCall (now (one .entry)) (now (two .entry))) ⌝ }
 {
-    tell_truth(sets::disjoint(one, two))
+    told::tell_truth(sets::disjoint(one, two))
 }
 
 // The numbers of either set, into out.
 #[no_mangle]
 pub extern "C" fn wimblorque_set_union(one: &[u64], two: &[u64], out: &mut [u64]) -> Told
-    ensures { λ r. ⌜ reply r (now (out .exit) ∷ []) ≡ inC (unionCall (now (one .entry)) (now (two .entry)) (now (out .entry))) ⌝ }
+    ensures { λ r. ⌜ Tells r (now (out .exit) ∷ []) (unionCall (now (one .entry)) (now (two .entry)) (now (out .entry))) ⌝ }
 {
-    tell_judged(sets::union(one, two, out))
+    told::tell_judged(sets::union(one, two, out))
 }
 
 // The numbers of both sets, into out.
 #[no_mangle]
 pub extern "C" fn wimblorque_set_intersection(one: &[u64], two: &[u64], out: &mut [u64]) -> Told
-    ensures { λ r. ⌜ reply r (now (out .exit) ∷ []) ≡ inC (intersectionCall (now (one .entry)) (now (two .entry)) (now (out .entry))) ⌝ }
+    ensures { λ r. ⌜ Tells r (now (out .exit) ∷ []) (intersectionCall (now (one .entry)) (now (two .entry)) (now (out .entry))) ⌝ }
 {
-    tell_judged(sets::intersection(one, two, out))
+    told::tell_judged(sets::intersection(one, two, out))
 }
 
 // The numbers of the first set that are not in the second, into out.
 #[no_mangle]
 pub extern "C" fn wimblorque_set_difference(one: &[u64], two: &[u64], out: &mut [u64]) -> Told
-    ensures { λ r. ⌜ reply r (now (out .exit) ∷ []) ≡ inC (differenceCall (now (one .entry)) (now (two .entry)) (now (out .entry))) ⌝ }
+    ensures { λ r. ⌜ Tells r (now (out .exit) ∷ []) (differenceCall (now (one .entry)) (now (two .entry)) (now (out .entry))) ⌝ }
 {
-    tell_judged(sets::difference(one, two, out))
+    told::tell_judged(sets::difference(one, two, out))
 }
 
 // The numbers of exactly one of the sets, into out.
@@ -349,73 +177,73 @@ pub extern "C" fn wimblorque_set_symmetric_difference(
     two: &[u64],
     out: &mut [u64],
 ) -> Told
-    ensures { λ r. ⌜ reply r (now (out .exit) ∷ []) ≡ inC (symmetricDifferenceCall (now (one .entry)) (now (two .entry)) (now (out .entry))) ⌝ }
+    ensures { λ r. ⌜ Tells r (now (out .exit) ∷ []) (symmetricDifferenceCall (now (one .entry)) (now (two .entry)) (now (out .entry))) ⌝ }
 {
-    tell_judged(sets::symmetric_difference(one, two, out))
+    told::tell_judged(sets::symmetric_difference(one, two, out))
 }
 
 // The numbers from 0 to 2^64 - 1 that are not in the set, into out.
 #[no_mangle]
 pub extern "C" fn wimblorque_set_complement(set: &[u64], out: &mut [u64]) -> Told
-    ensures { λ r. ⌜ reply r (now (out .exit) ∷ []) ≡ inC (complementCall (now (set .entry)) (now (out .entry))) ⌝ }
+    ensures { λ r. ⌜ Tells r (now (out .exit) ∷ []) (complementCall (now (set .entry)) (now (out .entry))) ⌝ }
 {
-    tell_judged(sets::complement(set, out))
+    told::tell_judged(sets::complement(set, out))
 }
 
 // The least start of k numbers of the window a..b that are all free.
 #[no_mangle]
 pub extern "C" fn wimblorque_set_first_fit(block: &[u64], a: u64, b: u64, k: u64) -> Told
-    ensures { λ r. ⌜ reply r [] ≡ inC (firstFitCall (now (block .entry)) a b k) ⌝ }
+    ensures { λ r. ⌜ Tells r [] (firstFitCall (now (block .entry)) a b k) ⌝ }
 {
-    tell_placed(fits::first_fit(block, a, b, k))
+    told::tell_placed(fits::first_fit(block, a, b, k))
 }
 
 // The low end of the shortest gap of the window a..b with at least k numbers, the lowest such gap on a tie.
 #[no_mangle]
 pub extern "C" fn wimblorque_set_best_fit(block: &[u64], a: u64, b: u64, k: u64) -> Told
-    ensures { λ r. ⌜ reply r [] ≡ inC (bestFitCall (now (block .entry)) a b k) ⌝ }
+    ensures { λ r. ⌜ Tells r [] (bestFitCall (now (block .entry)) a b k) ⌝ }
 {
-    tell_placed(fits::best_fit(block, a, b, k))
+    told::tell_placed(fits::best_fit(block, a, b, k))
 }
 
 // Makes the k numbers from the first fit on members, and answers it.
 #[no_mangle]
 pub extern "C" fn wimblorque_set_reserve_first(block: &mut [u64], a: u64, b: u64, k: u64) -> Told
-    ensures { λ r. ⌜ reply r (now (block .exit) ∷ []) ≡ inC (reserveFirstCall (now (block .entry)) a b k) ⌝ }
+    ensures { λ r. ⌜ Tells r (now (block .exit) ∷ []) (reserveFirstCall (now (block .entry)) a b k) ⌝ }
 {
-    tell_placed(fits::reserve_first(block, a, b, k))
+    told::tell_placed(fits::reserve_first(block, a, b, k))
 }
 
 // Makes the k numbers from the best fit on members, and answers it.
 #[no_mangle]
 pub extern "C" fn wimblorque_set_reserve_best(block: &mut [u64], a: u64, b: u64, k: u64) -> Told
-    ensures { λ r. ⌜ reply r (now (block .exit) ∷ []) ≡ inC (reserveBestCall (now (block .entry)) a b k) ⌝ }
+    ensures { λ r. ⌜ Tells r (now (block .exit) ∷ []) (reserveBestCall (now (block .entry)) a b k) ⌝ }
 {
-    tell_placed(fits::reserve_best(block, a, b, k))
+    told::tell_placed(fits::reserve_best(block, a, b, k))
 }
 
 // The value of x, any word at all, or no value.
 #[no_mangle]
 pub extern "C" fn wimblorque_map_look_up(block: &[u64], x: u64) -> Told
-    ensures { λ r. ⌜ reply r [] ≡ inC (lookUpCall (now (block .entry)) x) ⌝ }
+    ensures { λ r. ⌜ Tells r [] (lookUpCall (now (block .entry)) x) ⌝ }
 {
-    tell_found(maps::look_up(block, x))
+    told::tell_found(maps::look_up(block, x))
 }
 
 // Gives every number of a..b the value v, replacing what was there.
 #[no_mangle]
 pub extern "C" fn wimblorque_map_assign(block: &mut [u64], a: u64, b: u64, v: u64) -> Told
-    ensures { λ r. ⌜ reply r (now (block .exit) ∷ []) ≡ inC (assignCall (now (block .entry)) a b v) ⌝ }
+    ensures { λ r. ⌜ Tells r (now (block .exit) ∷ []) (assignCall (now (block .entry)) a b v) ⌝ }
 {
-    tell_judged(maps::assign(block, a, b, v))
+    told::tell_judged(maps::assign(block, a, b, v))
 }
 
 // Leaves no number of a..b a value.
 #[no_mangle]
 pub extern "C" fn wimblorque_map_erase(block: &mut [u64], a: u64, b: u64) -> Told
-    ensures { λ r. ⌜ reply r (now (block .exit) ∷ []) ≡ inC (eraseCall (now (block .entry)) a b) ⌝ }
+    ensures { λ r. ⌜ Tells r (now (block .exit) ∷ []) (eraseCall (now (block .entry)) a b) ⌝ }
 {
-    tell_judged(maps::erase(block, a, b))
+    told::tell_judged(maps::erase(block, a, b))
 }
 
 // The part of the block with the entries that share a number with a..b: its offset and its length.
@@ -434,11 +262,11 @@ pub extern "C" fn wimblorque_map_site_over_factory(site: &[u64], factory: &[u64]
 {
     let v = blocks::judge(site, 3, blocks::MAP_LIMIT);
     if v != 0 {
-        return refused(v, 0);
+        return told::refused(v, 0);
     }
     let u = blocks::judge(factory, 3, blocks::MAP_LIMIT);
     if u != 0 {
-        return refused(u, 1);
+        return told::refused(u, 1);
     }
     tell_deciding(site, factory, x)
 }
@@ -446,25 +274,25 @@ pub extern "C" fn wimblorque_map_site_over_factory(site: &[u64], factory: &[u64]
 // The upper map's value where it has one, else the lower's, into out.
 #[no_mangle]
 pub extern "C" fn wimblorque_map_overlay(upper: &[u64], lower: &[u64], out: &mut [u64]) -> Told
-    ensures { λ r. ⌜ reply r (now (out .exit) ∷ []) ≡ inC (overlayCall (now (upper .entry)) (now (lower .entry)) (now (out .entry))) ⌝ }
+    ensures { λ r. ⌜ Tells r (now (out .exit) ∷ []) (overlayCall (now (upper .entry)) (now (lower .entry)) (now (out .entry))) ⌝ }
 {
-    tell_judged(maps::overlay(upper, lower, out))
+    told::tell_judged(maps::overlay(upper, lower, out))
 }
 
 // The map's values at the set's numbers, into out.
 #[no_mangle]
 pub extern "C" fn wimblorque_map_restriction(map: &[u64], set: &[u64], out: &mut [u64]) -> Told
-    ensures { λ r. ⌜ reply r (now (out .exit) ∷ []) ≡ inC (restrictionCall (now (map .entry)) (now (set .entry)) (now (out .entry))) ⌝ }
+    ensures { λ r. ⌜ Tells r (now (out .exit) ∷ []) (restrictionCall (now (map .entry)) (now (set .entry)) (now (out .entry))) ⌝ }
 {
-    tell_judged(maps::restriction(map, set, out))
+    told::tell_judged(maps::restriction(map, set, out))
 }
 
 // The set of the numbers that have a value, into out.
 #[no_mangle]
 pub extern "C" fn wimblorque_map_domain(map: &[u64], out: &mut [u64]) -> Told
-    ensures { λ r. ⌜ reply r (now (out .exit) ∷ []) ≡ inC (domainCall (now (map .entry)) (now (out .entry))) ⌝ }
+    ensures { λ r. ⌜ Tells r (now (out .exit) ∷ []) (domainCall (now (map .entry)) (now (out .entry))) ⌝ }
 {
-    tell_judged(maps::domain(map, out))
+    told::tell_judged(maps::domain(map, out))
 }
 
 // The list without the withdrawn, then joined with the released numbers, into out.
@@ -475,9 +303,9 @@ pub extern "C" fn wimblorque_bulletin_apply(
     withdrawn: &[u64],
     out: &mut [u64],
 ) -> Told
-    ensures { λ r. ⌜ reply r (now (out .exit) ∷ []) ≡ inC (applyCall (now (list .entry)) (now (released .entry)) (now (withdrawn .entry)) (now (out .entry))) ⌝ }
+    ensures { λ r. ⌜ Tells r (now (out .exit) ∷ []) (applyCall (now (list .entry)) (now (released .entry)) (now (withdrawn .entry)) (now (out .entry))) ⌝ }
 {
-    tell_judged(bulletins::apply(list, released, withdrawn, out))
+    told::tell_judged(bulletins::apply(list, released, withdrawn, out))
 }
 
 // One bulletin with the effect of the first and then the second, into released and withdrawn.
@@ -490,9 +318,9 @@ pub extern "C" fn wimblorque_bulletin_fold(
     released: &mut [u64],
     withdrawn: &mut [u64],
 ) -> Told
-    ensures { λ r. ⌜ reply r (now (released .exit) ∷ now (withdrawn .exit) ∷ []) ≡ inC (foldCall (now (released1 .entry)) (now (withdrawn1 .entry)) (now (released2 .entry)) (now (withdrawn2 .entry)) (now (released .entry)) (now (withdrawn .entry))) ⌝ }
+    ensures { λ r. ⌜ Tells r (now (released .exit) ∷ now (withdrawn .exit) ∷ []) (foldCall (now (released1 .entry)) (now (withdrawn1 .entry)) (now (released2 .entry)) (now (withdrawn2 .entry)) (now (released .entry)) (now (withdrawn .entry))) ⌝ }
 {
-    tell_judged(bulletins::fold(
+    told::tell_judged(bulletins::fold(
         released1,
         withdrawn1,
         released2,
@@ -505,17 +333,17 @@ pub extern "C" fn wimblorque_bulletin_fold(
 // Reads the byte form of a set into out.
 #[no_mangle]
 pub extern "C" fn wimblorque_set_read(bytes: &[u8], out: &mut [u64]) -> Told
-    ensures { λ r. ⌜ reply r (now (out .exit) ∷ []) ≡ inC (readSetCall (now (bytes .entry)) (now (out .entry))) ⌝ }
+    ensures { λ r. ⌜ Tells r (now (out .exit) ∷ []) (readSetCall (now (bytes .entry)) (now (out .entry))) ⌝ }
 {
-    tell_judged(forms::read_set(bytes, out))
+    told::tell_judged(forms::read_set(bytes, out))
 }
 
 // Reads the byte form of a map into out.
 #[no_mangle]
 pub extern "C" fn wimblorque_map_read(bytes: &[u8], out: &mut [u64]) -> Told
-    ensures { λ r. ⌜ reply r (now (out .exit) ∷ []) ≡ inC (readMapCall (now (bytes .entry)) (now (out .entry))) ⌝ }
+    ensures { λ r. ⌜ Tells r (now (out .exit) ∷ []) (readMapCall (now (bytes .entry)) (now (out .entry))) ⌝ }
 {
-    tell_judged(forms::read_map(bytes, out))
+    told::tell_judged(forms::read_map(bytes, out))
 }
 
 // Reads the byte form of a bulletin into released and withdrawn.
@@ -525,36 +353,36 @@ pub extern "C" fn wimblorque_bulletin_read(
     released: &mut [u64],
     withdrawn: &mut [u64],
 ) -> Told
-    ensures { λ r. ⌜ reply r (now (released .exit) ∷ now (withdrawn .exit) ∷ []) ≡ inC (readBulletinCall (now (bytes .entry)) (now (released .entry)) (now (withdrawn .entry))) ⌝ }
+    ensures { λ r. ⌜ Tells r (now (released .exit) ∷ now (withdrawn .exit) ∷ []) (readBulletinCall (now (bytes .entry)) (now (released .entry)) (now (withdrawn .entry))) ⌝ }
 {
-    tell_judged(bulletin_forms::read_bulletin(bytes, released, withdrawn))
+    told::tell_judged(forms::read_bulletin(bytes, released, withdrawn))
 }
 
 // Judges the byte form of a set and stores nothing; answers the number of its ranges.
 #[no_mangle]
 pub extern "C" fn wimblorque_set_judge_form(bytes: &[u8]) -> Told
-    ensures { λ r. ⌜ reply r [] ≡ inC (judgeFormCall (now (bytes .entry))) ⌝ }
+    ensures { λ r. ⌜ Tells r [] (judgeSetCall (now (bytes .entry))) ⌝ }
 {
     match forms::judge_set(bytes) {
-        FormRead::Good(n) => one_value(n as u64),
-        FormRead::Refused(number, place) => refused(number, place),
+        FormRead::Good(n) => told::one_value(n as u64),
+        FormRead::Refused(number, place) => told::refused(number, place),
     }
 }
 
 // Writes the byte form of a set from place p on, and answers its length.
 #[no_mangle]
 pub extern "C" fn wimblorque_set_write(block: &[u64], bytes: &mut [u8], p: usize) -> Told
-    ensures { λ r. ⌜ reply r (now (bytes .exit) ∷ []) ≡ inC (writeSetCall (now (block .entry)) (now (bytes .entry)) p) ⌝ }
+    ensures { λ r. ⌜ Tells r (now (bytes .exit) ∷ []) (writeSetCall (now (block .entry)) (now (bytes .entry)) p) ⌝ }
 {
-    tell_written(forms::write_set(block, bytes, p))
+    told::tell_written(forms::write_set(block, bytes, p))
 }
 
 // Writes the byte form of a map from place p on, and answers its length.
 #[no_mangle]
 pub extern "C" fn wimblorque_map_write(block: &[u64], bytes: &mut [u8], p: usize) -> Told
-    ensures { λ r. ⌜ reply r (now (bytes .exit) ∷ []) ≡ inC (writeMapCall (now (block .entry)) (now (bytes .entry)) p) ⌝ }
+    ensures { λ r. ⌜ Tells r (now (bytes .exit) ∷ []) (writeMapCall (now (block .entry)) (now (bytes .entry)) p) ⌝ }
 {
-    tell_written(forms::write_map(block, bytes, p))
+    told::tell_written(forms::write_map(block, bytes, p))
 }
 
 // Writes the byte form of a bulletin from place p on, and answers its length.
@@ -565,51 +393,16 @@ pub extern "C" fn wimblorque_bulletin_write(
     bytes: &mut [u8],
     p: usize,
 ) -> Told
-    ensures { λ r. ⌜ reply r (now (bytes .exit) ∷ []) ≡ inC (writeBulletinCall (now (released .entry)) (now (withdrawn .entry)) (now (bytes .entry)) p) ⌝ }
+    ensures { λ r. ⌜ Tells r (now (bytes .exit) ∷ []) (writeBulletinCall (now (released .entry)) (now (withdrawn .entry)) (now (bytes .entry)) p) ⌝ }
 {
-    tell_written(bulletin_forms::write_bulletin(released, withdrawn, bytes, p))
-}
-
-// Whether x is in low..high.
-fn between(low: u64, x: u64, high: u64) -> bool
-    ensures { λ r. ⌜ r ≡ andb (leb low x) (leb x high) ⌝ }
-{
-    if low <= x {
-        return x <= high;
-    }
-    false
-}
-
-// Whether x is in one of the n ranges whose records begin at place 7.
-fn holds(bytes: &[u8], n: usize, x: u64) -> bool
-    requires { ⌜ 7 + 21 * n ≤ length (now bytes) ⌝ }
-    ensures { λ r. ⌜ r ≡ member (entriesIn 2 n (drop 7 (now (bytes .entry)))) x ⌝ }
-{
-    let mut p: usize = 7;
-    let mut left = n;
-    while 0 < left {
-        if between(records::get8(bytes, p + 3), x, records::get8(bytes, p + 11)) {
-            return true;
-        }
-        p += 21;
-        left -= 1;
-    }
-    false
+    told::tell_written(forms::write_bulletin(released, withdrawn, bytes, p))
 }
 
 // Whether x is a member of the set whose byte form is in the buffer: 1 member, 0 not, 16 plus the refusal's number where the bytes
 // are not the byte form of a set.
 #[no_mangle]
 pub extern "C" fn wimblorque_member(bytes: &[u8], x: u64) -> u64
-    ensures { λ r. ⌜ r ≡ memberOfFormCall (now (bytes .entry)) x ⌝ }
+    ensures { λ r. ⌜ r ≡ of-forms.memberCall (now (bytes .entry)) x ⌝ }
 {
-    match forms::judge_set(bytes) {
-        FormRead::Good(n) => {
-            if holds(bytes, n, x) {
-                return 1;
-            }
-            0
-        }
-        FormRead::Refused(number, _) => 16 + number as u64,
-    }
+    forms::member(bytes, x)
 }

@@ -1,16 +1,26 @@
 -- What each call on maps answers and leaves, from the words lent to it alone.
 use mathlib.Core.Option.{Option, none, some}
 use mathlib.Core.List.{List, [], _∷_}
-use Prim.Native.Nat.{ℕ}
+use Prim.Native.Nat.{ℕ, zero, suc}
+use lib.Dec.{eqb}
 use Rattle.entries.specs.Entries.{Value, Entry, valueAt}
 use Rattle.entries.specs.Build.{pick}
 use Rattle.entries.specs.Sets.{has}
 use Rattle.entries.specs.Maps.{overlay, restriction, domain}
-use Rattle.answers.specs.Answers.{Answer, given, refused, Outcome, outcome, judged}
-use Rattle.blocks.specs.Blocks.{mapLimit, entriesOf, verdict, setLayout, mapLayout}
+use Rattle.answers.specs.declared.Finding.{Finding}
+use Rattle.answers.specs.Answers.{Answer, given, Outcome, outcome, inTurn, handed}
+use Rattle.blocks.specs.Blocks.{entriesOf, setLayout, mapLayout}
+use Rattle.blocks.specs.Calls.{input}
 use Rattle.edits.specs.Calls.{editCall}
-use Rattle.searches.specs.Calls.{windowCall, windowRefusalCall, entryPart}
+use Rattle.searches.specs.declared.Part.{Part}
+use Rattle.searches.specs.Parts.{noPart}
+use Rattle.searches.specs.Calls.{windowCall, windowAtCall, windowRefusalCall, entryPart}
 use Rattle.operations.specs.Calls.{fromTwo, fromOne}
+use Rattle.maps.specs.declared.Deciding.{Deciding}
+
+-- the entries that a map's block says
+abbrev pub mapEntries : List ℕ → List Entry
+mapEntries = entriesOf (mapLayout .width)
 
 -- a value's words, or none
 abbrev pub worth : Option Value → Answer
@@ -19,15 +29,15 @@ worth none = given []
 
 -- «Look up x: its value, or none.»
 unfoldable pub lookUpCall : List ℕ → ℕ → Outcome
-lookUpCall w x = judged (verdict 3 mapLimit w) 0 [] (outcome (worth (valueAt (entriesOf 3 w) x)) [])
+lookUpCall w x = inTurn (input 0 mapLayout w ∷ []) [] (outcome (worth (valueAt (mapEntries w) x)) [])
 
 -- «Assign v to a..b, replacing what was there»; «Erase a..b»
 abbrev pub assignCall : List ℕ → ℕ → ℕ → ℕ → Outcome
-assignCall w a b v = editCall 3 mapLimit w a b (some (v ∷ []))
+assignCall w a b v = editCall mapLayout w a b (some (v ∷ []))
 
 -- «Erase a..b»
 abbrev pub eraseCall : List ℕ → ℕ → ℕ → Outcome
-eraseCall w a b = editCall 3 mapLimit w a b none
+eraseCall w a b = editCall mapLayout w a b none
 
 -- «Into an output: overlay (upper first, then lower ..), restriction of a map to a set (map first), and the set of numbers that have a value.»
 unfoldable pub overlayCall : List ℕ → List ℕ → List ℕ → Outcome
@@ -42,26 +52,48 @@ unfoldable pub domainCall : List ℕ → List ℕ → Outcome
 domainCall map o = fromOne mapLayout setLayout domain map o
 
 -- «A window is answered as for sets, three words an entry.»
-abbrev pub mapWindowCall : List ℕ → ℕ → ℕ → List ℕ
-mapWindowCall w a b = windowCall 3 mapLimit w a b
+abbrev pub mapWindowCall : List ℕ → ℕ → ℕ → Part
+mapWindowCall w a b = windowCall mapLayout w a b
+
+-- the same part as its place and its length
+abbrev pub mapWindowAtCall : List ℕ → ℕ → ℕ → Outcome
+mapWindowAtCall w a b = windowAtCall mapLayout w a b
 
 -- «a companion question on the same inputs gives the refusal, or says that there is none»
 abbrev pub mapWindowRefusalCall : List ℕ → ℕ → ℕ → Outcome
-mapWindowRefusalCall w a b = windowRefusalCall 3 mapLimit w a b
+mapWindowRefusalCall w a b = windowRefusalCall mapLayout w a b
 
--- by 1, 2, 3 of the site map at 0, then of the factory map at 1
+-- 1, 2, 3 of the site map at 0, then of the factory map at 1
+abbrev pub siteRefusals : List ℕ → List ℕ → List Finding
+siteRefusals site factory = input 0 mapLayout site ∷ input 1 mapLayout factory ∷ []
+
 unfoldable pub siteRefusalCall : List ℕ → List ℕ → Outcome
-siteRefusalCall site factory = judged (verdict 3 mapLimit site) 0 [] (judged (verdict 3 mapLimit factory) 1 [] (outcome (given []) []))
+siteRefusalCall site factory = inTurn (siteRefusals site factory) [] (outcome (given []) [])
+
+-- a part of one of two maps, by the map's position
+abbrev pub partIn : ℕ → Part → Deciding
+partIn position p = record { position = position; place = p .place; length = p .length }
+
+-- the one of two that stands at a position
+abbrev pub atPosition : {A : Type 0} → ℕ → A → A → A
+atPosition zero site factory = site
+atPosition (suc p) site factory = factory
 
 -- «the site map's if x has a value there, else the factory map's, else an empty part»
-abbrev pub deciding : List ℕ → List ℕ → ℕ → List ℕ
-deciding site factory x = pick (has (valueAt (entriesOf 3 site) x)) (entryPart 3 site x) (entryPart 3 factory x)
+abbrev pub deciding : List ℕ → List ℕ → ℕ → Deciding
+deciding site factory x =
+    pick (has (valueAt (mapEntries site) x)) (partIn 0 (entryPart (mapLayout .width) site x)) (partIn 1 (entryPart (mapLayout .width) factory x))
 
--- «refused, they hand back a part of length 0»
-abbrev pub accepted : Outcome → List ℕ → List ℕ
-accepted (outcome (given xs) lent) part = part
-accepted (outcome (refused n p) lent) part = []
+-- «Two maps, site over factory, and a number x: the answer is the three words of the deciding entry, as a part of whichever map holds
+-- it»; refused, the empty part at the site map's front
+unfoldable pub siteOverFactoryCall : List ℕ → List ℕ → ℕ → Deciding
+siteOverFactoryCall site factory x =
+    handed (inTurn (siteRefusals site factory) [] (outcome (given []) [])) (deciding site factory x) (partIn 0 noPart)
 
--- «Two maps, site over factory, and a number x: the answer is the three words of the deciding entry»
-unfoldable pub siteOverFactoryCall : List ℕ → List ℕ → ℕ → List ℕ
-siteOverFactoryCall site factory x = accepted (siteRefusalCall site factory) (deciding site factory x)
+-- the deciding entry as an answer: the part's place and its length, and the position of its map; no values where there is none
+abbrev pub decidingSays : Deciding → Answer
+decidingSays d = pick (eqb (d .length) 0) (given []) (given (d .place ∷ d .length ∷ d .position ∷ []))
+
+-- the same, for a host that is handed no slice (`part-of-deciding` in proofs/Sites)
+unfoldable pub siteOverFactoryAtCall : List ℕ → List ℕ → ℕ → Outcome
+siteOverFactoryAtCall site factory x = inTurn (siteRefusals site factory) [] (outcome (decidingSays (deciding site factory x)) [])

@@ -1,3 +1,1 @@
 pub mod Making
-pub mod Sharing
-pub mod Walking

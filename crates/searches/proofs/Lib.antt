@@ -1,2 +1,6 @@
+pub mod Finding
+pub mod Spots
 pub mod Windows
 pub mod Entries
+pub mod Sharing
+pub mod Walking

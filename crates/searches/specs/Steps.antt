@@ -1,16 +1,46 @@
 -- What the steps of the code promise each other. No public promise names these.
 use mathlib.Core.Path.{_≡_}
+use mathlib.Core.Option.{none, some}
 use mathlib.Core.List.{List}
-use Prim.Native.Nat.{ℕ, _+_, _≤_}
-use lib.ListN.{length}
-use Rattle.blocks.specs.Blocks.{SoundBlock}
-use Rattle.searches.specs.Calls.{windowPlace, windowLength}
+use Prim.Native.Nat.{ℕ, _+_, _*_, _-_, _≤_, _<_}
+use lib.ListN.{length, getD, take, drop}
+use Rattle.entries.specs.Entries.{valueAt}
+use Rattle.entries.specs.Sets.{has}
+use Rattle.blocks.specs.declared.Layout.{Layout}
+use Rattle.blocks.specs.Blocks.{entriesOf, SoundBlock}
+use Rattle.searches.specs.Calls.{windowPlace, windowLength, entryPart}
 use Rattle.searches.specs.declared.Part.{Part}
+use Rattle.searches.specs.declared.Spot.{Spot}
+
+-- n items of s words stand in w, and their words at off, counted from 1, do not fall (`sorted-lows`, `sorted-highs` in proofs/Sorting)
+pub record Sorted (s off n : ℕ) (w : List ℕ) : Type 0 where
+  pub two : 2 ≤ s
+  pub held : 1 + s * n ≤ length w
+  pub within : off ≤ s
+  pub rises : (i j : ℕ) → i ≤ j → j < n → getD w (s * i + off) 0 ≤ getD w (s * j + off) 0
+
+-- r is the first of n items, of s words each, whose word at off is at least x, or n
+pub record FirstFrom (ws : List ℕ) (s off n x r : ℕ) : Type 0 where
+  pub within : r ≤ n
+  pub before : (k : ℕ) → k < r → getD ws (s * k + off) 0 < x
+  pub from : r < n → x ≤ getD ws (s * r + off) 0
+
+-- where x stands in the block w: so many items end below it, the next does not, and that one holds it or none does
+pub record SpotOf (l : Layout) (w : List ℕ) (x : ℕ) (r : Spot) : Type 0 where
+  pub first : FirstFrom w (l .width) 2 (getD w 0 0) x (r .below)
+  pub inside : r .inside ≡ has (valueAt (entriesOf (l .width) w) x)
+
+-- r is the entry of w that holds x, within its block; where it has words, they are its value's from the third on
+pub record EntryOf (l : Layout) (w : List ℕ) (x : ℕ) (r : Part) : Type 0 where
+  pub is : r ≡ entryPart (l .width) w x
+  pub held : r .place + r .length ≤ length w
+  pub none : r .length ≡ 0 → valueAt (entriesOf (l .width) w) x ≡ none
+  pub value : (r .length ≡ 0 → ⊥) → (valueAt (entriesOf (l .width) w) x ≡ some (take (l .width - 2) (drop (r .place + 2) w))) × (r .length ≡ l .width)
 
 -- a sound block and a window in order
-pub record Judged (s limit : ℕ) (w : List ℕ) (a b : ℕ) : Type 0 where
-  pub two : 2 ≤ s
-  pub block : SoundBlock s limit w
+pub record Windowed (l : Layout) (w : List ℕ) (a b : ℕ) : Type 0 where
+  pub two : 2 ≤ l .width
+  pub block : SoundBlock l w
   pub order : a ≤ b
 
 -- the part of a window, within its block

@@ -1,15 +1,30 @@
-// Questions that sets and maps share: the window of a block of s words an item.
+// Finding a place in a judged block: where a number stands, the items that meet a window, and whether two sets share a number.
 ghost use mathlib.Core.Path.{_≡_};
-ghost use Prim.Native.Nat.{_≤_, _<_};
+ghost use mathlib.Core.List.{[]};
+ghost use Prim.Native.Nat.{_+_, _≤_, _<_};
 ghost use lib.ListN.{length, getD};
-ghost use Rattle.blocks.specs.Blocks.{SoundBlock};
-ghost use Rattle.searches.specs.Calls.{windowPart, windowVerdict, windowCall, entryPlace};
-ghost use Rattle.searches.specs.Steps.{Judged, PartOf};
+ghost use Rattle.entries.specs.Bulletins.{shareb};
+ghost use Rattle.answers.specs.Answers.{outcome, at};
+ghost use Rattle.answers.specs.Says.{judgedSays, partedSays};
+ghost use Rattle.answers.specs.Steps.{FirstOf};
+ghost use Rattle.blocks.specs.Blocks.{SoundBlock, setLayout, entriesOf};
+ghost use Rattle.searches.specs.Calls.{windowPart, windowRefusals, windowRefusalCall, windowCall, windowAtCall};
+ghost use Rattle.searches.specs.Parts.{IsPart};
+ghost use Rattle.searches.specs.Steps.{Sorted, FirstFrom, SpotOf, EntryOf, Windowed, PartOf};
+use answers::Judged;
+use answers::Parted;
+use blocks::Layout;
 
 // A part of a block: where it begins, and its words.
 pub struct Part {
     pub place: usize,
     pub length: usize,
+}
+
+// Where a number stands in a block: how many items lie wholly below it, and whether the next one holds it.
+pub struct Spot {
+    pub below: usize,
+    pub inside: bool,
 }
 
 // The number of items of a block.
@@ -20,29 +35,82 @@ pub fn count_of(block: &[u64]) -> usize
     blocks::wide(blocks::word(block, 0))
 }
 
-// The place of the first word of the entry of a sound block that holds x, or 0 where there is none.
-pub fn entry_place(block: &[u64], s: usize, limit: usize, x: u64) -> usize
-    requires { ⌜ (2 ≤ s) × SoundBlock s limit (now block) ⌝ }
-    ensures { λ r. ⌜ r ≡ entryPlace s (now (block .entry)) x ⌝ }
+// The first of n items of s words whose word at off (1 its low, 2 its high) is at least x, or n. These words do not fall.
+pub fn first_from(block: &[u64], s: usize, off: usize, n: usize, x: u64) -> usize
+    requires { ⌜ Sorted s off n (now block) ⌝ }
+    ensures { λ r. ⌜ FirstFrom (now (block .entry)) s off n x r ⌝ }
 {
-    let n = count_of(block);
-    let i = blocks::first_from(block, s, 2, n, x);
-    if n <= i {
-        return 0;
+    let mut i: usize = 0;
+    while i < n {
+        if blocks::word(block, s * i + off) < x {
+            i += 1;
+        } else {
+            return i;
+        }
     }
-    let place = s * i + 1;
-    if x < blocks::word(block, place) {
-        return 0;
-    }
-    place
+    i
 }
 
-// The number of the refusal of a window, or 0.
-pub fn window_verdict(block: &[u64], s: usize, limit: usize, a: u64, b: u64) -> u8
-    requires { ⌜ 2 ≤ s ⌝ }
-    ensures { λ r. ⌜ r ≡ windowVerdict s limit (now (block .entry)) a b ⌝ }
+// The first whose word at off is above x, or n.
+pub fn first_past(block: &[u64], s: usize, off: usize, n: usize, x: u64) -> usize
+    requires { ⌜ Sorted s off n (now block) ⌝ }
+    ensures { λ r. ⌜ FirstFrom (now (block .entry)) s off n (x + 1) r ⌝ }
 {
-    let v = blocks::judge(block, s, limit);
+    if x == blocks::M {
+        return n;
+    }
+    first_from(block, s, off, n, x + 1)
+}
+
+// Where x stands in a sound block. Membership, the least member and non-member, look-up and the deciding entry rest on this search.
+pub fn spot_of(block: &[u64], layout: Layout, x: u64) -> Spot
+    requires { ⌜ (2 ≤ layout .width) × SoundBlock layout (now block) ⌝ }
+    ensures { λ r. ⌜ SpotOf layout (now (block .entry)) x r ⌝ }
+{
+    let n = count_of(block);
+    let i = first_from(block, layout.width, 2, n, x);
+    if n <= i {
+        return Spot {
+            below: i,
+            inside: false,
+        };
+    }
+    if x < blocks::word(block, layout.width * i + 1) {
+        return Spot {
+            below: i,
+            inside: false,
+        };
+    }
+    Spot {
+        below: i,
+        inside: true,
+    }
+}
+
+// The entry of a sound block that holds x, as a part of the block; the empty part at its front where there is none.
+pub fn entry_part(block: &[u64], layout: Layout, x: u64) -> Part
+    requires { ⌜ (2 ≤ layout .width) × SoundBlock layout (now block) ⌝ }
+    ensures { λ r. ⌜ EntryOf layout (now (block .entry)) x r ⌝ }
+{
+    let spot = spot_of(block, layout, x);
+    if spot.inside {
+        return Part {
+            place: layout.width * spot.below + 1,
+            length: layout.width,
+        };
+    }
+    Part {
+        place: 0,
+        length: 0,
+    }
+}
+
+// The number of the first refusal of the window a..b of a block: 1, 2, 3 of the block, then 4; 0 where there is none.
+pub fn window_verdict(block: &[u64], layout: Layout, a: u64, b: u64) -> u8
+    requires { ⌜ 2 ≤ layout .width ⌝ }
+    ensures { λ r. ⌜ FirstOf (windowRefusals layout (now (block .entry)) a b) (at 0 r) ⌝ }
+{
+    let v = blocks::judge(block, layout);
     if v != 0 {
         return v;
     }
@@ -52,16 +120,24 @@ pub fn window_verdict(block: &[u64], s: usize, limit: usize, a: u64, b: u64) -> 
     0
 }
 
+// The refusal of the window a..b of any words lent as a block, or that there is none.
+pub fn window_refusal(block: &[u64], layout: Layout, a: u64, b: u64) -> Judged
+    requires { ⌜ 2 ≤ layout .width ⌝ }
+    ensures { λ r. ⌜ outcome (judgedSays r) [] ≡ windowRefusalCall layout (now (block .entry)) a b ⌝ }
+{
+    answers::judged_of(window_verdict(block, layout, a, b), 0)
+}
+
 // Where in a sound block the items that share a number with a..b stand, and how many words they take.
-pub fn part_at(block: &[u64], s: usize, limit: usize, a: u64, b: u64) -> Part
-    requires { ⌜ Judged s limit (now block) a b ⌝ }
-    ensures { λ r. ⌜ PartOf s (now (block .entry)) a b r ⌝ }
+pub fn part_at(block: &[u64], layout: Layout, a: u64, b: u64) -> Part
+    requires { ⌜ Windowed layout (now block) a b ⌝ }
+    ensures { λ r. ⌜ PartOf (layout .width) (now (block .entry)) a b r ⌝ }
 {
     let n = count_of(block);
-    let i = blocks::first_from(block, s, 2, n, a);
-    let j = blocks::first_past(block, s, 1, n, b);
-    let from = s * i + 1;
-    let to = s * j + 1;
+    let i = first_from(block, layout.width, 2, n, a);
+    let j = first_past(block, layout.width, 1, n, b);
+    let from = layout.width * i + 1;
+    let to = layout.width * j + 1;
     Part {
         place: from,
         length: to - from,
@@ -69,23 +145,65 @@ pub fn part_at(block: &[u64], s: usize, limit: usize, a: u64, b: u64) -> Part
 }
 
 // The part of a sound block with the items that share a number with a..b.
-fn meeting(block: &[u64], s: usize, limit: usize, a: u64, b: u64) -> &[u64]
-    requires { ⌜ Judged s limit (now block) a b ⌝ }
-    ensures { λ r. ⌜ now r ≡ windowPart s (now (block .entry)) a b ⌝ }
+fn meeting(block: &[u64], layout: Layout, a: u64, b: u64) -> &[u64]
+    requires { ⌜ Windowed layout (now block) a b ⌝ }
+    ensures { λ r. ⌜ IsPart (block .entry) r (windowPart (layout .width) (now (block .entry)) a b) ⌝ }
 {
-    let p = part_at(block, s, limit, a, b);
+    let p = part_at(block, layout, a, b);
     let from = p.place;
     let to = p.place + p.length;
     &block[from..to]
 }
 
-// The part of the block with the items that share a number with a..b; refused, a part of no words.
-pub fn window(block: &[u64], s: usize, limit: usize, a: u64, b: u64) -> &[u64]
-    requires { ⌜ 2 ≤ s ⌝ }
-    ensures { λ r. ⌜ now r ≡ windowCall s limit (now (block .entry)) a b ⌝ }
+// The part of the block with the items that share a number with a..b; refused, the part of no words at its front.
+pub fn window(block: &[u64], layout: Layout, a: u64, b: u64) -> &[u64]
+    requires { ⌜ 2 ≤ layout .width ⌝ }
+    ensures { λ r. ⌜ IsPart (block .entry) r (windowCall layout (now (block .entry)) a b) ⌝ }
 {
-    if window_verdict(block, s, limit, a, b) != 0 {
+    if window_verdict(block, layout, a, b) != 0 {
         return &block[0..0];
     }
-    meeting(block, s, limit, a, b)
+    meeting(block, layout, a, b)
+}
+
+// The same part, as its place and its length; or that it is empty.
+pub fn window_at(block: &[u64], layout: Layout, a: u64, b: u64) -> Parted
+    requires { ⌜ 2 ≤ layout .width ⌝ }
+    ensures { λ r. ⌜ outcome (partedSays r) [] ≡ windowAtCall layout (now (block .entry)) a b ⌝ }
+{
+    let v = window_verdict(block, layout, a, b);
+    if v != 0 {
+        return Parted::Refused(answers::refusal_of(v, 0));
+    }
+    let p = part_at(block, layout, a, b);
+    if p.length == 0 {
+        return Parted::Nothing;
+    }
+    Parted::Part(p.place, p.length)
+}
+
+// Whether two sound sets share a number: at each step one range is wholly below another and is passed, or they share one.
+pub fn share_number(a: &[u64], b: &[u64]) -> bool
+    requires { ⌜ SoundBlock setLayout (now a) × SoundBlock setLayout (now b) ⌝ }
+    ensures { λ r. ⌜ r ≡ shareb (entriesOf 2 (now (a .entry))) (entriesOf 2 (now (b .entry))) ⌝ }
+{
+    let mut i: usize = 1;
+    let mut left = count_of(a);
+    let mut j: usize = 1;
+    let mut others = count_of(b);
+    while 0 < left {
+        if others == 0 {
+            return false;
+        }
+        let below = blocks::word(a, i + 1) < blocks::word(b, j);
+        let above = blocks::word(b, j + 1) < blocks::word(a, i);
+        if below == above {
+            return true;
+        }
+        i = blocks::chosen(below, i + 2, i);
+        left = blocks::chosen(below, left - 1, left);
+        j = blocks::chosen(above, j + 2, j);
+        others = blocks::chosen(above, others - 1, others);
+    }
+    false
 }

@@ -19,4 +19,5 @@ empty-refused w r e h = rw (eq-eqb (length w) 0 h) (ap (λ (x : Judged). outcome
 pub empty-done : (w w' : List ℕ) (r : Judged) → r ≡ judgedOf 0 0 → (length w ≡ 0 → ⊥) → Cleared w 0 w' → outcome (judgedSays r) (w' ∷ []) ≡ makeEmptyCall w
 unfolding makeEmptyCall
 empty-done w w' r e n c =
-    rw (ne-eqb (length w) 0 n) (ap (λ (x : Judged). outcome (judgedSays x) (w' ∷ [])) e ∙ ap (λ (l : List ℕ). outcome (given []) (l ∷ [])) (cleared-block w w' (omega arith) c))
+    rw (ne-eqb (length w) 0 n)
+    (ap (λ (x : Judged). outcome (judgedSays x) (w' ∷ [])) e ∙ ap (λ (l : List ℕ). outcome (given []) (l ∷ [])) (cleared-block w w' (omega arith) c))

@@ -7,21 +7,23 @@ use native.Mathlib.Omega.{arith}
 use lib.Dec.{ltb}
 use lib.ListN.{length}
 use borrow.Author.Tests.{lt-ltb}
+use Rattle.sets.specs.Steps.{setLayouts}
 use Rattle.answers.specs.Answers.{judged as judgedBy, truth, Answer, outcome}
 use Rattle.entries.specs.Entries.{Entry, Sound}
 use Rattle.entries.specs.Build.{andb}
-use Rattle.entries.specs.Sets.{member, union, intersection, difference, symmetricDifference, complement}
+use Rattle.entries.specs.Sets.{member, union, intersection, difference, symmetricDifference}
 use Rattle.entries.specs.Questions.{isEmpty}
 use Rattle.entries.proofs.Limits.{union-bound, difference-bound, symmetric-bound, intersection-bound, complement-bound}
 use Rattle.entries.proofs.Sets.{intersection-is}
 use Rattle.entries.proofs.Questions.{none-empty}
-use Rattle.sweeps.specs.Sweeps.{result, Bounded}
+use Rattle.sweeps.specs.Sweeps.{result, Bounded, inEither, inBoth, firstAlone, justOne, notFirst}
 use Rattle.sweeps.proofs.Tables.{union-table, intersection-table, difference-table, symmetric-table, complement-table, fit-set}
-use Rattle.operations.specs.Steps.{TwoFit, OneFit}
+use Rattle.operations.proofs.Making.{set-small}
+use Rattle.operations.specs.Steps.{TwoFit, OneFit, Small}
 use Rattle.answers.specs.Says.{refusalSays, refusalOf}
 use Rattle.answers.proofs.Numbers.{refused-as, given-as}
-use Rattle.blocks.specs.Blocks.{setLimit, entriesOf, verdict}
-use Rattle.blocks.proofs.Judging.{verdict-most}
+use Rattle.blocks.specs.Blocks.{entriesOf, verdict, setLayout}
+use Rattle.blocks.proofs.Judging.{verdict-small}
 use Rattle.sets.specs.Calls.{askedTwo}
 use Rattle.entries.proofs.Values.{true≢false}
 use Rattle.answers.specs.declared.Refusal.{Refusal}
@@ -36,10 +38,13 @@ and-none false = refl
 
 -- «intersection n+m-1 (0 if n or m is 0)»
 pub intersection-none : (fs : List Entry) → length (intersection [] fs) ≡ 0
-intersection-none fs = empty-length (intersection [] fs) (none-empty (intersection [] fs) ((intersection-is [] fs) .sound) (λ x. (intersection-is [] fs) .members x))
+intersection-none fs =
+    empty-length (intersection [] fs) (none-empty (intersection [] fs) ((intersection-is [] fs) .sound) (λ x. (intersection-is [] fs) .members x))
 
 pub none-intersection : (es : List Entry) → length (intersection es []) ≡ 0
-none-intersection es = empty-length (intersection es []) (none-empty (intersection es []) ((intersection-is es []) .sound) (λ x. (intersection-is es []) .members x ∙ and-none (member es x)))
+none-intersection es =
+    empty-length (intersection es [])
+    (none-empty (intersection es []) ((intersection-is es []) .sound) (λ x. (intersection-is es []) .members x ∙ and-none (member es x)))
 
 intersection-most : (es fs : List Entry) → Sound es → Sound fs → length (intersection es fs) ≤ length es + length fs
 intersection-most [] fs s t = omega (arith, intersection-none fs)
@@ -48,34 +53,33 @@ intersection-most (e ∷ es) (f ∷ fs) s t = omega (arith, intersection-bound e
 
 -- a table that makes an operation with at most n + m ranges
 fitting : (t : ℕ) (op : List Entry → List Entry → List Entry) → ((es fs : List Entry) → Bounded es → Bounded fs → result t 2 es fs [] ≡ op es fs)
-    → ((es fs : List Entry) → Sound es → Sound fs → length (op es fs) ≤ length es + length fs) → TwoFit t 2 2 2 1
+    → ((es fs : List Entry) → Sound es → Sound fs → length (op es fs) ≤ length es + length fs) → TwoFit t setLayouts 1
 fitting t op table most = record {
   fit = fit-set t 2 2 2 (omega arith) (omega arith) (omega arith);
-  first = omega arith;
-  first-four = omega arith;
-  second = omega arith;
-  second-four = omega arith;
+  first = set-small;
+  second = set-small;
+  few = omega arith;
   small = omega arith;
   bound = λ es fs s t p q h k. omega (arith, ap length (table es fs p q), most es fs s t);
 }
 
-pub union-fit : TwoFit 238 2 2 2 1
-union-fit = fitting 238 union union-table union-bound
+pub union-fit : TwoFit inEither setLayouts 1
+union-fit = fitting inEither union union-table union-bound
 
-pub intersection-fit : TwoFit 136 2 2 2 1
-intersection-fit = fitting 136 intersection intersection-table intersection-most
+pub intersection-fit : TwoFit inBoth setLayouts 1
+intersection-fit = fitting inBoth intersection intersection-table intersection-most
 
-pub difference-fit : TwoFit 34 2 2 2 1
-difference-fit = fitting 34 difference difference-table difference-bound
+pub difference-fit : TwoFit firstAlone setLayouts 1
+difference-fit = fitting firstAlone difference difference-table difference-bound
 
-pub symmetric-fit : TwoFit 102 2 2 2 1
-symmetric-fit = fitting 102 symmetricDifference symmetric-table symmetric-bound
+pub symmetric-fit : TwoFit justOne setLayouts 1
+symmetric-fit = fitting justOne symmetricDifference symmetric-table symmetric-bound
 
-pub complement-fit : OneFit 85 2 2
+pub complement-fit : OneFit notFirst setLayout setLayout
 complement-fit = record {
-  fit = fit-set 85 2 2 2 (omega arith) (omega arith) (omega arith);
-  first = omega arith;
-  first-four = omega arith;
+  fit = fit-set notFirst 2 2 2 (omega arith) (omega arith) (omega arith);
+  from = set-small;
+  few = omega arith;
   bound = λ es s p. omega (arith, ap length (complement-table es), complement-bound es s);
 }
 
@@ -89,16 +93,17 @@ empty-yes [] t e z = refl
 empty-yes (x ∷ es) t e z = absurd (true≢false (sym (lt-ltb 0 (length (x ∷ es)) (omega arith)) ∙ sym e ∙ z))
 
 -- a question about two sets refused, or answered
-module _ (w v : List ℕ) (answer : List Entry → List Entry → Answer) (k : ℕ) (e : k ≡ verdict 2 setLimit w) where
+module _ (w v : List ℕ) (answer : List Entry → List Entry → Answer) (k : ℕ) (e : k ≡ verdict setLayout w) where
   pub refuse-first : (f : Refusal) → (k ≡ 0 → ⊥) → f ≡ refusalOf k 0 → outcome (refusalSays f) [] ≡ askedTwo w v answer
-  refuse-first f n r = refused-as [] 0 _ k (verdict 2 setLimit w) f e (omega (arith, verdict-most 2 setLimit w)) n r
+  refuse-first f n r = refused-as [] 0 _ k (verdict setLayout w) f e (verdict-small setLayout w) n r
 
-  module _ (z : k ≡ 0) (l : ℕ) (g : l ≡ verdict 2 setLimit v) where
+  module _ (z : k ≡ 0) (l : ℕ) (g : l ≡ verdict setLayout v) where
     pub refuse-second : (f : Refusal) → (l ≡ 0 → ⊥) → f ≡ refusalOf l 1 → outcome (refusalSays f) [] ≡ askedTwo w v answer
-    refuse-second f n r = given-as [] 0 _ _ k (verdict 2 setLimit w) e z (refused-as [] 1 _ l (verdict 2 setLimit v) f g (omega (arith, verdict-most 2 setLimit v)) n r)
+    refuse-second f n r = given-as [] 0 _ _ k (verdict setLayout w) e z (refused-as [] 1 _ l (verdict setLayout v) f g (verdict-small setLayout v) n r)
 
     pub give-two : (a : Answer) → l ≡ 0 → a ≡ answer (entriesOf 2 w) (entriesOf 2 v) → outcome a [] ≡ askedTwo w v answer
-    give-two a y q = given-as [] 0 _ _ k (verdict 2 setLimit w) e z (given-as [] 1 _ _ l (verdict 2 setLimit v) g y (ap (λ (b : Answer). outcome b []) q))
+    give-two a y q = given-as [] 0 _ _ k (verdict setLayout w) e z (given-as [] 1 _ _ l (verdict setLayout v) g y (ap (λ (b : Answer). outcome b []) q))
 
-pub two-same : (w v : List ℕ) (answer by : List Entry → List Entry → Answer) → answer (entriesOf 2 w) (entriesOf 2 v) ≡ by (entriesOf 2 w) (entriesOf 2 v) → askedTwo w v answer ≡ askedTwo w v by
-two-same w v answer by e = ap (λ (a : Answer). judgedBy (verdict 2 setLimit w) 0 [] (judgedBy (verdict 2 setLimit v) 1 [] (outcome a []))) e
+pub two-same : (w v : List ℕ) (answer by : List Entry → List Entry → Answer)
+    → answer (entriesOf 2 w) (entriesOf 2 v) ≡ by (entriesOf 2 w) (entriesOf 2 v) → askedTwo w v answer ≡ askedTwo w v by
+two-same w v answer by e = ap (λ (a : Answer). judgedBy (verdict setLayout w) 0 [] (judgedBy (verdict setLayout v) 1 [] (outcome a []))) e

@@ -6,11 +6,13 @@ use Prim.Native.Nat.{ℕ, zero, suc, _+_, _*_, _-_, _≤_, _<_}
 use native.Mathlib.Omega.{arith}
 use lib.ListN.{length, getD, drop}
 use lib.Seq.{drop-drop, getD-drop}
+use Rattle.entries.specs.Sets.{pastM}
+use Rattle.blocks.specs.Steps.{Lent}
 use Rattle.entries.specs.Entries.{Sound}
 use Rattle.answers.specs.Answers.{lessOne, given}
 use Rattle.entries.proofs.Questions.{size-most, Under}
-use Rattle.blocks.specs.Blocks.{setLimit, itemsOf, entriesOf}
-use Rattle.blocks.proofs.Judging.{room}
+use Rattle.blocks.specs.Blocks.{itemsOf, entriesOf, setLayout}
+use Rattle.blocks.proofs.Judging.{room-words}
 use Rattle.sets.specs.Steps.{Counted}
 use Rattle.entries.specs.Questions.{sizeOf}
 
@@ -20,21 +22,21 @@ pub record Summed (w : List ℕ) (done p left : ℕ) : Type 0 where
   pub held : 1 + 2 * getD w 0 0 ≤ length w
   pub sound : Sound (itemsOf 2 left (drop p w))
   pub sum : done + sizeOf (itemsOf 2 left (drop p w)) ≡ sizeOf (entriesOf 2 w)
-  pub most : sizeOf (entriesOf 2 w) ≤ 18446744073709551616
+  pub most : sizeOf (entriesOf 2 w) ≤ pastM
 
 items-under : (n : ℕ) (ws : List ℕ) (N : ℕ) → ((j : ℕ) → getD ws j 0 < N) → Under N (itemsOf 2 n ws)
 items-under zero ws N h = tt
 items-under (suc n) ws N h = (h 1, items-under n (drop 2 ws) N (λ j. rw (getD-drop 2 ws j 0) (h (2 + j))))
 
 -- every number of a set is below 2^64
-pub entries-under : (w : List ℕ) → ((j : ℕ) → getD w j 0 < 18446744073709551616) → Under 18446744073709551616 (entriesOf 2 w)
-entries-under w h = items-under (getD w 0 0) (drop 1 w) 18446744073709551616 (λ j. rw (getD-drop 1 w j 0) (h (1 + j)))
+pub entries-under : (w : List ℕ) → Lent w → Under pastM (entriesOf 2 w)
+entries-under w h = items-under (getD w 0 0) (drop 1 w) pastM (λ j. rw (getD-drop 1 w j 0) (h (1 + j)))
 
 -- what one range gives
 pub record Took (w : List ℕ) (done p left : ℕ) : Type 0 where
   pub inside : p + 2 ≤ length w
   pub order : getD w p 0 ≤ getD w (p + 1) 0
-  pub fits : done + (getD w (p + 1) 0 - getD w p 0) + 1 ≤ 18446744073709551616
+  pub fits : done + (getD w (p + 1) 0 - getD w p 0) + 1 ≤ pastM
   pub next : Summed w (done + (getD w (p + 1) 0 - getD w p 0) + 1) (p + 2) (left - 1)
 
 pub took : (w : List ℕ) (done p left : ℕ) → Summed w done p left → 0 < left → Took w done p left
@@ -61,16 +63,16 @@ took w done p (suc k) s h =
       };
     }
 
-pub summed-start : (w : List ℕ) (n : ℕ) → Counted w n → ((j : ℕ) → getD w j 0 < 18446744073709551616) → Took w 0 1 n
+pub summed-start : (w : List ℕ) (n : ℕ) → Counted w n → Lent w → Took w 0 1 n
 summed-start w n c h = took w 0 1 n start (c .some)
   where
     start : Summed w 0 1 n
     start = rw (c .count) (record {
       place = omega arith;
-      held = room 2 setLimit (length w) (getD w 0 0) (c .block .some) (c .block .fits);
+      held = room-words setLayout (length w) (getD w 0 0) (c .block .some) (c .block .fits);
       sound = c .block .sound;
       sum = omega arith;
-      most = size-most (entriesOf 2 w) 18446744073709551616 (c .block .sound) (entries-under w h);
+      most = size-most (entriesOf 2 w) pastM (c .block .sound) (entries-under w h);
     })
 
 pub summed-as : (w : List ℕ) (a b p q m n : ℕ) → a ≡ b → p ≡ q → m ≡ n → Summed w a p m → Summed w b q n

@@ -1,5 +1,4 @@
 -- What each call on sets answers and leaves, from the words lent to it alone.
-use mathlib.Core.Bool.{Bool, true, false}
 use mathlib.Core.Option.{Option, none, some}
 use mathlib.Core.List.{List, [], _∷_}
 use Prim.Native.Nat.{ℕ}
@@ -9,20 +8,21 @@ use Rattle.entries.specs.Entries.{Entry}
 use Rattle.entries.specs.Build.{pick}
 use Rattle.entries.specs.Sets.{M, member, union, intersection, difference, symmetricDifference, complement}
 use Rattle.entries.specs.Questions.{rangeAt, sizeOf, leastMember, leastFree, isEmpty}
-use Rattle.answers.specs.Answers.{Answer, given, Outcome, outcome, judged, truth, optional, lessOne}
-use Rattle.blocks.specs.Blocks.{setLimit, entriesOf, blockOf, verdict, setLayout}
-use Rattle.blocks.specs.Calls.{writable}
+use Rattle.answers.specs.Answers.{Answer, given, Outcome, outcome, inTurn, truth, optional, lessOne}
+use Rattle.blocks.specs.Blocks.{setLayout, entriesOf}
+use Rattle.blocks.specs.Calls.{input, output, holding}
 use Rattle.edits.specs.Calls.{editCall}
 use Rattle.operations.specs.Calls.{fromTwo, fromOne}
-use Rattle.searches.specs.Calls.{windowCall, windowRefusalCall}
+use Rattle.searches.specs.declared.Part.{Part}
+use Rattle.searches.specs.Calls.{windowCall, windowAtCall, windowRefusalCall}
 
 -- a question about a set: 1, 2, 3 of its block, then the answer
 abbrev pub asked : List ℕ → (List Entry → Answer) → Outcome
-asked w answer = judged (verdict 2 setLimit w) 0 [] (outcome (answer (entriesOf 2 w)) [])
+asked w answer = inTurn (input 0 setLayout w ∷ []) [] (outcome (answer (entriesOf 2 w)) [])
 
 -- «Make empty (refuses only with 1).»
 unfoldable pub makeEmptyCall : List ℕ → Outcome
-makeEmptyCall w = writable 0 w (outcome (given []) (blockOf (length w) [] ∷ []))
+makeEmptyCall w = inTurn (output 0 (length w) ∷ []) (w ∷ []) (holding w [])
 
 -- «Is x a member.»
 unfoldable pub memberCall : List ℕ → ℕ → Outcome
@@ -54,26 +54,28 @@ unfoldable pub leastNonMemberCall : List ℕ → ℕ → Outcome
 leastNonMemberCall w x = asked w (λ es. optional (nonMember es x))
 
 -- «Window a..b»: the part that is handed back, and its companion
-abbrev pub setWindowCall : List ℕ → ℕ → ℕ → List ℕ
-setWindowCall w a b = windowCall 2 setLimit w a b
+abbrev pub setWindowCall : List ℕ → ℕ → ℕ → Part
+setWindowCall w a b = windowCall setLayout w a b
+
+-- the same part as its place and its length
+abbrev pub setWindowAtCall : List ℕ → ℕ → ℕ → Outcome
+setWindowAtCall w a b = windowAtCall setLayout w a b
 
 -- «a companion question on the same inputs gives the refusal, or says that there is none»
 abbrev pub setWindowRefusalCall : List ℕ → ℕ → ℕ → Outcome
-setWindowRefusalCall w a b = windowRefusalCall 2 setLimit w a b
+setWindowRefusalCall w a b = windowRefusalCall setLayout w a b
 
 -- «Insert a..b and remove a..b in place.»
 abbrev pub insertCall : List ℕ → ℕ → ℕ → Outcome
-insertCall w a b = editCall 2 setLimit w a b (some [])
+insertCall w a b = editCall setLayout w a b (some [])
 
 -- «remove a..b in place»
 abbrev pub removeCall : List ℕ → ℕ → ℕ → Outcome
-removeCall w a b = editCall 2 setLimit w a b none
+removeCall w a b = editCall setLayout w a b none
 
 -- a question about two sets: 1, 2, 3 of each in turn, then the answer
 abbrev pub askedTwo : List ℕ → List ℕ → (List Entry → List Entry → Answer) → Outcome
-askedTwo w v answer =
-    judged (verdict 2 setLimit w) 0 []
-    (judged (verdict 2 setLimit v) 1 [] (outcome (answer (entriesOf 2 w) (entriesOf 2 v)) []))
+askedTwo w v answer = inTurn (input 0 setLayout w ∷ input 1 setLayout v ∷ []) [] (outcome (answer (entriesOf 2 w) (entriesOf 2 v)) [])
 
 -- «Of two sets: equal, one within the other, no common number.» Equal: nothing is in just one of them.
 unfoldable pub equalCall : List ℕ → List ℕ → Outcome

@@ -1,4 +1,4 @@
-// Reads the byte form of a set from standard input and writes its ranges, or the refusal.
+// The program of the paper: reads the byte form of a set from standard input and writes its ranges, or the refusal.
 fn main() {
-    shown::run();
+    program::run(0);
 }

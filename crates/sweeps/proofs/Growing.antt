@@ -55,7 +55,9 @@ module _ (F : ℕ → Option Value) (x : ℕ) where
       where
         go : Dec (l .high < x) → l .high < x
         go (yes p) = p
-        go (no p) = absurd (none≢some _ _ (u .above (l .high) (omega arith)) (value-right a l [] (u .sound) (l .high) ok ∙ val-in l [] (l .high) ok (omega arith)))
+        go (no p) =
+            absurd (none≢some _ _ (u .above (l .high) (omega arith))
+            (value-right a l [] (u .sound) (l .high) ok ∙ val-in l [] (l .high) ok (omega arith)))
 
     before-is : (y : ℕ) → x ≡ y → (t : Bool) → eqb (suc (l .high)) x ≡ t → andb t (sameWords (l .value) v) ≡ sameAs (prev F y) v
     before-is zero e t q = absurd (omega (arith, under-x))
@@ -63,7 +65,12 @@ module _ (F : ℕ → Option Value) (x : ℕ) where
         let k : y ≡ l .high = omega (arith, eqb-true (suc (l .high)) x q) in
         rw (sym (u .below y (omega arith)), k, value-right a l [] (u .sound) (l .high) ok, val-in l [] (l .high) ok (omega arith))
     before-is (suc y) e false q =
-        rw (sym (u .below y (omega arith)), value-right a l [] (u .sound) y (omega (arith, ok, under-x)), val-past l [] y (omega (arith, under-x, eqb-false (suc (l .high)) x q)))
+        rw (
+          sym (u .below y (omega arith)),
+          value-right a l [] (u .sound) y (omega (arith, ok, under-x)),
+          val-past l [] y
+              (omega (arith, under-x, eqb-false (suc (l .high)) x q)),
+        )
 
     grown : (h : ℕ) (t : Bool) → (t ≡ true → l .value ≡ v) → a ++ last t l x h v ≡ grow true t (a ++ l ∷ []) x h v
     grown h true k = sym (raise-snoc a l h v ∙ ap (λ (u : Value). a ++ entry (l .low) h u ∷ []) (sym (k refl)))
@@ -92,7 +99,8 @@ module _ (F : ℕ → Option Value) (x : ℕ) where
       → Upto F (suc h) (grow b (sameAs (prev F x) v) es x h v)
   grow-step es h v b le u k = go b k (step F x h le es u (λ y p q. k y p q ∙ sym (k x (omega arith) le)))
     where
-      go : (b : Bool) → ((y : ℕ) → x ≤ y → y ≤ h → F y ≡ shown b v) → Upto F (suc h) (extend es x h (F x)) → Upto F (suc h) (grow b (sameAs (prev F x) v) es x h v)
+      go : (b : Bool) → ((y : ℕ) → x ≤ y → y ≤ h → F y ≡ shown b v) → Upto F (suc h) (extend es x h (F x))
+          → Upto F (suc h) (grow b (sameAs (prev F x) v) es x h v)
       go false k s = rw (k x (omega arith) le) at s
       go true k s = rw push-grow at (rw (k x (omega arith) le) at s)
 

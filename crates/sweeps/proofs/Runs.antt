@@ -11,6 +11,7 @@ use lib.ListN.{length, getD, take, drop}
 use lib.Seq.{drop-drop}
 use lib.Dec.{eqb}
 use borrow.Author.Tests.{eqb-true, eqb-false}
+use Rattle.entries.specs.Sets.{pastM, M}
 use Rattle.entries.specs.Entries.{Entry, valueAt, Link, Sound}
 use Rattle.entries.specs.Build.{pick}
 use Rattle.entries.proofs.Sides.{val-in, val-past, none-under}
@@ -139,12 +140,12 @@ module _ (s : ℕ) (w : List ℕ) (x : ℕ) (g : Input s w) where
     side-of : (p ≡ 1 + s * getD w 0 0 → ⊥) → x < getD w p 0
     side-of = subst (λ (b : ℕ). (b ≡ 1 + s * getD w 0 0 → ⊥) → x < getD w b 0) base-is (o .side)
 
-    pub turn-none : p ≡ end → x < 18446744073709551616 → TurnAt s w x (cursor p false end) (turn 18446744073709551615 (cursor p false end))
+    pub turn-none : p ≡ end → x < pastM → TurnAt s w x (cursor p false end) (turn M (cursor p false end))
     turn-none q f = record {
       from-x = omega arith;
       fits = omega arith;
       same = λ y h l. out-cur .rest y h ∙ ap (λ (k : ℕ). valueAt (items s k p w) y) z;
-      next = λ e h l. go e h (eqb 18446744073709551615 e);
+      next = λ e h l. go e h (eqb M e);
     }
       where
         at : p ≡ 1 + s * getD w 0 0
@@ -181,7 +182,8 @@ module _ (s : ℕ) (w : List ℕ) (x : ℕ) (g : Input s w) where
           f : Front s w x p g
           f = front-of s w x p g out-cur not-at
 
-          go : (e : ℕ) → x ≤ e → e ≤ getD w p 0 - 1 → (t : Bool) → eqb (getD w p 0 - 1) e ≡ t → Point s w (e + 1) (pick t (cursor (p + 1) true end) (cursor p false end))
+          go : (e : ℕ) → x ≤ e → e ≤ getD w p 0 - 1 → (t : Bool) → eqb (getD w p 0 - 1) e ≡ t
+              → Point s w (e + 1) (pick t (cursor (p + 1) true end) (cursor p false end))
           go e h k true q = record {
             base = p;
             place = refl;
@@ -226,14 +228,17 @@ module _ (s : ℕ) (w : List ℕ) (x : ℕ) (g : Input s w) where
     turn-in q then k d = record {
       from-x = f .ahead;
       fits = g .words (b + 1);
-      same = λ y h l. f .rest y h ∙ val-in (itemFrom s w b) (items s (f .more) (b + s) w) y (omega arith) l ∙ ap (λ (i : ℕ). some (take (s - 2) (drop i w))) two;
+      same =
+          λ y h l. f .rest y h ∙ val-in (itemFrom s w b) (items s (f .more) (b + s) w) y (omega arith) l
+          ∙ ap (λ (i : ℕ). some (take (s - 2) (drop i w))) two;
       next = λ e h l. go e h l (eqb (getD w (b + 1) 0) e) refl;
     }
       where
         two : b + 2 ≡ b + 1 + 1
         two = omega arith
 
-        go : (e : ℕ) → x ≤ e → e ≤ getD w (b + 1) 0 → (t : Bool) → eqb (getD w (b + 1) 0) e ≡ t → Point s w (e + 1) (pick t (cursor q then end) (cursor (b + 1) true end))
+        go : (e : ℕ) → x ≤ e → e ≤ getD w (b + 1) 0 → (t : Bool) → eqb (getD w (b + 1) 0) e ≡ t
+            → Point s w (e + 1) (pick t (cursor q then end) (cursor (b + 1) true end))
         go e h l true z =
             let y = eqb-true (getD w (b + 1) 0) e z in
             record { base = b + s; place = k; cur = pass s w x b g f e y; side = subst (λ (m : ℕ). Sided then s w (m + 1) (b + s)) y d; end = ee }
@@ -298,12 +303,12 @@ module _ (s : ℕ) (w : List ℕ) (x : ℕ) (g : Input s w) where
               (ap (λ (i : ℕ). getD w i 0) next-is ∙ omega (arith, next-later n) ∙ ap suc (sym high-is)))
 
   -- at the end, whatever the cursor says of itself
-  pub turn-end : {c : Cursor} → Point s w x c → c .place ≡ c .end → x < 18446744073709551616 → TurnAt s w x c (turn 18446744073709551615 c)
+  pub turn-end : {c : Cursor} → Point s w x c → c .place ≡ c .end → x < pastM → TurnAt s w x c (turn M c)
   turn-end {c} o e f = go (c .inside) refl
     where
-      go : (t : Bool) → c .inside ≡ t → TurnAt s w x c (turn 18446744073709551615 c)
+      go : (t : Bool) → c .inside ≡ t → TurnAt s w x c (turn M c)
       go true z = absurd (in-not-end (point-as true z o) e)
-      go false z = subst (λ (d : Cursor). TurnAt s w x d (turn 18446744073709551615 d)) (cursor-is c false z) (turn-none (point-as false z o) e f)
+      go false z = subst (λ (d : Cursor). TurnAt s w x d (turn M d)) (cursor-is c false z) (turn-none (point-as false z o) e f)
 
   -- before the end a word stands at the cursor
   pub word-here : {c : Cursor} → Point s w x c → (c .place ≡ c .end → ⊥) → c .place < length w

@@ -11,7 +11,7 @@ use lib.Dec.{eqb}
 use borrow.Author.Tests.{lt-ltb, eq-eqb, ne-eqb}
 use Rattle.entries.specs.Entries.{Value}
 use Rattle.entries.specs.Build.{pick, andb, sameWords}
-use Rattle.entries.specs.Sets.{has}
+use Rattle.entries.specs.Sets.{has, pastM}
 use Rattle.sweeps.specs.Sweeps.{accepts, mixed, swept, Input, Inputs, widthOf, Fit}
 use Rattle.sweeps.specs.declared.Cursor.{Cursor}
 use Rattle.sweeps.specs.Cursors.{cursor, turn, shown, valueOf, valueBehind, firstBehind, Point, TurnAt, PointsAt, SegmentAt}
@@ -62,7 +62,8 @@ module _ (s : ℕ) (u v : Words) where
   same-differ h f = let k : s - 2 ≡ suc (s - 3) = omega arith in rw (k, ne-eqb (u .first) (v .first) f)
 
 -- the value that is carried where the table accepts
-module _ {plan : Plan} {a b c : List ℕ} {x : ℕ} {kept : Bool} (at : Places) (sides : Sides) (ends : Places) (g : Inputs (plan .a) (plan .b) (plan .c) a b c) (f : Fit (plan .table) (plan .out) (plan .a) (plan .b) (plan .c))
+module _ {plan : Plan} {a b c : List ℕ} {x : ℕ} {kept : Bool} (at : Places) (sides : Sides) (ends : Places)
+    (g : Inputs (plan .a) (plan .b) (plan .c) a b c) (f : Fit (plan .table) (plan .out) (plan .a) (plan .b) (plan .c))
     (o : PointsAt plan a b c x at sides ends) (e : kept ≡ accepts (plan .table) (sides .a) (sides .b) (sides .c)) where
   abbrev Carries : Words → Type 0
   Carries r = shown kept (take (plan .out - 2) (firstBehind plan a b c at sides)) ≡ shown kept (valueOf (plan .out) r)
@@ -80,7 +81,8 @@ module _ {plan : Plan} {a b c : List ℕ} {x : ℕ} {kept : Bool} (at : Places) 
     reach : (s : ℕ) (w : List ℕ) (m : Cursor) → Input s w → Point s w x m → m .inside ≡ true → plan .out ≤ s → m .place + plan .out ≤ 1 + length w
     reach s w m h p z l = omega (arith, in-here s w x h (point-as true z p))
 
-    cut : (s : ℕ) (w : List ℕ) (p : ℕ) (r : Words) → plan .out ≤ s → valueOf (plan .out) r ≡ valueBehind (plan .out) w p → take (plan .out - 2) (valueBehind s w p) ≡ valueOf (plan .out) r
+    cut : (s : ℕ) (w : List ℕ) (p : ℕ) (r : Words) → plan .out ≤ s → valueOf (plan .out) r ≡ valueBehind (plan .out) w p
+        → take (plan .out - 2) (valueBehind s w p) ≡ valueOf (plan .out) r
     cut s w p r l q = take-take (plan .out - 2) (s - 2) (drop (p + 1) w) (omega arith) ∙ sym q
 
     module _ (ia : sides .a ≡ true) where
@@ -144,10 +146,13 @@ module _ (plan : Plan) (a b c : List ℕ) (x : ℕ) (at : Places) (sides : Sides
       × TurnAt (plan .b) b x (cursor (at .b) (sides .b) (ends .b)) (turn (j .last) (cursor (j .next) (j .then) (ends .b)))
       × TurnAt (plan .c) c x (cursor (at .c) (sides .c) (ends .c)) (turn (k .last) (cursor (k .next) (k .then) (ends .c)))
 
-  pub segment-made : (r : Segment) (m : ℕ) → turns → m ≡ min (i .last) (j .last) → r .last ≡ min m (k .last) → r .inside ≡ accepts (plan .table) (sides .a) (sides .b) (sides .c)
+  pub segment-made : (r : Segment) (m : ℕ) → turns → m ≡ min (i .last) (j .last) → r .last ≡ min m (k .last)
+      → r .inside ≡ accepts (plan .table) (sides .a) (sides .b) (sides .c)
       → shown (r .inside) (take (plan .out - 2) (firstBehind plan a b c at sides)) ≡ shown (r .inside) (valueOf (plan .out) (r .value))
-      → (r .at .a ≡ pick (eqb (i .last) (r .last)) (i .next) (at .a)) × (r .at .b ≡ pick (eqb (j .last) (r .last)) (j .next) (at .b)) × (r .at .c ≡ pick (eqb (k .last) (r .last)) (k .next) (at .c))
-      → (r .sides .a ≡ pick (eqb (i .last) (r .last)) (i .then) (sides .a)) × (r .sides .b ≡ pick (eqb (j .last) (r .last)) (j .then) (sides .b)) × (r .sides .c ≡ pick (eqb (k .last) (r .last)) (k .then) (sides .c))
+      → (r .at .a ≡ pick (eqb (i .last) (r .last)) (i .next) (at .a)) × (r .at .b ≡ pick (eqb (j .last) (r .last)) (j .next) (at .b)) ×
+      (r .at .c ≡ pick (eqb (k .last) (r .last)) (k .next) (at .c))
+      → (r .sides .a ≡ pick (eqb (i .last) (r .last)) (i .then) (sides .a)) × (r .sides .b ≡ pick (eqb (j .last) (r .last)) (j .then) (sides .b)) ×
+      (r .sides .c ≡ pick (eqb (k .last) (r .last)) (k .then) (sides .c))
       → SegmentAt plan a b c x ends r
   unfolding swept mixed
   segment-made r m t em ee eu ev ep es =
@@ -157,7 +162,7 @@ module _ (plan : Plan) (a b c : List ℕ) (x : ℕ) (at : Places) (sides : Sides
         fits = omega (arith, t .0 .fits);
         same = λ y p q.
             rw (
-              lt-ltb y 18446744073709551616 (omega (arith, t .0 .fits)),
+              lt-ltb y pastM (omega (arith, t .0 .fits)),
               t .0 .same y p (omega arith),
               t .1 .same y p (omega arith),
               t .2 .same y p (omega arith),
@@ -168,8 +173,14 @@ module _ (plan : Plan) (a b c : List ℕ) (x : ℕ) (at : Places) (sides : Sides
             )
             (shown-pick (r .inside) (take (plan .out - 2) (firstBehind plan a b c at sides)) ∙ ev);
         points = record {
-          at-a = next-point (plan .a) a x (at .a) (i .next) (ends .a) (i .last) (r .at .a) (sides .a) (i .then) (r .sides .a) (t .0) (r .last) h (omega arith) (ep .0) (es .0);
-          at-b = next-point (plan .b) b x (at .b) (j .next) (ends .b) (j .last) (r .at .b) (sides .b) (j .then) (r .sides .b) (t .1) (r .last) h (omega arith) (ep .1) (es .1);
-          at-c = next-point (plan .c) c x (at .c) (k .next) (ends .c) (k .last) (r .at .c) (sides .c) (k .then) (r .sides .c) (t .2) (r .last) h (omega arith) (ep .2) (es .2);
+          at-a =
+              next-point (plan .a) a x (at .a) (i .next) (ends .a) (i .last) (r .at .a) (sides .a) (i .then) (r .sides .a) (t .0) (r .last) h
+              (omega arith) (ep .0) (es .0);
+          at-b =
+              next-point (plan .b) b x (at .b) (j .next) (ends .b) (j .last) (r .at .b) (sides .b) (j .then) (r .sides .b) (t .1) (r .last) h
+              (omega arith) (ep .1) (es .1);
+          at-c =
+              next-point (plan .c) c x (at .c) (k .next) (ends .c) (k .last) (r .at .c) (sides .c) (k .then) (r .sides .c) (t .2) (r .last) h
+              (omega arith) (ep .2) (es .2);
         };
       }

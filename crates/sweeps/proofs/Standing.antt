@@ -10,6 +10,7 @@ use native.Mathlib.Numerals.{add-one}
 use lib.Dec.{eqb}
 use borrow.Author.Tests.{eqb-true}
 use lib.ListN.{length}
+use Rattle.entries.specs.Sets.{pastM, M}
 use Rattle.entries.specs.Entries.{Value, Entry, ListOf}
 use Rattle.entries.specs.Build.{pick, andb}
 use Rattle.entries.proofs.Values.{and-true}
@@ -59,8 +60,9 @@ room-made true s n l m h k = omega (arith, mul-le-mul-left {m = n} {n = l} s k)
 room-made false s n l m h k = h
 
 -- the sweep stands at x: the cursors, the value right before x, the list made so far, and that it is stored
-pub record Standing (plan : Plan) (a b c : List ℕ) (keep : Bool) (x : ℕ) (at : Places) (sides : Sides) (ends : Places) (was : Bool) (v : Words) (n : ℕ) (o : List ℕ) : Type 0 where
-  pub fits : x < 18446744073709551616
+pub record Standing (plan : Plan) (a b c : List ℕ) (keep : Bool) (x : ℕ) (at : Places) (sides : Sides) (ends : Places) (was : Bool) (v : Words)
+    (n : ℕ) (o : List ℕ) : Type 0 where
+  pub fits : x < pastM
   pub points : PointsAt plan a b c x at sides ends
   pub before : shown was (valueOf (plan .out) v) ≡ prev (sweptOf plan a b c) x
   pub list : List Entry
@@ -68,7 +70,8 @@ pub record Standing (plan : Plan) (a b c : List ℕ) (keep : Bool) (x : ℕ) (at
   pub size : n ≡ length list
   pub holds : Holds keep (plan .out) n o list
 
-pub standing-zero : (plan : Plan) (a b c : List ℕ) (keep : Bool) (at : Places) (sides : Sides) (ends : Places) (v : Words) (o : List ℕ) → PointsAt plan a b c 0 at sides ends → Standing plan a b c keep 0 at sides ends false v 0 o
+pub standing-zero : (plan : Plan) (a b c : List ℕ) (keep : Bool) (at : Places) (sides : Sides) (ends : Places) (v : Words) (o : List ℕ)
+    → PointsAt plan a b c 0 at sides ends → Standing plan a b c keep 0 at sides ends false v 0 o
 standing-zero plan a b c keep at sides ends v o h = record {
   fits = omega arith;
   points = h;
@@ -83,7 +86,8 @@ standing-zero plan a b c keep at sides ends v o h = record {
     none true = refl
     none false = tt
 
-module _ {plan : Plan} {a b c : List ℕ} {keep : Bool} {x : ℕ} {at : Places} {sides : Sides} {ends : Places} {was : Bool} {v : Words} {n : ℕ} {o : List ℕ} (h : Standing plan a b c keep x at sides ends was v n o) where
+module _ {plan : Plan} {a b c : List ℕ} {keep : Bool} {x : ℕ} {at : Places} {sides : Sides} {ends : Places} {was : Bool} {v : Words} {n : ℕ}
+    {o : List ℕ} (h : Standing plan a b c keep x at sides ends was v n o) where
   most : n ≤ length (resultOf plan a b c)
   most = omega (arith, h .size, no-longer (sweptOf plan a b c) x (h .list) (resultOf plan a b c) (h .upto) (result-lists plan a b c))
 
@@ -91,23 +95,37 @@ module _ {plan : Plan} {a b c : List ℕ} {keep : Bool} {x : ℕ} {at : Places} 
   pub stopped-early : (stop : ℕ) → n ≤ stop → stop ≤ n → Stopped keep (plan .out) stop (resultOf plan a b c) n o
   stopped-early stop l m = record { size = omega (arith, most); holds = λ z. absurd (omega (arith, most)) }
 
-  module _ {r : Segment} (g : SegmentAt plan a b c x ends r) {q : Bool} (e : q ≡ andb (r .inside) (sameAs (shown was (valueOf (plan .out) v)) (valueOf (plan .out) (r .value)))) where
+  module _ {r : Segment} (g : SegmentAt plan a b c x ends r) {q : Bool}
+      (e : q ≡ andb (r .inside) (sameAs (shown was (valueOf (plan .out) v)) (valueOf (plan .out) (r .value)))) where
     abbrev next : List Entry → List Entry
     next es = grow (r .inside) q es x (r .last) (valueOf (plan .out) (r .value))
 
     next-upto : Upto (sweptOf plan a b c) (suc (r .last)) (next (h .list))
-    next-upto = rw (e, grow-and (r .inside) (sameAs (shown was (valueOf (plan .out) v)) (valueOf (plan .out) (r .value))) (h .list) x (r .last) (valueOf (plan .out) (r .value)), h .before) (grow-step (sweptOf plan a b c) x (h .list) (r .last) (valueOf (plan .out) (r .value)) (r .inside) (g .from-x) (h .upto) (g .same))
+    next-upto =
+        rw (
+          e,
+          grow-and (r .inside) (sameAs (shown was (valueOf (plan .out) v)) (valueOf (plan .out) (r .value))) (h .list) x (r .last)
+              (valueOf (plan .out) (r .value)),
+          h .before,
+        )
+        (grow-step (sweptOf plan a b c) x (h .list) (r .last) (valueOf (plan .out) (r .value)) (r .inside) (g .from-x) (h .upto) (g .same))
 
     next-size : length (next (h .list)) ≡ n + begins (r .inside) q
     next-size = omega (arith, h .size, length-grow (r .inside) q (h .list) x (r .last) (valueOf (plan .out) (r .value)))
 
-    pub standing-room : (len : ℕ) → 2 ≤ plan .out → plan .out ≤ 4 → 1 + plan .out * pick keep (length (resultOf plan a b c)) 0 ≤ len → n < 18446744073709551615 → Addable keep (plan .out) n (r .inside) q len
+    pub standing-room : (len : ℕ) → 2 ≤ plan .out → plan .out ≤ 4 → 1 + plan .out * pick keep (length (resultOf plan a b c)) 0 ≤ len → n < M
+        → Addable keep (plan .out) n (r .inside) q len
     standing-room len two four f w = record {
       two = two;
       four = four;
       few = w;
       from-one = rw e (bit-and (r .inside) _ n
-          (λ z. omega (arith, h .size, joins-some (sweptOf plan a b c) x (h .list) (valueOf (plan .out) (r .value)) (h .upto) (ap (λ (p : Option Value). sameAs p (valueOf (plan .out) (r .value))) (sym (h .before)) ∙ z))));
+          (λ z. omega (
+            arith,
+            h .size,
+            joins-some (sweptOf plan a b c) x (h .list) (valueOf (plan .out) (r .value)) (h .upto)
+                (ap (λ (p : Option Value). sameAs p (valueOf (plan .out) (r .value))) (sym (h .before)) ∙ z),
+          )));
       goes-on = rw e (less-and (r .inside) _);
       room = room-made keep (plan .out) (n + begins (r .inside) q) (length (resultOf plan a b c)) len f
           (omega (arith, next-size, no-longer (sweptOf plan a b c) (suc (r .last)) (next (h .list)) (resultOf plan a b c) next-upto (result-lists plan a b c)));
@@ -117,11 +135,12 @@ module _ {plan : Plan} {a b c : List ℕ} {keep : Bool} {x : ℕ} {at : Places} 
       next-holds : Holds keep (plan .out) n′ o′ (next (h .list))
       next-holds = go keep (m .1) (h .holds)
         where
-          go : (t : Bool) → Holds t (plan .out) n′ o′ (next (items (plan .out) n 1 o)) → Holds t (plan .out) n o (h .list) → Holds t (plan .out) n′ o′ (next (h .list))
+          go : (t : Bool) → Holds t (plan .out) n′ o′ (next (items (plan .out) n 1 o)) → Holds t (plan .out) n o (h .list)
+              → Holds t (plan .out) n′ o′ (next (h .list))
           go true y z = y ∙ ap next z
           go false y z = tt
 
-      pub standing-next : (r .last ≡ 18446744073709551615 → ⊥) → Standing plan a b c keep (r .last + 1) (r .at) (r .sides) ends (r .inside) (r .value) n′ o′
+      pub standing-next : (r .last ≡ M → ⊥) → Standing plan a b c keep (r .last + 1) (r .at) (r .sides) ends (r .inside) (r .value) n′ o′
       standing-next ne = record {
         fits = omega (arith, g .fits);
         points = g .points;
@@ -132,7 +151,7 @@ module _ {plan : Plan} {a b c : List ℕ} {keep : Bool} {x : ℕ} {at : Places} 
         holds = next-holds;
       }
 
-      pub stopped-end : (stop : ℕ) → n < stop → r .last ≡ 18446744073709551615 → Stopped keep (plan .out) stop (resultOf plan a b c) n′ o′
+      pub stopped-end : (stop : ℕ) → n < stop → r .last ≡ M → Stopped keep (plan .out) stop (resultOf plan a b c) n′ o′
       stopped-end stop l d = record {
         size = omega (arith, m .0, next-size, ap length whole, begins-one (r .inside) q);
         holds = λ z. subst (λ (es : List Entry). Holds keep (plan .out) n′ o′ es) whole next-holds;

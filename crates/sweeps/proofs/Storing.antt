@@ -27,7 +27,8 @@ entry-path : (e f : Entry) → e .low ≡ f .low → e .high ≡ f .high → e .
 entry-path e f p q r = λ i. record { low = p i; high = q i; value = r i }
 
 module _ (s : ℕ) (two : 2 ≤ s) where
-  items-agree : (o d : List ℕ) (n p q : ℕ) → q ≡ p + s * n → q ≤ length o → q ≤ length d → ((j : ℕ) → p ≤ j → j < q → getD o j 0 ≡ getD d j 0) → items s n p o ≡ items s n p d
+  items-agree : (o d : List ℕ) (n p q : ℕ) → q ≡ p + s * n → q ≤ length o → q ≤ length d → ((j : ℕ) → p ≤ j → j < q → getD o j 0 ≡ getD d j 0)
+      → items s n p o ≡ items s n p d
   items-agree o d zero p q e a b h = refl
   items-agree o d (suc n) p q e a b h =
       let k : q ≡ p + s + s * n = omega (arith, mul-suc s n) in
@@ -44,15 +45,18 @@ module _ (s : ℕ) (two : 2 ≤ s) where
   laid-none {w} {o} n r l = items-agree o w n 1 (1 + s * n) refl (omega (arith, l .long)) r (λ j a b. l .kept j b)
 
   -- an item laid behind
-  laid-new : {w o : List ℕ} {x h : ℕ} {v : Value} (n : ℕ) → 1 + s * suc n ≤ length w → Laid s w (1 + s * n) x h v o → items s (suc n) 1 o ≡ items s n 1 w ++ entry x h v ∷ []
+  laid-new : {w o : List ℕ} {x h : ℕ} {v : Value} (n : ℕ) → 1 + s * suc n ≤ length w → Laid s w (1 + s * n) x h v o
+      → items s (suc n) 1 o ≡ items s n 1 w ++ entry x h v ∷ []
   laid-new {w} {o} {x} {h} {v} n r l =
       items-snoc o n 1 (1 + s * n) refl
       ∙ ap₂ (λ (a : List Entry) (e : Entry). a ++ e ∷ []) (laid-none n (omega (arith, mul-suc s n)) l) (l .item (omega (arith, mul-suc s n)))
 
   -- the last item laid again, with its own low end
-  laid-over : {w o : List ℕ} {h : ℕ} {v : Value} (n : ℕ) → 1 + s * suc n ≤ length w → Laid s w (1 + s * n) (getD w (1 + s * n) 0) h v o → items s (suc n) 1 o ≡ raise (items s (suc n) 1 w) h v
+  laid-over : {w o : List ℕ} {h : ℕ} {v : Value} (n : ℕ) → 1 + s * suc n ≤ length w → Laid s w (1 + s * n) (getD w (1 + s * n) 0) h v o
+      → items s (suc n) 1 o ≡ raise (items s (suc n) 1 w) h v
   laid-over {w} {o} {h} {v} n r l =
-      laid-new n r l ∙ sym (ap (λ (es : List Entry). raise es h v) (items-snoc w n 1 (1 + s * n) refl) ∙ raise-snoc (items s n 1 w) (itemFrom s w (1 + s * n)) h v)
+      laid-new n r l ∙ sym
+      (ap (λ (es : List Entry). raise es h v) (items-snoc w n 1 (1 + s * n) refl) ∙ raise-snoc (items s n 1 w) (itemFrom s w (1 + s * n)) h v)
 
 -- an item's words stored, by how many there are
 pub bit-one : (b : Bool) → bit b ≤ 1
@@ -88,7 +92,9 @@ module _ (s : ℕ) (d : List ℕ) (q x h : ℕ) (join : Bool) (low : ℕ) (el : 
   lay-two e = record {
     long = simp length-set;
     kept = ends-kept d q x h join low el has-two;
-    item = λ fits. entry-path (itemFrom s both q) (entry (pick join (getD d q 0) x) h (valueOf s v)) (ends-low d q x h join low el has-two) (ends-high d q x h join low el has-two)
+    item =
+        λ fits. entry-path (itemFrom s both q) (entry (pick join (getD d q 0) x) h (valueOf s v)) (ends-low d q x h join low el has-two)
+        (ends-high d q x h join low el has-two)
         (sym (words-two s v both (q + 2) e));
   }
 
@@ -111,13 +117,18 @@ module _ (s : ℕ) (d : List ℕ) (q x h : ℕ) (join : Bool) (low : ℕ) (el : 
   pub lay-four : s ≡ 4 → Laid s d q (pick join (getD d q 0) x) h (valueOf s v) fourth
   lay-four e = record {
     long = simp length-set;
-    kept = λ j l. getD-set-other third (q + 3) j (v .second) 0 (omega arith) ∙ getD-set-other both (q + 2) j (v .first) 0 (omega arith) ∙ ends-kept d q x h join low el has-two j l;
+    kept =
+        λ j l. getD-set-other third (q + 3) j (v .second) 0 (omega arith) ∙ getD-set-other both (q + 2) j (v .first) 0 (omega arith)
+        ∙ ends-kept d q x h join low el has-two j l;
     item = λ fits. entry-path (itemFrom s fourth q) (entry (pick join (getD d q 0) x) h (valueOf s v))
-        (getD-set-other third (q + 3) q (v .second) 0 (omega arith) ∙ getD-set-other both (q + 2) q (v .first) 0 (omega arith) ∙ ends-low d q x h join low el has-two)
-        (getD-set-other third (q + 3) (q + 1) (v .second) 0 (omega arith) ∙ getD-set-other both (q + 2) (q + 1) (v .first) 0 (omega arith) ∙ ends-high d q x h join low el has-two)
+        (getD-set-other third (q + 3) q (v .second) 0 (omega arith) ∙ getD-set-other both (q + 2) q (v .first) 0 (omega arith)
+        ∙ ends-low d q x h join low el has-two)
+        (getD-set-other third (q + 3) (q + 1) (v .second) 0 (omega arith) ∙ getD-set-other both (q + 2) (q + 1) (v .first) 0 (omega arith)
+        ∙ ends-high d q x h join low el has-two)
         (sym (words-four s v fourth (q + 2) e (simp length-set (omega arith))
         (sym (getD-set-other third (q + 3) (q + 2) (v .second) 0 (omega arith) ∙ getD-set-same both (q + 2) (v .first) 0 (simp length-set (omega arith))))
-        (sym (let k : q + 2 + 1 ≡ q + 3 = omega arith in ap (λ (i : ℕ). getD fourth i 0) k ∙ getD-set-same third (q + 3) (v .second) 0 (simp length-set (omega arith))))));
+        (sym (let k : q + 2 + 1 ≡ q + 3 = omega arith in ap (λ (i : ℕ). getD fourth i 0) k
+        ∙ getD-set-same third (q + 3) (v .second) 0 (simp length-set (omega arith))))));
   }
 
 -- a segment added to the items
@@ -133,7 +144,8 @@ module _ {keep inside join : Bool} {s n l : ℕ} (g : Addable keep s n inside jo
   pub add-count : (k r : ℕ) → k ≡ n - bit join → r ≡ k + bit inside → r ≡ n + begins inside join
   add-count k r ek er = omega (arith, g .from-one, g .goes-on)
 
-pub added : (keep inside join : Bool) (s n x h : ℕ) (v : Value) (d o : List ℕ) (k r : ℕ) → Addable keep s n inside join (length d) → k ≡ n - bit join → r ≡ k + bit inside
+pub added : (keep inside join : Bool) (s n x h : ℕ) (v : Value) (d o : List ℕ) (k r : ℕ) → Addable keep s n inside join (length d) → k ≡ n - bit join
+    → r ≡ k + bit inside
     → Stored keep s d k join x h v o → Holds keep s r o (grow inside join (items s n 1 d) x h v)
 added false inside join s n x h v d o k r g ek er st = tt
 added true false true s n x h v d o k r g ek er st = absurd (omega (arith, g .goes-on))
@@ -183,10 +195,12 @@ some-met l r e = go (decLe l 0)
     go (no h) = lt-ltb 0 r (omega arith) ∙ sym (lt-ltb 0 l (omega arith))
 
 -- n items behind word 0, the count set to n, zeros behind: the block
-pub finished : (s : ℕ) → 2 ≤ s → (w o : List ℕ) (n m len : ℕ) (es : List Entry) → length w ≡ len → items s n 1 w ≡ es → m ≡ n → 1 + s * n ≤ len → Cleared (set w 0 m) (1 + s * n) o → o ≡ blockOf len es
+pub finished : (s : ℕ) → 2 ≤ s → (w o : List ℕ) (n m len : ℕ) (es : List Entry) → length w ≡ len → items s n 1 w ≡ es → m ≡ n → 1 + s * n ≤ len
+    → Cleared (set w 0 m) (1 + s * n) o → o ≡ blockOf len es
 finished s two w o n m len es el e em fits c =
     let room : 1 + s * n ≤ length w = omega arith in
-    splice-entries s two w [] n n n 0 room (omega arith) (omega arith) (sym (mul-zero s)) o m (omega arith) (omega (arith, mul-zero s, none)) (c .same ∙ length-set w 0 m)
+    splice-entries s two w [] n n n 0 room (omega arith) (omega arith) (sym (mul-zero s)) o m (omega arith) (omega (arith, mul-zero s, none))
+    (c .same ∙ length-set w 0 m)
     (record {
       head = c .before 0 (omega arith) ∙ getD-set-same w 0 m 0 (omega arith);
       front = λ k l h. c .before k (omega arith) ∙ getD-set-other w 0 k m 0 (omega arith);

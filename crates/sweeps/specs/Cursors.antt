@@ -6,6 +6,7 @@ use mathlib.Core.List.{List, [], _∷_, _++_}
 use Prim.Native.Nat.{ℕ, zero, suc, _+_, _*_, _-_, _≤_, _<_, min}
 use lib.Dec.{eqb}
 use lib.ListN.{length, getD, take, drop}
+use Rattle.entries.specs.Sets.{pastM, M}
 use Rattle.entries.specs.Entries.{Value, Entry, entry, valueAt, Sound}
 use Rattle.entries.specs.Build.{pick, andb, sameWords}
 use Rattle.blocks.specs.Blocks.{entriesOf}
@@ -84,7 +85,7 @@ pub record Point (s : ℕ) (w : List ℕ) (x : ℕ) (c : Cursor) : Type 0 where
 -- from x to the last number of the run the value is the cursor's, or none; behind it the cursor has turned
 pub record TurnAt (s : ℕ) (w : List ℕ) (x : ℕ) (c : Cursor) (t : Turn) : Type 0 where
   pub from-x : x ≤ t .last
-  pub fits : t .last < 18446744073709551616
+  pub fits : t .last < pastM
   pub same : (y : ℕ) → x ≤ y → y ≤ t .last → valueAt (entriesOf s w) y ≡ shown (c .inside) (valueBehind s w (c .place))
   pub next : (e : ℕ) → x ≤ e → e ≤ t .last → Point s w (e + 1) (pick (eqb (t .last) e) (t .then) c)
 
@@ -95,7 +96,8 @@ pub record Points (plan : Plan) (a b c : List ℕ) (x : ℕ) (i j k : Cursor) : 
   pub at-c : Point (plan .c) c x k
 
 abbrev pub PointsAt : Plan → List ℕ → List ℕ → List ℕ → ℕ → Places → Sides → Places → Type 0
-PointsAt plan a b c x at sides ends = Points plan a b c x (cursor (at .a) (sides .a) (ends .a)) (cursor (at .b) (sides .b) (ends .b)) (cursor (at .c) (sides .c) (ends .c))
+PointsAt plan a b c x at sides ends =
+    Points plan a b c x (cursor (at .a) (sides .a) (ends .a)) (cursor (at .b) (sides .b) (ends .b)) (cursor (at .c) (sides .c) (ends .c))
 
 -- the value of the first input that is inside
 abbrev pub firstBehind : Plan → List ℕ → List ℕ → List ℕ → Places → Sides → Value
@@ -105,7 +107,7 @@ firstBehind plan a b c at sides = firstOf (shown (sides .a) (valueBehind (plan .
 -- from x to the last number of the segment the sweep gives one value, or none; the cursors behind it
 pub record SegmentAt (plan : Plan) (a b c : List ℕ) (x : ℕ) (ends : Places) (s : Segment) : Type 0 where
   pub from-x : x ≤ s .last
-  pub fits : s .last < 18446744073709551616
+  pub fits : s .last < pastM
   pub same : (y : ℕ) → x ≤ y → y ≤ s .last → sweptOf plan a b c y ≡ shown (s .inside) (valueOf (plan .out) (s .value))
   pub points : PointsAt plan a b c (s .last + 1) (s .at) (s .sides) ends
 
@@ -134,7 +136,7 @@ grow true false es x h v = es ++ entry x h v ∷ []
 pub record Addable (keep : Bool) (s n : ℕ) (inside join : Bool) (l : ℕ) : Type 0 where
   pub two : 2 ≤ s
   pub four : s ≤ 4
-  pub few : n < 18446744073709551615
+  pub few : n < M
   pub from-one : bit join ≤ n
   pub goes-on : bit join ≤ bit inside
   pub room : 1 + s * pick keep (n + begins inside join) 0 ≤ l

@@ -2,21 +2,56 @@
 -- table accepts. No public promise names these: each operation of 01 is said by its own definition, and a law of proofs/Tables
 -- says that the sweep with its table gives it.
 use mathlib.Core.Path.{_≡_}
-use mathlib.Core.Bool.{Bool, true, false}
+use mathlib.Core.Bool.{Bool, true, false, not}
 use mathlib.Core.Option.{Option, none, some}
 use mathlib.Core.List.{List, [], _∷_, _++_}
 use Prim.Native.Nat.{ℕ, _+_, _*_, _-_, _/_, _%_, _^_, _≤_, _<_}
 use lib.Dec.{ltb, eqb}
 use lib.ListN.{length, getD, take}
+use Rattle.blocks.specs.Steps.{Lent}
 use Rattle.entries.specs.Entries.{Value, Entry, valueAt, Sound}
-use Rattle.entries.specs.Build.{pick, build, cutsOf}
-use Rattle.entries.specs.Sets.{has}
+use Rattle.entries.specs.Build.{pick, andb, build, cutsOf}
+use Rattle.entries.specs.Sets.{has, orb, lessb, xorb, pastM}
 use Rattle.blocks.specs.Blocks.{entriesOf}
 use Rattle.sweeps.specs.declared.Plan.{Plan}
 
 abbrev pub bit : Bool → ℕ
 bit true = 1
 bit false = 0
+
+-- the table of a test of three memberships a, b, c, one bit for each case: bit a + 2b + 4c
+abbrev pub tableOf : (Bool → Bool → Bool → Bool) → ℕ
+tableOf f =
+    bit (f false false false)
+    + 2 * bit (f true false false)
+    + 4 * bit (f false true false)
+    + 8 * bit (f true true false)
+    + 16 * bit (f false false true)
+    + 32 * bit (f true false true)
+    + 64 * bit (f false true true)
+    + 128 * bit (f true true true)
+
+-- the tables: of the operations on two lists, of those on one, and of a bulletin (the list, what is released, what is withdrawn)
+abbrev pub inEither : ℕ
+inEither = tableOf (λ a b c. orb a b)
+
+abbrev pub inBoth : ℕ
+inBoth = tableOf (λ a b c. andb a b)
+
+abbrev pub firstAlone : ℕ
+firstAlone = tableOf (λ a b c. lessb a b)
+
+abbrev pub justOne : ℕ
+justOne = tableOf (λ a b c. xorb a b)
+
+abbrev pub notFirst : ℕ
+notFirst = tableOf (λ a b c. not a)
+
+abbrev pub inFirst : ℕ
+inFirst = tableOf (λ a b c. a)
+
+abbrev pub amending : ℕ
+amending = tableOf (λ a b c. orb (lessb a c) b)
 
 -- bit a + 2b + 4c of the table
 unfoldable pub accepts : ℕ → Bool → Bool → Bool → Bool
@@ -35,11 +70,11 @@ mixed t s o p q = pick (accepts t (has o) (has p) (has q)) (some (take (s - 2) (
 
 -- the function that a sweep lists: nothing above M
 unfoldable pub swept : ℕ → ℕ → List Entry → List Entry → List Entry → ℕ → Option Value
-swept t s es fs gs x = pick (ltb x 18446744073709551616) (mixed t s (valueAt es x) (valueAt fs x) (valueAt gs x)) none
+swept t s es fs gs x = pick (ltb x pastM) (mixed t s (valueAt es x) (valueAt fs x) (valueAt gs x)) none
 
 -- the one sound list of that function
 unfoldable pub result : ℕ → ℕ → List Entry → List Entry → List Entry → List Entry
-result t s es fs gs = build (swept t s es fs gs) (18446744073709551616 ∷ cutsOf es ++ (cutsOf fs ++ cutsOf gs))
+result t s es fs gs = build (swept t s es fs gs) (pastM ∷ cutsOf es ++ (cutsOf fs ++ cutsOf gs))
 
 -- the same of the entries that three blocks say
 abbrev pub resultOf : Plan → List ℕ → List ℕ → List ℕ → List Entry
@@ -52,7 +87,7 @@ pub record Input (s : ℕ) (w : List ℕ) : Type 0 where
   pub some : 0 < length w
   pub held : 1 + s * getD w 0 0 ≤ length w
   pub sound : Sound (entriesOf s w)
-  pub words : (j : ℕ) → getD w j 0 < 18446744073709551616
+  pub words : Lent w
 
 -- three inputs
 pub record Inputs (sa sb sc : ℕ) (a b c : List ℕ) : Type 0 where
@@ -62,7 +97,7 @@ pub record Inputs (sa sb sc : ℕ) (a b c : List ℕ) : Type 0 where
 
 -- no entry names a number above M
 abbrev pub Bounded : List Entry → Type 0
-Bounded es = (x : ℕ) → 18446744073709551616 ≤ x → valueAt es x ≡ none
+Bounded es = (x : ℕ) → pastM ≤ x → valueAt es x ≡ none
 
 -- the words an item of the first input that has the number
 abbrev pub widthOf : ℕ → ℕ → ℕ → Bool → Bool → Bool → ℕ

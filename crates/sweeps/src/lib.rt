@@ -6,11 +6,27 @@ ghost use Prim.Native.Nat.{_+_, _*_, _-_, _≤_, _<_, min};
 ghost use lib.Dec.{leb, ltb};
 ghost use lib.ListN.{length, getD, take};
 ghost use Rattle.entries.specs.Build.{pick, andb, sameWords};
+ghost use Rattle.entries.specs.Sets.{M};
 ghost use Rattle.blocks.specs.Blocks.{blockOf};
 ghost use Rattle.sweeps.specs.Sweeps.{bit, accepts, resultOf, Input, Inputs, Fit};
-ghost use Rattle.sweeps.specs.Cursors.{setPlan, onlySets, cursor, turn, items, shown, valueOf, valueBehind, Point, TurnAt, PointsAt, firstBehind, SegmentAt, sameAs, begins, grow, Addable, Holds, Laid, Stored, Stopped};
+ghost use Rattle.sweeps.specs.Cursors.{setPlan, onlySets, cursor, turn, items, shown, valueOf, valueBehind, Point, TurnAt, PointsAt};
+ghost use Rattle.sweeps.specs.Cursors.{firstBehind, SegmentAt, sameAs, begins, grow, Addable, Holds, Laid, Stored, Stopped};
 
-const M: u64 = 18446744073709551615;
+// The tables of the sweep: bit a + 2b + 4c says whether a number is kept that is in the first (a), the second (b) and the third
+// list (c) or not. Each is `tableOf` its test in specs/Sweeps.
+pub const IN_EITHER: u8 = 0b1110_1110;
+
+pub const IN_BOTH: u8 = 0b1000_1000;
+
+pub const FIRST_ALONE: u8 = 0b0010_0010;
+
+pub const JUST_ONE: u8 = 0b0110_0110;
+
+pub const NOT_FIRST: u8 = 0b0101_0101;
+
+pub const IN_FIRST: u8 = 0b1010_1010;
+
+pub const WITHOUT_THIRD_JOINED_WITH_SECOND: u8 = 0b1100_1110;
 
 // How the three inputs and the output are laid out, in words an item, and the table of the memberships.
 pub struct Plan {
@@ -173,7 +189,7 @@ fn flip(w: &[u64], s: usize, p: usize, inside: bool, end: usize, x: u64) -> Run
 {
     if p == end {
         return Run {
-            last: M,
+            last: blocks::M,
             next: p,
             then: inside,
         };
@@ -197,7 +213,7 @@ fn run_at(w: &[u64], s: usize, p: usize, inside: bool, end: usize, x: u64) -> Ru
     }
     if p == end {
         return Run {
-            last: M,
+            last: blocks::M,
             next: p,
             then: false,
         };
@@ -232,14 +248,7 @@ fn least(a: u64, b: u64) -> u64
     if a < b { a } else { b }
 }
 
-// The place of a cursor behind a segment: that behind its run, where the run ends there too. A choice without a branch.
-pub fn moved(ends: bool, next: usize, p: usize) -> usize
-    ensures { λ r. ⌜ r ≡ pick ends next p ⌝ }
-{
-    if ends { next } else { p }
-}
-
-// And its side.
+// The side of a cursor behind a segment: that behind its run, where the run ends there too. A choice without a branch.
 fn turned(ends: bool, then: bool, inside: bool) -> bool
     ensures { λ r. ⌜ r ≡ pick ends then inside ⌝ }
 {
@@ -294,7 +303,8 @@ fn carried(
     requires { ⌜ Fit (plan .table) (plan .out) (plan .a) (plan .b) (plan .c) ⌝ }
     requires { ⌜ PointsAt plan (now a) (now b) (now c) x at sides ends ⌝ }
     requires { ⌜ kept ≡ accepts (plan .table) (sides .a) (sides .b) (sides .c) ⌝ }
-    ensures { λ r. ⌜ shown kept (take (plan .out - 2) (firstBehind plan (now (a .entry)) (now (b .entry)) (now (c .entry)) at sides)) ≡ shown kept (valueOf (plan .out) r) ⌝ }
+    ensures { λ r. ⌜ shown kept (take (plan .out - 2) (firstBehind plan (now (a .entry)) (now (b .entry)) (now (c .entry)) at sides))
+        ≡ shown kept (valueOf (plan .out) r) ⌝ }
 {
     if plan.out == 2 {
         return nothing();
@@ -334,9 +344,9 @@ fn segment_at(
     let kept = accepted(plan.table, sides.a, sides.b, sides.c);
     let value = carried(a, b, c, plan, at, sides, ends, x, kept);
     let next = Places {
-        a: moved(i.last == e, i.next, at.a),
-        b: moved(j.last == e, j.next, at.b),
-        c: moved(k.last == e, k.next, at.c),
+        a: blocks::chosen(i.last == e, i.next, at.a),
+        b: blocks::chosen(j.last == e, j.next, at.b),
+        c: blocks::chosen(k.last == e, k.next, at.c),
     };
     let then = Sides {
         a: turned(i.last == e, i.then, sides.a),
@@ -373,9 +383,9 @@ fn set_segment_at(
     let e = least(least(i.last, j.last), k.last);
     let kept = accepted(table, sides.a, sides.b, sides.c);
     let next = Places {
-        a: moved(i.last == e, i.next, at.a),
-        b: moved(j.last == e, j.next, at.b),
-        c: moved(k.last == e, k.next, at.c),
+        a: blocks::chosen(i.last == e, i.next, at.a),
+        b: blocks::chosen(j.last == e, j.next, at.b),
+        c: blocks::chosen(k.last == e, k.next, at.c),
     };
     let then = Sides {
         a: turned(i.last == e, i.then, sides.a),
@@ -412,8 +422,8 @@ fn pair_segment_at(
     let e = least(i.last, j.last);
     let kept = accepted(table, sides.a, sides.b, sides.c);
     let next = Places {
-        a: moved(i.last == e, i.next, at.a),
-        b: moved(j.last == e, j.next, at.b),
+        a: blocks::chosen(i.last == e, i.next, at.a),
+        b: blocks::chosen(j.last == e, j.next, at.b),
         c: at.c,
     };
     let then = Sides {
@@ -463,7 +473,7 @@ fn joins(s: usize, inside: bool, was: bool, u: Words, v: Words) -> bool
 
 // One more where inside.
 fn more(k: usize, inside: bool) -> usize
-    requires { ⌜ k < 18446744073709551615 ⌝ }
+    requires { ⌜ k < M ⌝ }
     ensures { λ r. ⌜ r ≡ k + bit inside ⌝ }
 {
     if inside { k + 1 } else { k }
@@ -560,7 +570,7 @@ fn sweep_any(
         let v = s.value;
         let join = joins(plan.out, s.inside, was, before, v);
         n = add(o, plan.out, n, keep, s.inside, join, x, s.last, v);
-        if s.last == M {
+        if s.last == blocks::M {
             return n;
         }
         x = s.last + 1;
@@ -600,7 +610,7 @@ fn sweep_three(
         let v = s.value;
         let join = joins(2, s.inside, was, before, v);
         n = add(o, 2, n, keep, s.inside, join, x, s.last, v);
-        if s.last == M {
+        if s.last == blocks::M {
             return n;
         }
         x = s.last + 1;
@@ -641,7 +651,7 @@ fn sweep_pair(
         let v = s.value;
         let join = joins(2, s.inside, was, before, v);
         n = add(o, 2, n, keep, s.inside, join, x, s.last, v);
-        if s.last == M {
+        if s.last == blocks::M {
             return n;
         }
         x = s.last + 1;
@@ -728,7 +738,7 @@ fn sweep(
 pub fn fits(a: &[u64], b: &[u64], c: &[u64], plan: Plan, bound: usize, cap: usize) -> bool
     requires { ⌜ Inputs (plan .a) (plan .b) (plan .c) (now a) (now b) (now c) ⌝ }
     requires { ⌜ Fit (plan .table) (plan .out) (plan .a) (plan .b) (plan .c) ⌝ }
-    requires { ⌜ (cap < 18446744073709551615) × (length (resultOf plan (now a) (now b) (now c)) ≤ bound) ⌝ }
+    requires { ⌜ (cap < M) × (length (resultOf plan (now a) (now b) (now c)) ≤ bound) ⌝ }
     ensures { λ r. ⌜ r ≡ leb (length (resultOf plan (now (a .entry)) (now (b .entry)) (now (c .entry)))) cap ⌝ }
 {
     if bound <= cap {

@@ -16,25 +16,25 @@ use Rattle.verdicts.specs.Forms.{outRefusals}
 use Rattle.verdicts.specs.Steps.{Shape, lone, pair}
 
 -- the first refusal of outputs of i and j words for n and m items, of which the second is there where there are two runs
-module _ (layout : Layout) (r s i j n m : ℕ) (h : Shape r s) where
+module _ (layout : Layout) (r i j n m : ℕ) (h : Shape r layout) where
   abbrev full : ℕ → ℕ → ℕ
-  full l c = applies (ltb (capacity (layout .width) (layout .limit) l) c) 5
+  full l c = applies (ltb (capacity layout l) c) 5
 
   abbrev refusals : List Finding
   refusals = outRefusals layout (take r (i ∷ j ∷ [])) (take r (n ∷ m ∷ []))
 
   full-small : (l c : ℕ) → full l c ≤ lastNumber
-  full-small l c = applies-small (ltb (capacity (layout .width) (layout .limit) l) c) 5 (lit≤ tt)
+  full-small l c = applies-small (ltb (capacity layout l) c) 5 (lit≤ tt)
 
   empty : (l : ℕ) → l ≡ 0 → 1 ≡ applies (eqb l 0) 1
   empty l e = rw (eq-eqb l 0 e)
 
   pub no-first : i ≡ 0 → FirstOf refusals (at 0 1)
-  no-first e = go r s h
+  no-first e = go r layout h
     where
-      go : (r s : ℕ) → Shape r s → FirstOf (outRefusals layout (take r (i ∷ j ∷ [])) (take r (n ∷ m ∷ []))) (at 0 1)
-      go r s lone = stops 1 (applies (eqb i 0) 1) 0 _ (empty i e) (applies-small (eqb i 0) 1 (lit≤ tt)) (λ z. omega arith)
-      go r s pair = stops 1 (applies (eqb i 0) 1) 0 _ (empty i e) (applies-small (eqb i 0) 1 (lit≤ tt)) (λ z. omega arith)
+      go : (r : ℕ) (l : Layout) → Shape r l → FirstOf (outRefusals layout (take r (i ∷ j ∷ [])) (take r (n ∷ m ∷ []))) (at 0 1)
+      go r l lone = stops 1 (applies (eqb i 0) 1) 0 _ (empty i e) (applies-small (eqb i 0) 1 (lit≤ tt)) (λ z. omega arith)
+      go r l pair = stops 1 (applies (eqb i 0) 1) 0 _ (empty i e) (applies-small (eqb i 0) 1 (lit≤ tt)) (λ z. omega arith)
 
   module _ (some : i ≡ 0 → ⊥) where
     words : applies (eqb i 0) 1 ≡ 0

@@ -16,6 +16,8 @@ use Rattle.answers.specs.Answers.{at, applies, lastNumber}
 use Rattle.answers.specs.Steps.{Clear, FirstOf}
 use Rattle.answers.specs.declared.Finding.{Finding}
 use Rattle.answers.proofs.Turns.{stops, passes, ends, stops-in, passes-in, applies-small}
+use Rattle.blocks.specs.Blocks.{setLayout}
+use Rattle.blocks.specs.declared.Layout.{Layout}
 use Rattle.blocks.proofs.Judging.{sound-true}
 use Rattle.numbers.specs.Numbers.{Bytes, num2, countsIn}
 use Rattle.records.specs.Records.{allWithin, startVerdict}
@@ -30,31 +32,35 @@ use Rattle.verdicts.specs.declared.Form.{Form}
 use Rattle.verdicts.specs.Forms.{kindsOf, startSize, sizeOf, formCounts, formEntries, sharing, trailing, overlap, formRefusals}
 use Rattle.verdicts.specs.Steps.{Shape, lone, pair, FormKind, eachOf, itemSize, secondAt, runsHere, behindStart, TwoRuns}
 
--- one run or two: over the number of runs r and the words s an item
-two-refusals : (mark s r a c p : ℕ) (b d : List ℕ) → Shape r s
-    → runsRefusals mark s p (take r (a ∷ c ∷ [])) (countsIn r b 3) d
-    ≡ runRefusals mark a s (num2 b 3) p none d ++ runRefusals mark c s (secondCount r b) (p + (8 * s + 5) * num2 b 3) none (drop ((8 * s + 5) * num2 b 3) d)
+-- one run or two: over the number of runs r and the layout l
+two-refusals : (mark : ℕ) (l : Layout) (r a c p : ℕ) (b d : List ℕ) → Shape r l
+    → (let step = 8 * l .width + 5 in
+    runsRefusals mark (l .width) p (take r (a ∷ c ∷ [])) (countsIn r b 3) d
+    ≡ runRefusals mark a (l .width) (num2 b 3) p none d
+    ++ runRefusals mark c (l .width) (secondCount r b) (p + step * num2 b 3) none (drop (step * num2 b 3) d))
 unfolding runsRefusals runRefusals
-two-refusals mark s r a c p b d lone = refl
-two-refusals mark s r a c p b d pair =
-    ap (λ (l : List Finding). runRefusals mark a 2 (num2 b 3) p none d ++ l) (append-nil (runRefusals mark c 2 (num2 b 5) (p + 21 * num2 b 3) none (drop (21 * num2 b 3) d)))
+two-refusals mark l r a c p b d lone = refl
+two-refusals mark l r a c p b d pair =
+    ap (λ (x : List Finding). runRefusals mark a 2 (num2 b 3) p none d ++ x)
+    (append-nil (runRefusals mark c 2 (num2 b 5) (p + 21 * num2 b 3) none (drop (21 * num2 b 3) d)))
 
-two-runs : (s r a c : ℕ) (b d : List ℕ) → Shape r s
-    → runsIn s (take r (a ∷ c ∷ [])) (countsIn r b 3) d ≡ take r (entriesIn a s (num2 b 3) d ∷ entriesIn c s (secondCount r b) (drop ((8 * s + 5) * num2 b 3) d) ∷ [])
+two-runs : (l : Layout) (r a c : ℕ) (b d : List ℕ) → Shape r l
+    → runsIn (l .width) (take r (a ∷ c ∷ [])) (countsIn r b 3) d
+    ≡ take r (entriesIn a (l .width) (num2 b 3) d ∷ entriesIn c (l .width) (secondCount r b) (drop ((8 * l .width + 5) * num2 b 3) d) ∷ [])
 unfolding runsIn
-two-runs s r a c b d lone = refl
-two-runs s r a c b d pair = refl
+two-runs l r a c b d lone = refl
+two-runs l r a c b d pair = refl
 
-two-counts : (r s : ℕ) (b : List ℕ) → Shape r s → total (countsIn r b 3) ≡ num2 b 3 + secondCount r b
-two-counts r s b lone = refl
-two-counts r s b pair = omega arith
+two-counts : (r : ℕ) (l : Layout) (b : List ℕ) → Shape r l → total (countsIn r b 3) ≡ num2 b 3 + secondCount r b
+two-counts r l b lone = refl
+two-counts r l b pair = omega arith
 
-pub one-run : (r s : ℕ) (x y : List Entry) → Shape r s → r ≡ 1 → sharing (take r (x ∷ y ∷ [])) ≡ false
-one-run r s x y h e = rw e
+pub one-run : (r : ℕ) (x y : List Entry) → r ≡ 1 → sharing (take r (x ∷ y ∷ [])) ≡ false
+one-run r x y e = rw e
 
-pub not-one : (r s : ℕ) → Shape r s → (r ≡ 1 → ⊥) → (r ≡ 2) × (s ≡ 2)
-not-one r s lone n = absurd (n refl)
-not-one r s pair n = (refl, refl)
+pub not-one : (r : ℕ) (l : Layout) → Shape r l → (r ≡ 1 → ⊥) → (r ≡ 2) × (l ≡ setLayout)
+not-one r l lone n = absurd (n refl)
+not-one r l pair n = (refl, refl)
 
 -- what a start's answer tells of its verdict
 told-good : (v n m i j : ℕ) (a : StartRead) → a ≡ startRead v i j → a ≡ start.Good n m → (v ≡ 0) × (n ≡ i) × (m ≡ j)
@@ -77,13 +83,13 @@ module _ (f : Form) (k : FormKind f) (b : List ℕ) where
   pub entries-here : formEntries f b ≡ runsHere f n₀ m₀ b
   unfolding formEntries
   entries-here =
-      two-runs (f .layout .width) (f .runs) (f .first) (f .second) b (drop (startSize f) b) (k .shape)
+      two-runs (f .layout) (f .runs) (f .first) (f .second) b (drop (startSize f) b) (k .shape)
       ∙ ap (λ (x : List ℕ). eachOf f (entriesIn (f .first) (f .layout .width) n₀ (drop (startSize f) b)) (entriesIn (f .second) (f .layout .width) m₀ x))
       (drop-drop (itemSize f * n₀) (startSize f) b)
 
   pub size-here : sizeOf f (formCounts f b) ≡ secondAt f n₀ + itemSize f * m₀
   size-here =
-      ap (λ (t : ℕ). startSize f + itemSize f * t) (two-counts (f .runs) (f .layout .width) b (k .shape)) ∙ omega (arith, mul-add (itemSize f) n₀ m₀)
+      ap (λ (t : ℕ). startSize f + itemSize f * t) (two-counts (f .runs) (f .layout) b (k .shape)) ∙ omega (arith, mul-add (itemSize f) n₀ m₀)
 
   behind-start : formRefusals f b ≡ at 0 (startVerdict (f .mark) (f .start) (f .runs) (f .layout .limit) b) ∷ behindStart f n₀ m₀ b
   unfolding formRefusals
@@ -92,7 +98,7 @@ module _ (f : Form) (k : FormKind f) (b : List ℕ) where
       let B = runRefusals (f .mark) (f .second) (f .layout .width) m₀ (secondAt f n₀) none (drop (secondAt f n₀) b) in
       let E = trailing (secondAt f n₀ + itemSize f * m₀) b ∷ overlap (runsHere f n₀ m₀ b) ∷ [] in
       let runs : runsRefusals (f .mark) (f .layout .width) (startSize f) (kindsOf f) (formCounts f b) (drop (startSize f) b) ≡ A ++ B =
-      two-refusals (f .mark) (f .layout .width) (f .runs) (f .first) (f .second) (startSize f) b (drop (startSize f) b) (k .shape)
+      two-refusals (f .mark) (f .layout) (f .runs) (f .first) (f .second) (startSize f) b (drop (startSize f) b) (k .shape)
       ∙ ap (λ (x : List ℕ). A ++ runRefusals (f .mark) (f .second) (f .layout .width) m₀ (secondAt f n₀) none x) (drop-drop (itemSize f * n₀) (startSize f) b) in
       let ends : trailing (sizeOf f (formCounts f b)) b ∷ overlap (formEntries f b) ∷ [] ≡ E =
       ap₂ (λ (p : ℕ) (es : List (List Entry)). trailing p b ∷ overlap es ∷ []) size-here entries-here in
@@ -170,21 +176,21 @@ module _ (f : Form) (n m : ℕ) (b : List ℕ) (x : Finding) (fx : RunJudged (f 
       -- a second run: it and the first are sound ranges in the bytes
       pub to-share : FormKind f → Bytes b → (f .runs ≡ 1 → ⊥) → TwoRuns (f .first) (startSize f) n (f .second) (x .place) m b
       to-share k u nz =
-          let t = not-one (f .runs) (f .layout .width) (k .shape) nz in
+          let t : f .layout .width ≡ 2 = ap (λ (l : Layout). l .width) (not-one (f .runs) (f .layout) (k .shape) nz .1) in
           let p = run-inv (f .mark) (f .first) (f .layout .width) (k .first) n (startSize f) none (drop (startSize f) b) (bytes-drop (startSize f) b u) (fx .first .clear zx) in
           let q = run-inv (f .mark) (f .second) (f .layout .width) (k .second) m (x .place) none (drop (x .place) b) (bytes-drop (x .place) b u) (fy .first .clear zy) in
           record {
-            held = rw (t .1) at (subst (λ (i : ℕ). i ≤ length b) (fx .behind zx) (fx .within zx));
-            held-too = rw (t .1) at (subst (λ (i : ℕ). i ≤ length b) (fy .behind zy) (fy .within zy));
-            sound = rw (t .1) at (sound-true (entriesIn (f .first) (f .layout .width) n (drop (startSize f) b)) (p .sound));
-            sound-too = rw (t .1) at (sound-true (entriesIn (f .second) (f .layout .width) m (drop (x .place) b)) (q .sound));
+            held = rw t at (subst (λ (i : ℕ). i ≤ length b) (fx .behind zx) (fx .within zx));
+            held-too = rw t at (subst (λ (i : ℕ). i ≤ length b) (fy .behind zy) (fy .within zy));
+            sound = rw t at (sound-true (entriesIn (f .first) (f .layout .width) n (drop (startSize f) b)) (p .sound));
+            sound-too = rw t at (sound-true (entriesIn (f .second) (f .layout .width) m (drop (x .place) b)) (q .sound));
           }
 
       pub shared-is : FormKind f → (f .runs ≡ 1 → ⊥) → (t : Bool)
           → t ≡ shareb (entriesIn (f .first) 2 n (drop (startSize f) b)) (entriesIn (f .second) 2 m (drop (x .place) b)) → sharing (runsHere f n m b) ≡ t
       shared-is k nz t e =
-          let w = not-one (f .runs) (f .layout .width) (k .shape) nz in
-          sym (e ∙ go (f .runs) (f .layout .width) (w .0) (w .1) (x .place) (secondAt f n) (fx .behind zx))
+          let w = not-one (f .runs) (f .layout) (k .shape) nz in
+          sym (e ∙ go (f .runs) (f .layout .width) (w .0) (ap (λ (l : Layout). l .width) (w .1)) (x .place) (secondAt f n) (fx .behind zx))
         where
           go : (r s : ℕ) → r ≡ 2 → s ≡ 2 → (p q : ℕ) → p ≡ q
               → shareb (entriesIn (f .first) 2 n (drop (startSize f) b)) (entriesIn (f .second) 2 m (drop p b))

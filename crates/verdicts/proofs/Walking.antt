@@ -15,7 +15,7 @@ use Rattle.blocks.specs.Blocks.{itemOf}
 use Rattle.numbers.specs.Numbers.{num8, wordsIn}
 use Rattle.numbers.proofs.Numbers.{num8-drop}
 use Rattle.records.proofs.Said.{said-plain}
-use Rattle.operations.proofs.Walking.{View}
+use Rattle.searches.proofs.Walking.{View}
 use Rattle.runs.specs.Runs.{entriesIn}
 
 -- ranges in bytes

@@ -13,6 +13,7 @@ use Rattle.answers.specs.Steps.{Clear}
 use Rattle.answers.specs.declared.Finding.{Finding}
 use Rattle.answers.proofs.Turns.{applies-clear}
 use Rattle.blocks.specs.Blocks.{wordsOf}
+use Rattle.blocks.specs.declared.Layout.{Layout}
 use Rattle.blocks.proofs.Words.{Shaped}
 use Rattle.numbers.specs.Numbers.{Bytes, countsIn, countBytes}
 use Rattle.numbers.proofs.Numbers.{length-counts}
@@ -60,13 +61,13 @@ bulletin-kind = record {
   small = lit< tt;
 }
 
-kinds-are : (r s a b : ℕ) → Shape r s → ItemKind a s → ItemKind b s → Each (λ k. ItemKind k s) (take r (a ∷ b ∷ []))
-kinds-are r s a b lone i j = (i, tt)
-kinds-are r s a b pair i j = (i, (j, tt))
+kinds-are : (r : ℕ) (l : Layout) (a b : ℕ) → Shape r l → ItemKind a (l .width) → ItemKind b (l .width) → Each (λ k. ItemKind k (l .width)) (take r (a ∷ b ∷ []))
+kinds-are r l a b lone i j = (i, tt)
+kinds-are r l a b pair i j = (i, (j, tt))
 
-pub as-many : {A : Type 0} (r s : ℕ) (x y : A) → Shape r s → length (take r (x ∷ y ∷ [])) ≡ r
-as-many r s x y lone = refl
-as-many r s x y pair = refl
+pub as-many : {A : Type 0} (r : ℕ) (l : Layout) (x y : A) → Shape r l → length (take r (x ∷ y ∷ [])) ≡ r
+as-many r l x y lone = refl
+as-many r l x y pair = refl
 
 many-counts : (n : ℕ) (b : List ℕ) (q : ℕ) → length (countsIn n b q) ≡ n
 many-counts zero b q = refl
@@ -85,10 +86,10 @@ module _ (f : Form) (k : FormKind f) where
   s = f .layout .width
 
   kinds : Each (λ i. ItemKind i s) (kindsOf f)
-  kinds = kinds-are (f .runs) s (f .first) (f .second) (k .shape) (k .first) (k .second)
+  kinds = kinds-are (f .runs) (f .layout) (f .first) (f .second) (k .shape) (k .first) (k .second)
 
   many-kinds : length (kindsOf f) ≡ f .runs
-  many-kinds = as-many (f .runs) s (f .first) (f .second) (k .shape)
+  many-kinds = as-many (f .runs) (f .layout) (f .first) (f .second) (k .shape)
 
   pub start-long : (b : List ℕ) → Clear (formRefusals f b) → startSize f ≤ length b
   unfolding formRefusals

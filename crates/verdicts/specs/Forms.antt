@@ -3,13 +3,14 @@
 use Prim.Native.Nat.{ℕ, suc, _+_, _*_}
 use mathlib.Core.Bool.{Bool, false}
 use mathlib.Core.List.{List, [], _∷_, _++_}
-use lib.Dec.{ltb, eqb}
+use lib.Dec.{ltb}
 use lib.ListN.{length, take, drop}
 use Rattle.entries.specs.Entries.{Entry}
 use Rattle.entries.specs.Bulletins.{shareb}
 use Rattle.answers.specs.Answers.{at, applies}
 use Rattle.answers.specs.declared.Finding.{Finding}
 use Rattle.blocks.specs.Blocks.{setLayout, mapLayout, capacity}
+use Rattle.blocks.specs.Calls.{output}
 use Rattle.blocks.specs.declared.Layout.{Layout}
 use Rattle.numbers.specs.Numbers.{countsIn}
 use Rattle.records.specs.Records.{startRecord, startVerdict}
@@ -88,13 +89,13 @@ formRefusals f b =
 -- «then 1 for each output block, then 5 for each»: the lengths of the blocks from a position on, and the counts of what they are to hold
 abbrev pub noBlocks : ℕ → List ℕ → List Finding
 noBlocks position [] = []
-noBlocks position (l ∷ ls) = at position (applies (eqb l 0) 1) ∷ noBlocks (suc position) ls
+noBlocks position (l ∷ ls) = output position l ∷ noBlocks (suc position) ls
 
 abbrev pub noRooms : Layout → ℕ → List ℕ → List ℕ → List Finding
 noRooms layout position [] counts = []
 noRooms layout position (l ∷ ls) [] = []
 noRooms layout position (l ∷ ls) (n ∷ counts) =
-    at position (applies (ltb (capacity (layout .width) (layout .limit) l) n) 5) ∷ noRooms layout (suc position) ls counts
+    at position (applies (ltb (capacity layout l) n) 5) ∷ noRooms layout (suc position) ls counts
 
 abbrev pub outRefusals : Layout → List ℕ → List ℕ → List Finding
 outRefusals layout ls counts = noBlocks 0 ls ++ noRooms layout 0 ls counts

@@ -6,22 +6,24 @@ use mathlib.Core.List.{List, [], _∷_, _++_}
 use lib.ListN.{length, take, drop}
 use Rattle.entries.specs.Entries.{Entry, Sound}
 use Rattle.answers.specs.declared.Finding.{Finding}
+use Rattle.blocks.specs.Blocks.{setLayout}
+use Rattle.blocks.specs.declared.Layout.{Layout}
 use Rattle.records.specs.Steps.{StartKind, ItemKind}
 use Rattle.verdicts.specs.declared.Form.{Form}
 use Rattle.runs.specs.Runs.{entriesIn, runRefusals}
 use Rattle.verdicts.specs.Forms.{startSize, trailing, overlap}
 
--- how many runs a form has, and the words an item: one run, or two of ranges
-pub data Shape : ℕ → ℕ → Type 0 where
-  lone : {s : ℕ} → Shape 1 s
-  pair : Shape 2 2
+-- how many runs a form has, and the layout of their blocks: one run, or two of ranges
+pub data Shape : ℕ → Layout → Type 0 where
+  lone : {l : Layout} → Shape 1 l
+  pair : Shape 2 setLayout
 
 -- the kinds of a form, and its layout
 pub record FormKind (f : Form) : Type 0 where
   pub start : StartKind (f .start) (f .runs)
   pub first : ItemKind (f .first) (f .layout .width)
   pub second : ItemKind (f .second) (f .layout .width)
-  pub shape : Shape (f .runs) (f .layout .width)
+  pub shape : Shape (f .runs) (f .layout)
   pub small : f .layout .limit < 65536
 
 -- what stands or is lent for the first and the second run, the second not where there is one run

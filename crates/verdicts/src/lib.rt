@@ -152,9 +152,9 @@ pub fn judge_form(bytes: &[u8], form: Form) -> Finding
 // 5 where a block of len words has no room for n items, else 0.
 fn room_number(layout: Layout, len: usize, n: usize) -> u8
     requires { ⌜ (2 ≤ layout .width) × (0 < len) ⌝ }
-    ensures { λ r. ⌜ r ≡ applies (ltb (capacity (layout .width) (layout .limit) len) n) 5 ⌝ }
+    ensures { λ r. ⌜ r ≡ applies (ltb (capacity layout len) n) 5 ⌝ }
 {
-    if blocks::room_for(layout.width, layout.limit, len) < n {
+    if blocks::room_for(layout, len) < n {
         return 5;
     }
     0

@@ -1,7 +1,6 @@
 use mathlib.Core.Path.{ap, _∙_}
 use Rattle.answers.specs.declared.Judged.the-variants as judged
 use Rattle.answers.proofs.Numbers.{judged-refused}
-use native.Mathlib.Omega.{arith}
 use borrow.Author.Needs.{needs}
 use Rattle.answers.proofs.judged_of.Statement.{statement}
 use Rattle.answers.proofs.judged_of.Tie as tie

@@ -1,7 +1,5 @@
 use mathlib.Core.Path.{refl}
 use borrow.Author.Tests.{ne-eqb}
-use borrow.Author.Needs.{needs}
-use native.Mathlib.Omega.{arith}
 use Rattle.answers.proofs.refusal_of.Statement.{statement}
 use Rattle.answers.proofs.refusal_of.Tie as tie
 use Rattle.answers.proofs.refusal_of.Reads as reads
@@ -52,7 +50,24 @@ returns-14 c = rw (c .match .keys14) refl
 returns-15 : tie.Need-returns-15
 returns-15 c =
     let r = c .match .rest in
-    rw (ne-eqb _ 1 (r .0 .0 .0 .0 .0 .0 .0 .0 .0 .0 .0 .0 .0 .1), ne-eqb _ 2 (r .0 .0 .0 .0 .0 .0 .0 .0 .0 .0 .0 .0 .1), ne-eqb _ 3 (r .0 .0 .0 .0 .0 .0 .0 .0 .0 .0 .0 .1), ne-eqb _ 4 (r .0 .0 .0 .0 .0 .0 .0 .0 .0 .0 .1), ne-eqb _ 5 (r .0 .0 .0 .0 .0 .0 .0 .0 .0 .1), ne-eqb _ 6 (r .0 .0 .0 .0 .0 .0 .0 .0 .1), ne-eqb _ 7 (r .0 .0 .0 .0 .0 .0 .0 .1), ne-eqb _ 8 (r .0 .0 .0 .0 .0 .0 .1), ne-eqb _ 9 (r .0 .0 .0 .0 .0 .1), ne-eqb _ 10 (r .0 .0 .0 .0 .1), ne-eqb _ 11 (r .0 .0 .0 .1), ne-eqb _ 12 (r .0 .0 .1), ne-eqb _ 13 (r .0 .1), ne-eqb _ 14 (r .1))
+    rw (
+      ne-eqb _ 1 (r .0 .0 .0 .0 .0 .0 .0 .0 .0 .0 .0 .0 .0 .1),
+      ne-eqb _ 2 (r .0 .0 .0 .0 .0 .0 .0 .0 .0 .0 .0 .0 .1),
+      ne-eqb _ 3
+          (r .0 .0 .0 .0 .0 .0 .0 .0 .0 .0 .0 .1),
+      ne-eqb _ 4 (r .0 .0 .0 .0 .0 .0 .0 .0 .0 .0 .1),
+      ne-eqb _ 5 (r .0 .0 .0 .0 .0 .0 .0 .0 .0 .1),
+      ne-eqb _
+          6 (r .0 .0 .0 .0 .0 .0 .0 .0 .1),
+      ne-eqb _ 7 (r .0 .0 .0 .0 .0 .0 .0 .1),
+      ne-eqb _ 8 (r .0 .0 .0 .0 .0 .0 .1),
+      ne-eqb _ 9 (r .0 .0 .0 .0 .0 .1),
+      ne-eqb _ 10 (r .0 .0 .0 .0 .1),
+      ne-eqb _ 11 (r .0 .0 .0 .1),
+      ne-eqb _ 12 (r .0 .0 .1),
+      ne-eqb _ 13 (r .0 .1),
+      ne-eqb _ 14 (r .1),
+    )
 
 pub refusal-of-spec : {M : Type 1} → statement M
 refusal-of-spec =

@@ -22,7 +22,12 @@ word-requires-2 : tie.Need-word-requires-2
 word-requires-2 c κs = search needs
 
 returns : tie.Need-returns
-returns c = let s = c .before .before .before .before in let w = s .args .block .now in let e = itemFrom (s .args .s) w (s .args .p) in let f = itemFrom (s .args .s) w (s .args .p + s .args .s) in backwards e f (omega arith)
+returns c =
+    let start = c .before .before .before .before in
+    let w = start .args .block .now in
+    let e = itemFrom (start .args .s) w (start .args .p) in
+    let f = itemFrom (start .args .s) w (start .args .p + start .args .s) in
+    backwards e f (omega arith)
 
 add-word-2 : tie.Need-add-word-2
 add-word-2 c = search needs
@@ -31,13 +36,23 @@ word-requires-3 : tie.Need-word-requires-3
 word-requires-3 c κs = search needs
 
 returns-2 : tie.Need-returns-2
-returns-2 c = let s = c .before .before .before .before .before .before in let w = s .args .block .now in let e = itemFrom (s .args .s) w (s .args .p) in let f = itemFrom (s .args .s) w (s .args .p + s .args .s) in overlaps e f (omega arith) (omega arith)
+returns-2 c =
+    let start = c .before .before .before .before .before .before in
+    let w = start .args .block .now in
+    let e = itemFrom (start .args .s) w (start .args .p) in
+    let f = itemFrom (start .args .s) w (start .args .p + start .args .s) in
+    overlaps e f (omega arith) (omega arith)
 
 sub-if3 : tie.Need-sub-if3
 sub-if3 c = search needs
 
 returns-3 : tie.Need-returns-3
-returns-3 c = let s = c .before .before .before .before .before .before .before in let w = s .args .block .now in let e = itemFrom (s .args .s) w (s .args .p) in let f = itemFrom (s .args .s) w (s .args .p + s .args .s) in apart e f (omega arith) (omega arith) (omega arith)
+returns-3 c =
+    let start = c .before .before .before .before .before .before .before in
+    let w = start .args .block .now in
+    let e = itemFrom (start .args .s) w (start .args .p) in
+    let f = itemFrom (start .args .s) w (start .args .p + start .args .s) in
+    apart e f (omega arith) (omega arith) (omega arith)
 
 add-same-words : tie.Need-add-same-words
 add-same-words c = search needs
@@ -55,10 +70,22 @@ same-words-requires : tie.Need-same-words-requires
 same-words-requires c κs = search needs
 
 returns-4 : tie.Need-returns-4
-returns-4 c = let s = c .before .before .before .before .before .before .before .before .before in let w = s .args .block .now in let e = itemFrom (s .args .s) w (s .args .p) in let f = itemFrom (s .args .s) w (s .args .p + s .args .s) in touching e f (omega arith) (omega arith) (omega arith) true (sym (c .before .same-words .ensures) ∙ c .if4 .taken)
+returns-4 c =
+    let at-same-words = c .before in
+    let start = at-same-words .before .before .before .before .before .before .before .before in
+    let w = start .args .block .now in
+    let e = itemFrom (start .args .s) w (start .args .p) in
+    let f = itemFrom (start .args .s) w (start .args .p + start .args .s) in
+    touching e f (omega arith) (omega arith) (omega arith) true (sym (at-same-words .same-words .ensures) ∙ c .if4 .taken)
 
 returns-5 : tie.Need-returns-5
-returns-5 c = let s = c .before .before .before .before .before .before .before .before .before in let w = s .args .block .now in let e = itemFrom (s .args .s) w (s .args .p) in let f = itemFrom (s .args .s) w (s .args .p + s .args .s) in touching e f (omega arith) (omega arith) (omega arith) false (sym (c .before .same-words .ensures) ∙ c .if4 .left)
+returns-5 c =
+    let at-same-words = c .before in
+    let start = at-same-words .before .before .before .before .before .before .before .before in
+    let w = start .args .block .now in
+    let e = itemFrom (start .args .s) w (start .args .p) in
+    let f = itemFrom (start .args .s) w (start .args .p + start .args .s) in
+    touching e f (omega arith) (omega arith) (omega arith) false (sym (at-same-words .same-words .ensures) ∙ c .if4 .left)
 
 pub follows-spec : {M : Type 1} → statement M
 follows-spec =

@@ -1,7 +1,7 @@
 use mathlib.Core.Path.{sym, _∙_, ap}
 use mathlib.Core.Bool.{Bool}
 use Rattle.entries.specs.Build.{pick}
-use Rattle.blocks.proofs.Judging.{room}
+use Rattle.blocks.proofs.Judging.{room-words}
 use Rattle.blocks.proofs.Tests.{v1, v2, v03}
 use native.Mathlib.Omega.{arith}
 use borrow.Author.Needs.{needs}
@@ -15,7 +15,7 @@ use Rattle.blocks.proofs.wide.Reads as wide-reads
 use Rattle.blocks.proofs.word.Reads as word-reads
 
 returns : tie.Need-returns
-returns c = let s = c .before .before in v1 (s .args .s) (s .args .limit) (s .args .block .now) (c .if1 .taken)
+returns c = let s = c .before .before in v1 (s .args .layout) (s .args .block .now) (c .if1 .taken)
 
 word-requires : tie.Need-word-requires
 word-requires c κs = search needs
@@ -27,16 +27,48 @@ room-for-requires : tie.Need-room-for-requires
 room-for-requires c κs = search needs
 
 returns-2 : tie.Need-returns-2
-returns-2 c = let s = c .before .before .before .before .before .before in v2 (s .args .s) (s .args .limit) (s .args .block .now) (c .before .before .before .before .if1 .left) (c .before .room-for .result) (c .before .before .wide .result) (c .before .room-for .ensures) (c .before .before .wide .ensures ∙ c .before .before .before .word .ensures) (c .if2 .taken)
+returns-2 c =
+    let at-room-for = c .before in
+    let at-wide = at-room-for .before in
+    let at-word = at-wide .before in
+    let at-if1 = at-word .before in
+    let start = at-if1 .before .before in
+    v2 (start .args .layout) (start .args .block .now) (at-if1 .if1 .left) (at-room-for .room-for .result) (at-wide .wide .result)
+    (at-room-for .room-for .ensures) (at-wide .wide .ensures ∙ at-word .word .ensures) (c .if2 .taken)
 
 all-sound-requires : tie.Need-all-sound-requires
-all-sound-requires c κs = let s = c .before .before .before .before .before .before in record { two = s .pre; held = room (s .args .s) (s .args .limit) _ (c .before .before .wide .result) (omega arith) (omega arith) }
+all-sound-requires c κs =
+    let at-wide = c .before .before in
+    let start = at-wide .before .before .before .before in
+    record { two = start .pre; held = room-words (start .args .layout) _ (at-wide .wide .result) (omega arith) (omega arith) }
 
 returns-3 : tie.Need-returns-3
-returns-3 c = let s = c .before .before .before .before .before .before .before .before in sym (ap (λ (t : Bool). pick t 0 3) (c .if3 .taken)) ∙ v03 (s .args .s) (s .args .limit) (s .args .block .now) (c .before .before .before .before .before .before .if1 .left) (c .before .before .before .room-for .result) (c .before .before .before .before .wide .result) (c .before .before .before .room-for .ensures) (c .before .before .before .before .wide .ensures ∙ c .before .before .before .before .before .word .ensures) (c .before .before .if2 .left) (c .before .all-sound .result) (c .before .all-sound .ensures)
+returns-3 c =
+    let at-all-sound = c .before in
+    let at-if2 = at-all-sound .before in
+    let at-room-for = at-if2 .before in
+    let at-wide = at-room-for .before in
+    let at-word = at-wide .before in
+    let at-if1 = at-word .before in
+    let start = at-if1 .before .before in
+    sym (ap (λ (t : Bool). pick t 0 3) (c .if3 .taken))
+    ∙ v03 (start .args .layout) (start .args .block .now) (at-if1 .if1 .left) (at-room-for .room-for .result) (at-wide .wide .result)
+    (at-room-for .room-for .ensures) (at-wide .wide .ensures ∙ at-word .word .ensures) (at-if2 .if2 .left) (at-all-sound .all-sound .result)
+    (at-all-sound .all-sound .ensures)
 
 returns-4 : tie.Need-returns-4
-returns-4 c = let s = c .before .before .before .before .before .before .before .before in sym (ap (λ (t : Bool). pick t 0 3) (c .if3 .left)) ∙ v03 (s .args .s) (s .args .limit) (s .args .block .now) (c .before .before .before .before .before .before .if1 .left) (c .before .before .before .room-for .result) (c .before .before .before .before .wide .result) (c .before .before .before .room-for .ensures) (c .before .before .before .before .wide .ensures ∙ c .before .before .before .before .before .word .ensures) (c .before .before .if2 .left) (c .before .all-sound .result) (c .before .all-sound .ensures)
+returns-4 c =
+    let at-all-sound = c .before in
+    let at-if2 = at-all-sound .before in
+    let at-room-for = at-if2 .before in
+    let at-wide = at-room-for .before in
+    let at-word = at-wide .before in
+    let at-if1 = at-word .before in
+    let start = at-if1 .before .before in
+    sym (ap (λ (t : Bool). pick t 0 3) (c .if3 .left))
+    ∙ v03 (start .args .layout) (start .args .block .now) (at-if1 .if1 .left) (at-room-for .room-for .result) (at-wide .wide .result)
+    (at-room-for .room-for .ensures) (at-wide .wide .ensures ∙ at-word .word .ensures) (at-if2 .if2 .left) (at-all-sound .all-sound .result)
+    (at-all-sound .all-sound .ensures)
 
 pub judge-spec : {M : Type 1} → statement M
 judge-spec =

@@ -1,3 +1,4 @@
+-- Invariant: the first k words of new are copied. Measure: the words of new left.
 use Prim.Native.Nat.{_≤_, _-_}
 use native.Mathlib.Nat.{zero-add}
 use mathlib.Core.Path.{_≡_}
@@ -42,7 +43,12 @@ loop-less : tie.Need-loop-less Inv-loop μ-loop
 loop-less c = search needs
 
 loop-again : tie.Need-loop-again Inv-loop μ-loop
-loop-again c = (omega arith, copied-more _ _ _ _ _ _ 0 _ _ _ _ (c .before .before .loop .inv .1) (simp zero-add) (omega arith) (omega arith) (omega arith) (omega arith) (omega arith) (omega arith))
+loop-again c =
+    let at-loop = c .before .before in (
+      omega arith,
+      copied-more _ _ _ _ _ _ 0 _ _ _ _ (at-loop .loop .inv .1) (simp zero-add) (omega arith) (omega arith) (omega arith) (omega arith)
+          (omega arith) (omega arith),
+    )
 
 same-length : tie.Need-same-length Inv-loop μ-loop
 same-length c = c .before .loop .inv .1 .same

@@ -1,3 +1,4 @@
+-- Invariant: the words left from k on are the same exactly if all len are. Measure: the words left.
 use Prim.Native.Nat.{_≤_, _-_}
 use mathlib.Core.Path.{_≡_, sym, _∙_}
 use lib.ListN.{take, drop}
@@ -17,7 +18,9 @@ abbrev μ-loop : tie.MeasureT-loop
 μ-loop a p b q len k₀ k = len - k
 
 loop-holds : tie.Need-loop-holds Inv-loop μ-loop
-loop-holds c = let s = c .before .before in (search needs, left-all (s .args .a .now) (s .args .b .now) (s .args .p) (s .args .q) (s .args .len))
+loop-holds c =
+    let start = c .before .before in
+    (search needs, left-all (start .args .a .now) (start .args .b .now) (start .args .p) (start .args .q) (start .args .len))
 
 add-word : tie.Need-add-word Inv-loop μ-loop
 add-word c = search needs
@@ -38,10 +41,27 @@ loop-less : tie.Need-loop-less Inv-loop μ-loop
 loop-less c = search needs
 
 loop-again : tie.Need-loop-again Inv-loop μ-loop
-loop-again c = let s = c .before .before .before .before .before .before .before in (search needs, left-more _ _ _ _ _ (s .pre .0) (s .pre .1) _ (c .before .before .before .loop-test .taken) (sym (c .before .before .word .ensures) ∙ c .if1 .taken ∙ c .before .word2 .ensures) ∙ c .before .before .before .before .loop .inv .1)
+loop-again c =
+    let at-word2 = c .before in
+    let at-word = at-word2 .before in
+    let at-loop-test = at-word .before in
+    let at-loop = at-loop-test .before in
+    let start = at-loop .before .before .before in (
+      search needs,
+      left-more _ _ _ _ _ (start .pre .0) (start .pre .1) _ (at-loop-test .loop-test .taken)
+          (sym (at-word .word .ensures) ∙ c .if1 .taken ∙ at-word2 .word2 .ensures) ∙ at-loop .loop .inv .1,
+    )
 
 returns : tie.Need-returns Inv-loop μ-loop
-returns c = let s = c .before .before .before .before .before .before .before in left-differ _ _ _ _ _ (s .pre .0) (s .pre .1) _ (c .before .before .before .loop-test .taken) (λ e. c .if1 .left (c .before .before .word .ensures ∙ e ∙ sym (c .before .word2 .ensures))) ∙ c .before .before .before .before .loop .inv .1
+returns c =
+    let at-word2 = c .before in
+    let at-word = at-word2 .before in
+    let at-loop-test = at-word .before in
+    let at-loop = at-loop-test .before in
+    let start = at-loop .before .before .before in
+    left-differ _ _ _ _ _ (start .pre .0) (start .pre .1) _ (at-loop-test .loop-test .taken)
+    (λ e. c .if1 .left (at-word .word .ensures ∙ e ∙ sym (at-word2 .word2 .ensures)))
+    ∙ at-loop .loop .inv .1
 
 returns-2 : tie.Need-returns-2 Inv-loop μ-loop
 returns-2 c = sym (left-none _ _ _ _ _ _ (c .loop-test .left)) ∙ c .before .loop .inv .1

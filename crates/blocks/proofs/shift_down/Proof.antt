@@ -1,3 +1,4 @@
+-- Invariant: the first k words are copied, and those not yet copied are as they were. Measure: the words left.
 use mathlib.Core.Path.{_≡_}
 use Prim.Native.Nat.{_≤_, _-_}
 use Rattle.blocks.specs.Steps.{Copied}
@@ -43,7 +44,12 @@ loop-less : tie.Need-loop-less Inv-loop μ-loop
 loop-less c = search needs
 
 loop-again : tie.Need-loop-again Inv-loop μ-loop
-loop-again c = (omega arith, copied-more _ _ _ _ _ _ 0 _ _ _ _ (c .before .before .loop .inv .1) (c .before .before .loop .inv .1 .after _ (omega arith)) (omega arith) (omega arith) (omega arith) (omega arith) (omega arith) (omega arith))
+loop-again c =
+    let at-loop = c .before .before in (
+      omega arith,
+      copied-more _ _ _ _ _ _ 0 _ _ _ _ (at-loop .loop .inv .1) (at-loop .loop .inv .1 .after _ (omega arith)) (omega arith)
+          (omega arith) (omega arith) (omega arith) (omega arith) (omega arith),
+    )
 
 same-length : tie.Need-same-length Inv-loop μ-loop
 same-length c = c .before .loop .inv .1 .same

@@ -34,8 +34,11 @@ clear-requires c κs = search needs
 
 returns : tie.Need-returns
 returns c =
-    spliced _ _ _ _ _ _ _ _ _ _ _ refl refl (omega arith) (omega arith) (omega arith) (omega arith)
-    (c .before .before .before .before .before .before .before .before .before .before .shift .ensures) (c .before .before .before .before .before .before .paste .ensures) (c .before .before .clear .ensures)
+    let at-clear = c .before .before in
+    let at-paste = at-clear .before .before .before .before in
+    let at-shift = at-paste .before .before .before .before in
+    spliced _ _ _ _ _ _ _ _ _ _ _ refl refl (omega arith) (omega arith) (omega arith) (omega arith) (at-shift .shift .ensures)
+    (at-paste .paste .ensures) (at-clear .clear .ensures)
 
 same-length : tie.Need-same-length
 same-length c = returns c .0

@@ -1,12 +1,10 @@
 use denote.Ref.{now}
 use mathlib.Core.Path.{sym, _∙_}
-use Rattle.entries.specs.Bulletins.{amended}
-use Rattle.blocks.specs.Blocks.{entriesOf}
-use Rattle.bulletins.specs.Calls.{noRoom}
+use Rattle.blocks.specs.Calls.{noRoom}
+use Rattle.bulletins.specs.Calls.{amendedWith}
+use Rattle.blocks.specs.Blocks.{setLayout}
 use Rattle.answers.proofs.Turns.{stops, passes, ends}
 use Rattle.bulletins.proofs.Amending.{room-small}
-use native.Mathlib.Omega.{arith}
-use borrow.Author.Needs.{needs}
 use Rattle.bulletins.proofs.fold_rooms.Statement.{statement}
 use Rattle.bulletins.proofs.fold_rooms.Tie as tie
 use Rattle.bulletins.proofs.fold_rooms.Reads as reads
@@ -14,16 +12,37 @@ use Rattle.bulletins.proofs.fold_rooms.Lts as lts
 use Rattle.bulletins.proofs.no_room.Reads as no-room-reads
 
 no-room-requires : tie.Need-no-room-requires
-no-room-requires c κs = let a = c .before .before .before .before in (record { first = a .pre .earlier .first; second = a .pre .later .first; third = a .pre .later .second }, a .pre .some₄)
+no-room-requires c κs =
+    let start = c .before .before .before .before in
+    (record { first = start .pre .earlier .first; second = start .pre .later .first; third = start .pre .later .second }, start .pre .some₄)
 
 returns : tie.Need-returns
-returns c = let a = c .before .before .before .before .before .before in stops (c .before .no-room .result) (noRoom (a .args .words4) (amended (entriesOf 2 (now (a .args .released1))) (entriesOf 2 (now (a .args .released2))) (entriesOf 2 (now (a .args .withdrawn2))))) 4 _ (c .before .no-room .ensures) (room-small _ _) (c .if1 .taken)
+returns c =
+    let at-no-room = c .before in
+    let start = at-no-room .before .before .before .before .before in
+    stops (at-no-room .no-room .result)
+    (noRoom setLayout (start .args .words4)
+    (amendedWith (now (start .args .released1)) (now (start .args .released2)) (now (start .args .withdrawn2)))) 4 _ (at-no-room .no-room .ensures)
+    (room-small (start .args .words4) (amendedWith (now (start .args .released1)) (now (start .args .released2)) (now (start .args .withdrawn2))))
+    (c .if1 .taken)
 
 no-room-requires-2 : tie.Need-no-room-requires-2
-no-room-requires-2 c κs = let a = c .before .before .before .before .before .before in (record { first = a .pre .earlier .second; second = a .pre .later .second; third = a .pre .later .first }, a .pre .some₅)
+no-room-requires-2 c κs =
+    let start = c .before .before .before .before .before .before in
+    (record { first = start .pre .earlier .second; second = start .pre .later .second; third = start .pre .later .first }, start .pre .some₅)
 
 returns-2 : tie.Need-returns-2
-returns-2 c = let a = c .before .before .before .before .before .before .before in passes (noRoom (a .args .words4) (amended (entriesOf 2 (now (a .args .released1))) (entriesOf 2 (now (a .args .released2))) (entriesOf 2 (now (a .args .withdrawn2))))) 4 _ _ (sym (c .before .before .no-room .ensures) ∙ c .before .if1 .left) (ends (c .no-room2 .result) (noRoom (a .args .words5) (amended (entriesOf 2 (now (a .args .withdrawn1))) (entriesOf 2 (now (a .args .withdrawn2))) (entriesOf 2 (now (a .args .released2))))) 5 (c .no-room2 .ensures) (room-small _ _))
+returns-2 c =
+    let at-if1 = c .before in
+    let at-no-room = at-if1 .before in
+    let start = at-no-room .before .before .before .before .before in
+    passes (noRoom setLayout (start .args .words4)
+    (amendedWith (now (start .args .released1)) (now (start .args .released2)) (now (start .args .withdrawn2)))) 4 _ _
+    (sym (at-no-room .no-room .ensures) ∙ at-if1 .if1 .left)
+    (ends (c .no-room2 .result)
+    (noRoom setLayout (start .args .words5)
+    (amendedWith (now (start .args .withdrawn1)) (now (start .args .withdrawn2)) (now (start .args .released2)))) 5 (c .no-room2 .ensures)
+    (room-small (start .args .words5) (amendedWith (now (start .args .withdrawn1)) (now (start .args .withdrawn2)) (now (start .args .released2)))))
 
 pub fold-rooms-spec : {M : Type 1} → statement M
 fold-rooms-spec = tie.close (tie.spec no-room-requires returns no-room-requires-2 returns-2)

@@ -1,6 +1,4 @@
 use Rattle.bulletins.proofs.Amending.{block-none, block-some}
-use borrow.Author.Needs.{needs}
-use native.Mathlib.Omega.{arith}
 use Rattle.bulletins.proofs.no_block.Statement.{statement}
 use Rattle.bulletins.proofs.no_block.Tie as tie
 use Rattle.bulletins.proofs.no_block.Reads as reads

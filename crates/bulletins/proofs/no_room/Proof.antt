@@ -1,4 +1,5 @@
 use denote.Ref.{now}
+use Rattle.sweeps.specs.Sweeps.{amending}
 use Rattle.sweeps.proofs.Tables.{fit-set}
 use Rattle.bulletins.proofs.Amending.{most, room-yes, room-no}
 use native.Mathlib.Omega.{arith}
@@ -30,13 +31,38 @@ room-for-requires : tie.Need-room-for-requires
 room-for-requires c κs = search needs
 
 fits-requires : tie.Need-fits-requires
-fits-requires c κs = let a = c .before .before .before .before .before .before .before in (a .pre .0, (fit-set 206 2 2 2 (omega arith) (omega arith) (omega arith), (omega (arith, c .room-for .ensures), most (now (a .args .list)) (now (a .args .released)) (now (a .args .withdrawn)) (a .pre .0) (c .before .before .before .count-of .result) (c .before .before .count-of2 .result) (c .before .count-of3 .result) (c .before .before .before .count-of .ensures) (c .before .before .count-of2 .ensures) (c .before .count-of3 .ensures))))
+fits-requires c κs =
+    let at-count-of3 = c .before in
+    let at-count-of2 = at-count-of3 .before in
+    let at-count-of = at-count-of2 .before in
+    let start = at-count-of .before .before .before .before in (
+      start .pre .0,
+      (
+        fit-set amending 2 2 2 (omega arith) (omega arith) (omega arith),
+        (
+          omega (arith, c .room-for .ensures),
+          most (now (start .args .list)) (now (start .args .released)) (now (start .args .withdrawn)) (start .pre .0)
+              (at-count-of .count-of .result) (at-count-of2 .count-of2 .result) (at-count-of3 .count-of3 .result) (at-count-of .count-of .ensures)
+              (at-count-of2 .count-of2 .ensures) (at-count-of3 .count-of3 .ensures),
+        ),
+      ),
+    )
 
 returns : tie.Need-returns
-returns c = let a = c .before .before .before .before .before .before .before .before .before in room-yes (now (a .args .list)) (now (a .args .released)) (now (a .args .withdrawn)) (a .pre .0) (a .args .words) (c .before .before .room-for .result) (c .before .before .room-for .ensures) (c .before .fits2 .result) (c .before .fits2 .ensures) (c .if1 .taken)
+returns c =
+    let at-fits2 = c .before in
+    let at-room-for = at-fits2 .before in
+    let start = at-room-for .before .before .before .before .before .before .before in
+    room-yes (now (start .args .list)) (now (start .args .released)) (now (start .args .withdrawn)) (start .pre .0) (start .args .words)
+    (at-room-for .room-for .result) (at-room-for .room-for .ensures) (at-fits2 .fits2 .result) (at-fits2 .fits2 .ensures) (c .if1 .taken)
 
 returns-2 : tie.Need-returns-2
-returns-2 c = let a = c .before .before .before .before .before .before .before .before .before in room-no (now (a .args .list)) (now (a .args .released)) (now (a .args .withdrawn)) (a .pre .0) (a .args .words) (c .before .before .room-for .result) (c .before .before .room-for .ensures) (c .before .fits2 .result) (c .before .fits2 .ensures) (c .if1 .left)
+returns-2 c =
+    let at-fits2 = c .before in
+    let at-room-for = at-fits2 .before in
+    let start = at-room-for .before .before .before .before .before .before .before in
+    room-no (now (start .args .list)) (now (start .args .released)) (now (start .args .withdrawn)) (start .pre .0) (start .args .words)
+    (at-room-for .room-for .result) (at-room-for .room-for .ensures) (at-fits2 .fits2 .result) (at-fits2 .fits2 .ensures) (c .if1 .left)
 
 pub no-room-spec : {M : Type 1} → statement M
 no-room-spec =

@@ -1,14 +1,13 @@
 use Rattle.bulletins.proofs.Amending.{shared-yes, shared-no}
 use borrow.Author.Needs.{needs}
-use native.Mathlib.Omega.{arith}
 use Rattle.bulletins.proofs.shared_number.Statement.{statement}
 use Rattle.bulletins.proofs.shared_number.Tie as tie
 use Rattle.bulletins.proofs.shared_number.Reads as reads
 use Rattle.bulletins.proofs.shared_number.Lts as lts
-use Rattle.operations.proofs.share_number.Reads as share-number-reads
+use Rattle.searches.proofs.share_number.Reads as share-number-reads
 
 share-number-requires : tie.Need-share-number-requires
-share-number-requires c κs = let a = c .before .before in (a .pre .first, a .pre .second)
+share-number-requires c κs = search needs
 
 returns : tie.Need-returns
 returns c = shared-yes _ _ (c .before .share-number .result) (c .before .share-number .ensures) (c .if1 .taken)

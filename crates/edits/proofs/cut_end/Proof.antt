@@ -11,25 +11,37 @@ use Rattle.edits.proofs.cut_end.Lts as lts
 use Rattle.edits.proofs.lower.Reads as lower-reads
 
 returns : tie.Need-returns
-returns c = let s = c .before .before in no-end (s .args .s) (s .args .i) (s .args .lo) (s .args .block .now) (c .if1 .taken)
+returns c =
+    let start = c .before .before in
+    no-end (start .args .s) (start .args .i) (start .args .lo) (start .args .block .now) (c .if1 .taken)
 
 sub-lower : tie.Need-sub-lower
 sub-lower c = search needs
 
 mul-lower : tie.Need-mul-lower
-mul-lower c = let s = c .before .before .before in let k = less-one (s .args .s) (s .args .i) (omega arith) in omega (arith, k)
+mul-lower c =
+    let start = c .before .before .before in
+    let k = less-one (start .args .s) (start .args .i) (omega arith) in omega (arith, k)
 
 add-lower : tie.Need-add-lower
-add-lower c = let s = c .before .before .before in let k = less-one (s .args .s) (s .args .i) (omega arith) in omega (arith, k)
+add-lower c =
+    let start = c .before .before .before in
+    let k = less-one (start .args .s) (start .args .i) (omega arith) in omega (arith, k)
 
 lower-requires : tie.Need-lower-requires
-lower-requires c κs = let s = c .before .before .before in let k = less-one (s .args .s) (s .args .i) (omega arith) in omega (arith, k)
+lower-requires c κs =
+    let start = c .before .before .before in
+    let k = less-one (start .args .s) (start .args .i) (omega arith) in omega (arith, k)
 
 same-length : tie.Need-same-length
 same-length c = search needs
 
 returns-2 : tie.Need-returns-2
-returns-2 c = let s = c .before .before .before .before .before .before in c .before .before .lower .ensures ∙ an-end (s .args .s) (s .args .i) (s .args .lo) (s .args .block .now) (c .before .before .before .before .if1 .left)
+returns-2 c =
+    let at-lower = c .before .before in
+    let at-if1 = at-lower .before .before in
+    let start = at-if1 .before .before in
+    at-lower .lower .ensures ∙ an-end (start .args .s) (start .args .i) (start .args .lo) (start .args .block .now) (at-if1 .if1 .left)
 
 pub cut-end-spec : {M : Type 1} → statement M
 cut-end-spec =

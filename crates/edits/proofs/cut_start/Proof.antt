@@ -11,22 +11,36 @@ use Rattle.edits.proofs.cut_start.Lts as lts
 use Rattle.edits.proofs.raise.Reads as raise-reads
 
 returns : tie.Need-returns
-returns c = let s = c .before .before in no-start (s .args .s) (s .args .k) (s .args .m) (s .args .hi) (s .args .block .now) (c .if1 .taken)
+returns c =
+    let start = c .before .before in
+    no-start (start .args .s) (start .args .k) (start .args .m) (start .args .hi) (start .args .block .now) (c .if1 .taken)
 
 mul-raise : tie.Need-mul-raise
-mul-raise c = let s = c .before .before .before in let k = item-in (s .args .s) (s .args .k) (s .args .m) (omega arith) in omega (arith, k, s .pre .held, s .pre .two)
+mul-raise c =
+    let start = c .before .before .before in
+    let k = item-in (start .args .s) (start .args .k) (start .args .m) (omega arith) in omega (arith, k, start .pre .held, start .pre .two)
 
 add-raise : tie.Need-add-raise
-add-raise c = let s = c .before .before .before in let k = item-in (s .args .s) (s .args .k) (s .args .m) (omega arith) in omega (arith, k, s .pre .held, s .pre .two)
+add-raise c =
+    let start = c .before .before .before in
+    let k = item-in (start .args .s) (start .args .k) (start .args .m) (omega arith) in omega (arith, k, start .pre .held, start .pre .two)
 
 raise-requires : tie.Need-raise-requires
-raise-requires c κs = let s = c .before .before .before in let k = item-in (s .args .s) (s .args .k) (s .args .m) (omega arith) in (omega (arith, k, s .pre .held, s .pre .two), s .pre .from (omega arith))
+raise-requires c κs =
+    let start = c .before .before .before in
+    let k = item-in (start .args .s) (start .args .k) (start .args .m) (omega arith) in
+    (omega (arith, k, start .pre .held, start .pre .two), start .pre .from (omega arith))
 
 same-length : tie.Need-same-length
 same-length c = search needs
 
 returns-2 : tie.Need-returns-2
-returns-2 c = let s = c .before .before .before .before .before .before in c .before .before .raise .ensures ∙ a-start (s .args .s) (s .args .k) (s .args .m) (s .args .hi) (s .args .block .now) (c .before .before .before .before .if1 .left)
+returns-2 c =
+    let at-raise = c .before .before in
+    let at-if1 = at-raise .before .before in
+    let start = at-if1 .before .before in
+    at-raise .raise .ensures ∙ a-start (start .args .s) (start .args .k) (start .args .m) (start .args .hi) (start .args .block .now)
+    (at-if1 .if1 .left)
 
 pub cut-start-spec : {M : Type 1} → statement M
 cut-start-spec =

@@ -1,6 +1,5 @@
-use Prim.Native.Nat.{_-_}
 use mathlib.Core.Path.{refl, _∙_}
-use mathlib.Core.Option.{none, some}
+use mathlib.Core.Option.{none}
 use Rattle.edits.proofs.Sides.{edit-refused, edit-ok, edit-backwards, edit-done, edit-full}
 use borrow.Author.Needs.{needs}
 use Rattle.edits.proofs.edit_out.Statement.{statement}
@@ -19,34 +18,72 @@ same-length : tie.Need-same-length
 same-length c = search needs
 
 returns : tie.Need-returns
-returns c = edit-refused (c .before .before .before .before .args .s) (c .before .before .before .before .args .limit) (c .before .before .before .before .args .block .now) (c .before .before .before .before .args .a) (c .before .before .before .before .args .b) none (c .before .judge .result) (c .before .judge .ensures) (c .if1 .taken)
+returns c =
+    let at-judge = c .before in
+    let start = at-judge .before .before .before in
+    edit-refused (start .args .layout) (start .args .block .now) (start .args .a) (start .args .b) none (at-judge .judge .result)
+    (at-judge .judge .ensures) (c .if1 .taken)
 
 same-length-2 : tie.Need-same-length-2
 same-length-2 c = search needs
 
 returns-2 : tie.Need-returns-2
-returns-2 c = edit-backwards (c .before .before .before .before .before .args .s) (c .before .before .before .before .before .args .limit) (c .before .before .before .before .before .args .block .now) (c .before .before .before .before .before .args .a) (c .before .before .before .before .before .args .b) none (c .before .before .judge .result) (c .before .before .judge .ensures) (c .before .if1 .left) _ _ refl refl (c .if2 .taken)
+returns-2 c =
+    let at-if1 = c .before in
+    let at-judge = at-if1 .before in
+    let start = at-judge .before .before .before in
+    edit-backwards (start .args .layout) (start .args .block .now) (start .args .a) (start .args .b) none (at-judge .judge .result)
+    (at-judge .judge .ensures) (at-if1 .if1 .left) _ _ refl refl (c .if2 .taken)
 
 word-requires : tie.Need-word-requires
-word-requires c κs = (edit-ok (c .before .before .before .before .before .before .args .s) (c .before .before .before .before .before .before .args .limit) (c .before .before .before .before .before .before .args .block .now) (c .before .before .before .before .before .before .args .a) (c .before .before .before .before .before .before .args .b) none (c .before .before .before .judge .result) (c .before .before .before .judge .ensures) (c .before .before .if1 .left) _ (c .before .before .before .before .before .before .pre) refl) .block .some
+word-requires c κs =
+    let at-if1 = c .before .before in
+    let at-judge = at-if1 .before in
+    let start = at-judge .before .before .before in
+    (edit-ok (start .args .layout) (start .args .block .now) (start .args .a) (start .args .b) none (at-judge .judge .result)
+    (at-judge .judge .ensures) (at-if1 .if1 .left) _ (start .pre) refl) .block .some
 
 wide-requires : tie.Need-wide-requires
 wide-requires c κs = search needs
 
 take-out-requires : tie.Need-take-out-requires
-take-out-requires c κs = (edit-ok (c .before .before .before .before .before .before .before .before .before .args .s) (c .before .before .before .before .before .before .before .before .before .args .limit) (c .before .before .before .before .before .before .before .before .before .args .block .now) (c .before .before .before .before .before .before .before .before .before .args .a) (c .before .before .before .before .before .before .before .before .before .args .b) none (c .before .before .before .before .before .before .judge .result) (c .before .before .before .before .before .before .judge .ensures) (c .before .before .before .before .before .if1 .left) _ (c .before .before .before .before .before .before .before .before .before .pre) (c .before .wide .ensures ∙ c .before .before .word .ensures), c .before .before .before .before .if2 .left)
+take-out-requires c κs =
+    let at-wide = c .before in
+    let at-word = at-wide .before in
+    let at-if2 = at-word .before .before in
+    let at-if1 = at-if2 .before in
+    let at-judge = at-if1 .before in
+    let start = at-judge .before .before .before in (
+      edit-ok (start .args .layout) (start .args .block .now) (start .args .a) (start .args .b) none (at-judge .judge .result)
+          (at-judge .judge .ensures) (at-if1 .if1 .left) _ (start .pre) (at-wide .wide .ensures ∙ at-word .word .ensures),
+      at-if2 .if2 .left,
+    )
 
 same-length-3 : tie.Need-same-length-3
 same-length-3 c = search needs
 
 returns-3 : tie.Need-returns-3
-returns-3 c = edit-done (c .before .before .before .before .before .before .before .before .before .before .before .before .before .args .s) (c .before .before .before .before .before .before .before .before .before .before .before .before .before .args .limit) (c .before .before .before .before .before .before .before .before .before .before .before .before .before .args .block .now) (c .before .before .before .before .before .before .before .before .before .before .before .before .before .args .a) (c .before .before .before .before .before .before .before .before .before .before .before .before .before .args .b) none (c .before .before .before .before .before .before .before .before .before .before .judge .result) (c .before .before .before .before .before .before .before .before .before .before .judge .ensures) (c .before .before .before .before .before .before .before .before .before .if1 .left) _ _ refl refl (c .before .before .before .before .before .before .before .before .if2 .left) _ _ (c .before .before .before .take-out .ensures) (c .if3 .taken)
+returns-3 c =
+    let at-take-out = c .before .before .before in
+    let at-if2 = at-take-out .before .before .before .before .before in
+    let at-if1 = at-if2 .before in
+    let at-judge = at-if1 .before in
+    let start = at-judge .before .before .before in
+    edit-done (start .args .layout) (start .args .block .now) (start .args .a) (start .args .b) none (at-judge .judge .result)
+    (at-judge .judge .ensures) (at-if1 .if1 .left) _ _ refl refl (at-if2 .if2 .left) _ _ (at-take-out .take-out .ensures) (c .if3 .taken)
 
 same-length-4 : tie.Need-same-length-4
 same-length-4 c = search needs
 
 returns-4 : tie.Need-returns-4
-returns-4 c = edit-full (c .before .before .before .before .before .before .before .before .before .before .before .before .before .args .s) (c .before .before .before .before .before .before .before .before .before .before .before .before .before .args .limit) (c .before .before .before .before .before .before .before .before .before .before .before .before .before .args .block .now) (c .before .before .before .before .before .before .before .before .before .before .before .before .before .args .a) (c .before .before .before .before .before .before .before .before .before .before .before .before .before .args .b) none (c .before .before .before .before .before .before .before .before .before .before .judge .result) (c .before .before .before .before .before .before .before .before .before .before .judge .ensures) (c .before .before .before .before .before .before .before .before .before .if1 .left) _ _ refl refl (c .before .before .before .before .before .before .before .before .if2 .left) _ _ (c .before .before .before .take-out .ensures) (c .if3 .left)
+returns-4 c =
+    let at-take-out = c .before .before .before in
+    let at-if2 = at-take-out .before .before .before .before .before in
+    let at-if1 = at-if2 .before in
+    let at-judge = at-if1 .before in
+    let start = at-judge .before .before .before in
+    edit-full (start .args .layout) (start .args .block .now) (start .args .a) (start .args .b) none (at-judge .judge .result)
+    (at-judge .judge .ensures) (at-if1 .if1 .left) _ _ refl refl (at-if2 .if2 .left) _ _ (at-take-out .take-out .ensures) (c .if3 .left)
 
 pub edit-out-spec : {M : Type 1} → statement M
 edit-out-spec =

@@ -1,7 +1,7 @@
-use Prim.Native.Nat.{_-_}
 use mathlib.Core.Path.{refl, _∙_}
 use mathlib.Core.Option.{some}
-use lib.ListN.{length, getD, take, drop}
+use lib.ListN.{getD}
+use Rattle.edits.specs.Steps.{valueOf}
 use Rattle.edits.proofs.Sides.{edit-refused, edit-ok, edit-backwards, edit-done, edit-full}
 use native.Mathlib.Omega.{arith}
 use borrow.Author.Needs.{needs}
@@ -21,7 +21,11 @@ same-length : tie.Need-same-length
 same-length c = search needs
 
 returns : tie.Need-returns
-returns c = edit-refused (length (c .before .before .before .before .before .args .new .now)) (c .before .before .before .before .before .args .limit) (c .before .before .before .before .before .args .block .now) (getD (c .before .before .before .before .before .args .new .now) 0 0) (getD (c .before .before .before .before .before .args .new .now) 1 0) (some (take (length (c .before .before .before .before .before .args .new .now) - 2) (drop 2 (c .before .before .before .before .before .args .new .now)))) (c .before .judge .result) (c .before .judge .ensures) (c .if1 .taken)
+returns c =
+    let at-judge = c .before in
+    let start = at-judge .before .before .before .before in
+    edit-refused (start .args .layout) (start .args .block .now) (getD (start .args .new .now) 0 0) (getD (start .args .new .now) 1 0)
+    (some (valueOf (start .args .layout .width) (start .args .new .now))) (at-judge .judge .result) (at-judge .judge .ensures) (c .if1 .taken)
 
 word-requires : tie.Need-word-requires
 word-requires c κs = search needs
@@ -36,16 +40,42 @@ same-length-3 : tie.Need-same-length-3
 same-length-3 c = search needs
 
 returns-2 : tie.Need-returns-2
-returns-2 c = edit-backwards (length (c .before .before .before .before .before .before .before .before .before .before .args .new .now)) (c .before .before .before .before .before .before .before .before .before .before .args .limit) (c .before .before .before .before .before .before .before .before .before .before .args .block .now) (getD (c .before .before .before .before .before .before .before .before .before .before .args .new .now) 0 0) (getD (c .before .before .before .before .before .before .before .before .before .before .args .new .now) 1 0) (some (take (length (c .before .before .before .before .before .before .before .before .before .before .args .new .now) - 2) (drop 2 (c .before .before .before .before .before .before .before .before .before .before .args .new .now)))) (c .before .before .before .before .before .before .judge .result) (c .before .before .before .before .before .before .judge .ensures) (c .before .before .before .before .before .if1 .left) _ _ (c .before .before .before .word .ensures) (c .before .word2 .ensures) (c .if2 .taken)
+returns-2 c =
+    let at-word2 = c .before in
+    let at-word = at-word2 .before .before in
+    let at-if1 = at-word .before .before in
+    let at-judge = at-if1 .before in
+    let start = at-judge .before .before .before .before in
+    edit-backwards (start .args .layout) (start .args .block .now) (getD (start .args .new .now) 0 0) (getD (start .args .new .now) 1 0)
+    (some (valueOf (start .args .layout .width) (start .args .new .now))) (at-judge .judge .result) (at-judge .judge .ensures) (at-if1 .if1 .left) _
+    _ (at-word .word .ensures) (at-word2 .word2 .ensures) (c .if2 .taken)
 
 word-requires-3 : tie.Need-word-requires-3
-word-requires-3 c κs = (edit-ok (length (c .before .before .before .before .before .before .before .before .before .before .before .args .new .now)) (c .before .before .before .before .before .before .before .before .before .before .before .args .limit) (c .before .before .before .before .before .before .before .before .before .before .before .args .block .now) (getD (c .before .before .before .before .before .before .before .before .before .before .before .args .new .now) 0 0) (getD (c .before .before .before .before .before .before .before .before .before .before .before .args .new .now) 1 0) (some (take (length (c .before .before .before .before .before .before .before .before .before .before .before .args .new .now) - 2) (drop 2 (c .before .before .before .before .before .before .before .before .before .before .before .args .new .now)))) (c .before .before .before .before .before .before .before .judge .result) (c .before .before .before .before .before .before .before .judge .ensures) (c .before .before .before .before .before .before .if1 .left) _ (c .before .before .before .before .before .before .before .before .before .before .before .pre) refl) .block .some
+word-requires-3 c κs =
+    let at-if1 = c .before .before .before .before .before .before in
+    let at-judge = at-if1 .before in
+    let start = at-judge .before .before .before .before in
+    (edit-ok (start .args .layout) (start .args .block .now) (getD (start .args .new .now) 0 0) (getD (start .args .new .now) 1 0)
+    (some (valueOf (start .args .layout .width) (start .args .new .now))) (at-judge .judge .result) (at-judge .judge .ensures) (at-if1 .if1 .left) _
+    (start .pre .0) refl) .block .some
 
 wide-requires : tie.Need-wide-requires
 wide-requires c κs = search needs
 
 put-value-requires : tie.Need-put-value-requires
-put-value-requires c κs = (edit-ok (length (c .before .before .before .before .before .before .before .before .before .before .before .before .before .before .before .args .new .now)) (c .before .before .before .before .before .before .before .before .before .before .before .before .before .before .before .args .limit) (c .before .before .before .before .before .before .before .before .before .before .before .before .before .before .before .args .block .now) (getD (c .before .before .before .before .before .before .before .before .before .before .before .before .before .before .before .args .new .now) 0 0) (getD (c .before .before .before .before .before .before .before .before .before .before .before .before .before .before .before .args .new .now) 1 0) (some (take (length (c .before .before .before .before .before .before .before .before .before .before .before .before .before .before .before .args .new .now) - 2) (drop 2 (c .before .before .before .before .before .before .before .before .before .before .before .before .before .before .before .args .new .now)))) (c .before .before .before .before .before .before .before .before .before .before .before .judge .result) (c .before .before .before .before .before .before .before .before .before .before .before .judge .ensures) (c .before .before .before .before .before .before .before .before .before .before .if1 .left) _ (c .before .before .before .before .before .before .before .before .before .before .before .before .before .before .before .pre) (c .before .before .wide .ensures ∙ c .before .before .before .word3 .ensures), omega arith)
+put-value-requires c κs =
+    let at-wide = c .before .before in
+    let at-word3 = at-wide .before in
+    let at-if1 = at-word3 .before .before .before .before .before .before .before in
+    let at-judge = at-if1 .before in
+    let start = at-judge .before .before .before .before in
+    record {
+      edit = edit-ok (start .args .layout) (start .args .block .now) (getD (start .args .new .now) 0 0) (getD (start .args .new .now) 1 0)
+          (some (valueOf (start .args .layout .width) (start .args .new .now))) (at-judge .judge .result) (at-judge .judge .ensures) (at-if1 .if1 .left) _
+          (start .pre .0) (at-wide .wide .ensures ∙ at-word3 .word3 .ensures);
+      whole = start .pre .1;
+      order = omega arith;
+    }
 
 same-length-4 : tie.Need-same-length-4
 same-length-4 c = search needs
@@ -54,7 +84,17 @@ same-length-5 : tie.Need-same-length-5
 same-length-5 c = search needs
 
 returns-3 : tie.Need-returns-3
-returns-3 c = edit-done (length (c .before .before .before .before .before .before .before .before .before .before .before .before .before .before .before .before .before .before .before .before .before .args .new .now)) (c .before .before .before .before .before .before .before .before .before .before .before .before .before .before .before .before .before .before .before .before .before .args .limit) (c .before .before .before .before .before .before .before .before .before .before .before .before .before .before .before .before .before .before .before .before .before .args .block .now) (getD (c .before .before .before .before .before .before .before .before .before .before .before .before .before .before .before .before .before .before .before .before .before .args .new .now) 0 0) (getD (c .before .before .before .before .before .before .before .before .before .before .before .before .before .before .before .before .before .before .before .before .before .args .new .now) 1 0) (some (take (length (c .before .before .before .before .before .before .before .before .before .before .before .before .before .before .before .before .before .before .before .before .before .args .new .now) - 2) (drop 2 (c .before .before .before .before .before .before .before .before .before .before .before .before .before .before .before .before .before .before .before .before .before .args .new .now)))) (c .before .before .before .before .before .before .before .before .before .before .before .before .before .before .before .before .before .judge .result) (c .before .before .before .before .before .before .before .before .before .before .before .before .before .before .before .before .before .judge .ensures) (c .before .before .before .before .before .before .before .before .before .before .before .before .before .before .before .before .if1 .left) _ _ (c .before .before .before .before .before .before .before .before .before .before .before .before .before .before .word .ensures) (c .before .before .before .before .before .before .before .before .before .before .before .before .word2 .ensures) (c .before .before .before .before .before .before .before .before .before .before .before .if2 .left) _ _ (c .before .before .before .before .before .put-value .ensures) (c .if3 .taken)
+returns-3 c =
+    let at-put-value = c .before .before .before .before .before in
+    let at-if2 = at-put-value .before .before .before .before .before .before in
+    let at-word2 = at-if2 .before in
+    let at-word = at-word2 .before .before in
+    let at-if1 = at-word .before .before in
+    let at-judge = at-if1 .before in
+    let start = at-judge .before .before .before .before in
+    edit-done (start .args .layout) (start .args .block .now) (getD (start .args .new .now) 0 0) (getD (start .args .new .now) 1 0)
+    (some (valueOf (start .args .layout .width) (start .args .new .now))) (at-judge .judge .result) (at-judge .judge .ensures) (at-if1 .if1 .left) _
+    _ (at-word .word .ensures) (at-word2 .word2 .ensures) (at-if2 .if2 .left) _ _ (at-put-value .put-value .ensures) (c .if3 .taken)
 
 same-length-6 : tie.Need-same-length-6
 same-length-6 c = search needs
@@ -63,7 +103,17 @@ same-length-7 : tie.Need-same-length-7
 same-length-7 c = search needs
 
 returns-4 : tie.Need-returns-4
-returns-4 c = edit-full (length (c .before .before .before .before .before .before .before .before .before .before .before .before .before .before .before .before .before .before .before .before .before .args .new .now)) (c .before .before .before .before .before .before .before .before .before .before .before .before .before .before .before .before .before .before .before .before .before .args .limit) (c .before .before .before .before .before .before .before .before .before .before .before .before .before .before .before .before .before .before .before .before .before .args .block .now) (getD (c .before .before .before .before .before .before .before .before .before .before .before .before .before .before .before .before .before .before .before .before .before .args .new .now) 0 0) (getD (c .before .before .before .before .before .before .before .before .before .before .before .before .before .before .before .before .before .before .before .before .before .args .new .now) 1 0) (some (take (length (c .before .before .before .before .before .before .before .before .before .before .before .before .before .before .before .before .before .before .before .before .before .args .new .now) - 2) (drop 2 (c .before .before .before .before .before .before .before .before .before .before .before .before .before .before .before .before .before .before .before .before .before .args .new .now)))) (c .before .before .before .before .before .before .before .before .before .before .before .before .before .before .before .before .before .judge .result) (c .before .before .before .before .before .before .before .before .before .before .before .before .before .before .before .before .before .judge .ensures) (c .before .before .before .before .before .before .before .before .before .before .before .before .before .before .before .before .if1 .left) _ _ (c .before .before .before .before .before .before .before .before .before .before .before .before .before .before .word .ensures) (c .before .before .before .before .before .before .before .before .before .before .before .before .word2 .ensures) (c .before .before .before .before .before .before .before .before .before .before .before .if2 .left) _ _ (c .before .before .before .before .before .put-value .ensures) (c .if3 .left)
+returns-4 c =
+    let at-put-value = c .before .before .before .before .before in
+    let at-if2 = at-put-value .before .before .before .before .before .before in
+    let at-word2 = at-if2 .before in
+    let at-word = at-word2 .before .before in
+    let at-if1 = at-word .before .before in
+    let at-judge = at-if1 .before in
+    let start = at-judge .before .before .before .before in
+    edit-full (start .args .layout) (start .args .block .now) (getD (start .args .new .now) 0 0) (getD (start .args .new .now) 1 0)
+    (some (valueOf (start .args .layout .width) (start .args .new .now))) (at-judge .judge .result) (at-judge .judge .ensures) (at-if1 .if1 .left) _
+    _ (at-word .word .ensures) (at-word2 .word2 .ensures) (at-if2 .if2 .left) _ _ (at-put-value .put-value .ensures) (c .if3 .left)
 
 pub edit-put-spec : {M : Type 1} → statement M
 edit-put-spec =

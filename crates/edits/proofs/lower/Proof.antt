@@ -27,7 +27,9 @@ same-length : tie.Need-same-length
 same-length c = search needs
 
 returns : tie.Need-returns
-returns c = let s = c .before .before .before in ap (λ (v : ℕ). set (s .args .block .now) (s .args .at) v) (c .below .ensures)
+returns c =
+    let start = c .before .before .before in
+    ap (λ (v : ℕ). set (start .args .block .now) (start .args .at) v) (c .below .ensures)
 
 pub lower-spec : {M : Type 1} → statement M
 lower-spec =

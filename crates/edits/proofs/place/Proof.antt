@@ -14,13 +14,49 @@ use Rattle.blocks.proofs.narrow.Reads as narrow-reads
 use Rattle.blocks.proofs.splice.Reads as splice-reads
 
 add-m : tie.Need-add-m
-add-m c = let s = c .before .before in let k = span (s .args .s) (s .args .n) (s .args .i) (s .args .j) (s .args .c) (s .pre .two) (s .pre .i-le) (s .pre .j-le) in omega (arith, k .si, k .sj, k .back, k .c2, k .i2, k .b2, s .pre .room, s .pre .held, s .pre .whole, s .pre .j-le, s .pre .i-le)
+add-m c =
+    let start = c .before .before in
+    let k = span (start .args .s) (start .args .n) (start .args .i) (start .args .j) (start .args .c) (start .pre .two) (start .pre .i-le)
+    (start .pre .j-le) in
+    omega (
+      arith,
+      k .si,
+      k .sj,
+      k .back,
+      k .c2,
+      k .i2,
+      k .b2,
+      start .pre .room,
+      start .pre .held,
+      start .pre .whole,
+      start .pre .j-le,
+      start .pre
+          .i-le,
+    )
 
 sub-m : tie.Need-sub-m
 sub-m c = search needs
 
 add-m-2 : tie.Need-add-m-2
-add-m-2 c = let s = c .before .before in let k = span (s .args .s) (s .args .n) (s .args .i) (s .args .j) (s .args .c) (s .pre .two) (s .pre .i-le) (s .pre .j-le) in omega (arith, k .si, k .sj, k .back, k .c2, k .i2, k .b2, s .pre .room, s .pre .held, s .pre .whole, s .pre .j-le, s .pre .i-le)
+add-m-2 c =
+    let start = c .before .before in
+    let k = span (start .args .s) (start .args .n) (start .args .i) (start .args .j) (start .args .c) (start .pre .two) (start .pre .i-le)
+    (start .pre .j-le) in
+    omega (
+      arith,
+      k .si,
+      k .sj,
+      k .back,
+      k .c2,
+      k .i2,
+      k .b2,
+      start .pre .room,
+      start .pre .held,
+      start .pre .whole,
+      start .pre .j-le,
+      start .pre
+          .i-le,
+    )
 
 mul-splice : tie.Need-mul-splice
 mul-splice c = search needs
@@ -29,10 +65,46 @@ add-splice : tie.Need-add-splice
 add-splice c = search needs
 
 mul-splice-2 : tie.Need-mul-splice-2
-mul-splice-2 c = let s = c .before .before .before in let k = span (s .args .s) (s .args .n) (s .args .i) (s .args .j) (s .args .c) (s .pre .two) (s .pre .i-le) (s .pre .j-le) in omega (arith, k .si, k .sj, k .back, k .c2, k .i2, k .b2, s .pre .room, s .pre .held, s .pre .whole, s .pre .j-le, s .pre .i-le)
+mul-splice-2 c =
+    let start = c .before .before .before in
+    let k = span (start .args .s) (start .args .n) (start .args .i) (start .args .j) (start .args .c) (start .pre .two) (start .pre .i-le)
+    (start .pre .j-le) in
+    omega (
+      arith,
+      k .si,
+      k .sj,
+      k .back,
+      k .c2,
+      k .i2,
+      k .b2,
+      start .pre .room,
+      start .pre .held,
+      start .pre .whole,
+      start .pre .j-le,
+      start .pre
+          .i-le,
+    )
 
 add-splice-2 : tie.Need-add-splice-2
-add-splice-2 c = let s = c .before .before .before in let k = span (s .args .s) (s .args .n) (s .args .i) (s .args .j) (s .args .c) (s .pre .two) (s .pre .i-le) (s .pre .j-le) in omega (arith, k .si, k .sj, k .back, k .c2, k .i2, k .b2, s .pre .room, s .pre .held, s .pre .whole, s .pre .j-le, s .pre .i-le)
+add-splice-2 c =
+    let start = c .before .before .before in
+    let k = span (start .args .s) (start .args .n) (start .args .i) (start .args .j) (start .args .c) (start .pre .two) (start .pre .i-le)
+    (start .pre .j-le) in
+    omega (
+      arith,
+      k .si,
+      k .sj,
+      k .back,
+      k .c2,
+      k .i2,
+      k .b2,
+      start .pre .room,
+      start .pre .held,
+      start .pre .whole,
+      start .pre .j-le,
+      start .pre
+          .i-le,
+    )
 
 mul-splice-3 : tie.Need-mul-splice-3
 mul-splice-3 c = search needs
@@ -44,7 +116,25 @@ narrow-requires : tie.Need-narrow-requires
 narrow-requires c κs = search needs
 
 splice-requires : tie.Need-splice-requires
-splice-requires c κs = let s = c .before .before .before .before in let k = span (s .args .s) (s .args .n) (s .args .i) (s .args .j) (s .args .c) (s .pre .two) (s .pre .i-le) (s .pre .j-le) in omega (arith, k .si, k .sj, k .back, k .c2, k .i2, k .b2, s .pre .room, s .pre .held, s .pre .whole, s .pre .j-le, s .pre .i-le)
+splice-requires c κs =
+    let start = c .before .before .before .before in
+    let k = span (start .args .s) (start .args .n) (start .args .i) (start .args .j) (start .args .c) (start .pre .two) (start .pre .i-le)
+    (start .pre .j-le) in
+    omega (
+      arith,
+      k .si,
+      k .sj,
+      k .back,
+      k .c2,
+      k .i2,
+      k .b2,
+      start .pre .room,
+      start .pre .held,
+      start .pre .whole,
+      start .pre .j-le,
+      start .pre
+          .i-le,
+    )
 
 cut-end-requires : tie.Need-cut-end-requires
 cut-end-requires c κs = search needs
@@ -53,13 +143,25 @@ add-cut-start : tie.Need-add-cut-start
 add-cut-start c = search needs
 
 cut-start-requires : tie.Need-cut-start-requires
-cut-start-requires c κs = let s = c .before .before .before .before .before .before .before .before .before .before .before .before in cut-ok (s .pre) (s .args .lo) (s .args .i + s .args .c + (s .args .n - s .args .j)) refl (c .before .before .before .before .before .before .before .splice .ensures) _ (c .before .before .before .cut-end .ensures)
+cut-start-requires c κs =
+    let at-cut-end = c .before .before .before in
+    let at-splice = at-cut-end .before .before .before .before in
+    let start = at-splice .before .before .before .before .before in
+    cut-ok (start .pre) (start .args .lo) (start .args .i + start .args .c + (start .args .n - start .args .j)) refl (at-splice .splice .ensures) _
+    (at-cut-end .cut-end .ensures)
 
 same-length : tie.Need-same-length
 same-length c = search needs
 
 returns : tie.Need-returns
-returns c = let s = c .before .before .before .before .before .before .before .before .before .before .before .before .before .before .before in place-law (s .pre) (s .args .lo) (s .args .i + s .args .c + (s .args .n - s .args .j)) refl (c .before .before .before .before .before .before .before .before .before .before .splice .ensures) _ _ (c .before .before .before .before .before .before .before .before .before .before .before .narrow .ensures) (c .before .before .before .before .before .before .cut-end .ensures) (c .before .before .cut-start .ensures)
+returns c =
+    let at-cut-start = c .before .before in
+    let at-cut-end = at-cut-start .before .before .before .before in
+    let at-splice = at-cut-end .before .before .before .before in
+    let at-narrow = at-splice .before in
+    let start = at-narrow .before .before .before .before in
+    place-law (start .pre) (start .args .lo) (start .args .i + start .args .c + (start .args .n - start .args .j)) refl (at-splice .splice .ensures)
+    _ _ (at-narrow .narrow .ensures) (at-cut-end .cut-end .ensures) (at-cut-start .cut-start .ensures)
 
 pub place-spec : {M : Type 1} → statement M
 place-spec =

@@ -1,8 +1,8 @@
+use Rattle.edits.specs.Steps.{valueOf}
 use Rattle.edits.proofs.Sides.{side-ok, held, list-count, put-no, put-done, put-ok, ends-length}
 use Rattle.blocks.proofs.Tests.{le-mul}
 use Prim.Native.Nat.{_-_}
-use mathlib.Core.Path.{refl}
-use lib.ListN.{length, take, drop}
+use mathlib.Core.Path.{refl, _∙_}
 use native.Mathlib.Omega.{arith}
 use borrow.Author.Needs.{needs}
 use Rattle.edits.proofs.put_value.Statement.{statement}
@@ -16,22 +16,63 @@ use Rattle.blocks.proofs.room_for.Reads as room-for-reads
 use Rattle.edits.proofs.set_ends.Reads as set-ends-reads
 
 left-of-requires : tie.Need-left-of-requires
-left-of-requires c κs = side-ok (c .before .before .before .before .pre .0) _ refl
+left-of-requires c κs = let p = c .before .before .before .before .pre in side-ok (p .edit) _ (p .whole)
 
 right-of-requires : tie.Need-right-of-requires
-right-of-requires c κs = side-ok (c .before .before .before .before .before .before .before .pre .0) _ refl
+right-of-requires c κs =
+    let start = c .before .before .before .before .before .before .before in
+    side-ok (start .pre .edit) _ (start .pre .whole)
 
 room-for-requires : tie.Need-room-for-requires
 room-for-requires c κs = search needs
 
 add-if1 : tie.Need-add-if1
-add-if1 c = let s = c .before .before .before .before .before .before .before .before .before in let e = s .pre .0 in omega (arith, held e, le-mul (length (s .args .new .now)) (s .args .n) (e .two), c .before .before .before .before .left-of .ensures .left .within, c .before .right-of .ensures .right .within, list-count e)
+add-if1 c =
+    let at-right-of = c .before in
+    let at-left-of = at-right-of .before .before .before in
+    let start = at-left-of .before .before .before .before .before in
+    let e = start .pre .edit in
+    omega (
+      arith,
+      held e,
+      le-mul (start .args .layout .width) (start .args .n) (e .two),
+      at-left-of .left-of .ensures .left .within,
+      at-right-of
+          .right-of .ensures .right .within,
+      list-count e,
+    )
 
 sub-if1 : tie.Need-sub-if1
-sub-if1 c = let s = c .before .before .before .before .before .before .before .before .before in let e = s .pre .0 in omega (arith, held e, le-mul (length (s .args .new .now)) (s .args .n) (e .two), c .before .before .before .before .left-of .ensures .left .within, c .before .right-of .ensures .right .within, list-count e)
+sub-if1 c =
+    let at-right-of = c .before in
+    let at-left-of = at-right-of .before .before .before in
+    let start = at-left-of .before .before .before .before .before in
+    let e = start .pre .edit in
+    omega (
+      arith,
+      held e,
+      le-mul (start .args .layout .width) (start .args .n) (e .two),
+      at-left-of .left-of .ensures .left .within,
+      at-right-of
+          .right-of .ensures .right .within,
+      list-count e,
+    )
 
 add-if1-2 : tie.Need-add-if1-2
-add-if1-2 c = let s = c .before .before .before .before .before .before .before .before .before in let e = s .pre .0 in omega (arith, held e, le-mul (length (s .args .new .now)) (s .args .n) (e .two), c .before .before .before .before .left-of .ensures .left .within, c .before .right-of .ensures .right .within, list-count e)
+add-if1-2 c =
+    let at-right-of = c .before in
+    let at-left-of = at-right-of .before .before .before in
+    let start = at-left-of .before .before .before .before .before in
+    let e = start .pre .edit in
+    omega (
+      arith,
+      held e,
+      le-mul (start .args .layout .width) (start .args .n) (e .two),
+      at-left-of .left-of .ensures .left .within,
+      at-right-of
+          .right-of .ensures .right .within,
+      list-count e,
+    )
 
 same-length : tie.Need-same-length
 same-length c = search needs
@@ -40,13 +81,29 @@ same-length-2 : tie.Need-same-length-2
 same-length-2 c = search needs
 
 returns : tie.Need-returns
-returns c = put-no (let s = c .before .before .before .before .before .before .before .before .before .before in s .pre .0) (take (length (c .before .before .before .before .before .before .before .before .before .before .args .new .now) - 2) (drop 2 (c .before .before .before .before .before .before .before .before .before .before .args .new .now))) _ _ _ _ _ _ (c .before .before .before .before .before .before .before .before .before .before .pre .1) (c .before .before .before .before .before .left-of .ensures) (c .before .before .right-of .ensures) _ (c .before .room-for .ensures) (c .if1 .taken)
+returns c =
+    let at-room-for = c .before in
+    let at-right-of = at-room-for .before in
+    let at-left-of = at-right-of .before .before .before in
+    let start = at-left-of .before .before .before .before .before in
+    put-no (start .pre .edit) (valueOf (start .args .layout .width) (start .args .new .now)) _ _ _ _ _ _ (start .pre .order)
+    (at-left-of .left-of .ensures) (at-right-of .right-of .ensures) _ (at-room-for .room-for .ensures) (c .if1 .taken)
 
 set-ends-requires : tie.Need-set-ends-requires
 set-ends-requires c κs = search needs
 
 place-requires : tie.Need-place-requires
-place-requires c κs = put-ok (let s = c .before .before .before .before .before .before .before .before .before .before .before .before .before .before .before .before in s .pre .0) (take (length (c .before .before .before .before .before .before .before .before .before .before .before .before .before .before .before .before .args .new .now) - 2) (drop 2 (c .before .before .before .before .before .before .before .before .before .before .before .before .before .before .before .before .args .new .now))) _ _ _ _ _ _ (c .before .before .before .before .before .before .before .before .before .before .before .before .before .before .before .before .pre .1) (c .before .before .before .before .before .before .before .before .before .before .before .left-of .ensures) (c .before .before .before .before .before .before .before .before .right-of .ensures) _ (c .before .before .before .before .before .before .before .room-for .ensures) _ (ends-length _ _ (c .before .before .before .before .before .before .before .before .before .before .before .before .before .before .before .before .args .new .now) _ (c .before .before .before .before .set-ends .ensures) (c .before .before .before .before .before .before .before .before .before .before .before .before .before .before .before .before .pre .0 .two)) (c .before .before .before .before .before .before .if1 .left)
+place-requires c κs =
+    let at-set-ends = c .before .before .before .before in
+    let at-if1 = at-set-ends .before .before in
+    let at-room-for = at-if1 .before in
+    let at-right-of = at-room-for .before in
+    let at-left-of = at-right-of .before .before .before in
+    let start = at-left-of .before .before .before .before .before in
+    put-ok (start .pre .edit) (valueOf (start .args .layout .width) (start .args .new .now)) _ _ _ _ _ _ (start .pre .order)
+    (at-left-of .left-of .ensures) (at-right-of .right-of .ensures) _ (at-room-for .room-for .ensures) _
+    (ends-length _ _ (start .args .new .now) _ (at-set-ends .set-ends .ensures) (omega (arith, start .pre .whole, start .pre .edit .two))
+    ∙ start .pre .whole) (at-if1 .if1 .left)
 
 same-length-3 : tie.Need-same-length-3
 same-length-3 c = search needs
@@ -55,7 +112,17 @@ same-length-4 : tie.Need-same-length-4
 same-length-4 c = search needs
 
 returns-2 : tie.Need-returns-2
-returns-2 c = put-done (let s = c .before .before .before .before .before .before .before .before .before .before .before .before .before .before .before .before .before .before .before in s .pre .0) (take (length (c .before .before .before .before .before .before .before .before .before .before .before .before .before .before .before .before .before .before .before .args .new .now) - 2) (drop 2 (c .before .before .before .before .before .before .before .before .before .before .before .before .before .before .before .before .before .before .before .args .new .now))) _ _ _ _ _ _ (c .before .before .before .before .before .before .before .before .before .before .before .before .before .before .before .before .before .before .before .pre .1) (c .before .before .before .before .before .before .before .before .before .before .before .before .before .before .left-of .ensures) (c .before .before .before .before .before .before .before .before .before .before .before .right-of .ensures) _ (c .before .before .before .before .before .before .before .before .before .before .room-for .ensures) (c .before .before .before .before .before .before .before .before .before .before .before .before .before .before .before .before .before .before .before .args .new .now) _ _ refl (c .before .before .before .before .before .before .before .set-ends .ensures) (c .before .before .before .before .before .before .before .before .before .if1 .left) (c .before .before .place .ensures)
+returns-2 c =
+    let at-place = c .before .before in
+    let at-set-ends = at-place .before .before .before .before .before in
+    let at-if1 = at-set-ends .before .before in
+    let at-room-for = at-if1 .before in
+    let at-right-of = at-room-for .before in
+    let at-left-of = at-right-of .before .before .before in
+    let start = at-left-of .before .before .before .before .before in
+    put-done (start .pre .edit) (valueOf (start .args .layout .width) (start .args .new .now)) _ _ _ _ _ _ (start .pre .order)
+    (at-left-of .left-of .ensures) (at-right-of .right-of .ensures) _ (at-room-for .room-for .ensures) (start .args .new .now) _ _ refl
+    (at-set-ends .set-ends .ensures) (at-if1 .if1 .left) (at-place .place .ensures)
 
 pub put-value-spec : {M : Type 1} → statement M
 put-value-spec =

@@ -36,7 +36,9 @@ same-length : tie.Need-same-length
 same-length c = search needs
 
 returns : tie.Need-returns
-returns c = let s = c .before .before .before .before in ap (λ (v : ℕ). set (s .args .block .now) (s .args .at) v) (c .above .ensures)
+returns c =
+    let start = c .before .before .before .before in
+    ap (λ (v : ℕ). set (start .args .block .now) (start .args .at) v) (c .above .ensures)
 
 pub raise-spec : {M : Type 1} → statement M
 raise-spec =

@@ -1,3 +1,4 @@
+use Rattle.searches.proofs.Finding.{lows, highs}
 use Rattle.edits.proofs.Sides.{held, out-no, out-yes, out-ok}
 use Rattle.blocks.proofs.Tests.{le-mul}
 use Prim.Native.Nat.{_-_}
@@ -8,16 +9,16 @@ use Rattle.edits.proofs.take_out.Statement.{statement}
 use Rattle.edits.proofs.take_out.Tie as tie
 use Rattle.edits.proofs.take_out.Reads as reads
 use Rattle.edits.proofs.take_out.Lts as lts
-use Rattle.blocks.proofs.first_from.Reads as first-from-reads
-use Rattle.blocks.proofs.first_past.Reads as first-past-reads
+use Rattle.searches.proofs.first_from.Reads as first-from-reads
+use Rattle.searches.proofs.first_past.Reads as first-past-reads
 use Rattle.edits.proofs.place.Reads as place-reads
 use Rattle.blocks.proofs.room_for.Reads as room-for-reads
 
 first-from-requires : tie.Need-first-from-requires
-first-from-requires c κs = let e = c .before .before .pre .0 in (record { two = e .two; held = held e }, omega (arith, e .two))
+first-from-requires c κs = let e = c .before .before .pre .0 in lows (e .two) (e .block) (e .count)
 
 first-past-requires : tie.Need-first-past-requires
-first-past-requires c κs = let e = c .before .before .before .before .pre .0 in (record { two = e .two; held = held e }, e .two)
+first-past-requires c κs = let e = c .before .before .before .before .pre .0 in highs (e .two) (e .block) (e .count)
 
 room-for-requires : tie.Need-room-for-requires
 room-for-requires c κs = search needs
@@ -26,13 +27,21 @@ sub-if1 : tie.Need-sub-if1
 sub-if1 c = search needs
 
 add-if1 : tie.Need-add-if1
-add-if1 c = let s = c .before .before .before .before .before .before in let e = s .pre .0 in omega (arith, held e, le-mul (s .args .s) (s .args .n) (e .two))
+add-if1 c =
+    let start = c .before .before .before .before .before .before in
+    let e = start .pre .0 in omega (arith, held e, le-mul (start .args .layout .width) (start .args .n) (e .two))
 
 same-length : tie.Need-same-length
 same-length c = search needs
 
 returns : tie.Need-returns
-returns c = out-no (c .before .before .before .before .before .before .before .pre .0) _ _ _ _ (c .before .before .before .before .before .before .before .pre .1) (c .before .before .before .before .first-from .ensures) (c .before .before .first-past .ensures) _ (c .before .room-for .ensures) (c .if1 .taken)
+returns c =
+    let at-room-for = c .before in
+    let at-first-past = at-room-for .before in
+    let at-first-from = at-first-past .before .before in
+    let start = at-first-from .before .before .before in
+    out-no (start .pre .0) _ _ _ _ (start .pre .1) (at-first-from .first-from .ensures) (at-first-past .first-past .ensures) _
+    (at-room-for .room-for .ensures) (c .if1 .taken)
 
 sub-place : tie.Need-sub-place
 sub-place c = search needs
@@ -44,13 +53,28 @@ part-place-end : tie.Need-part-place-end
 part-place-end c = search needs
 
 place-requires : tie.Need-place-requires
-place-requires c κs = out-ok (c .before .before .before .before .before .before .before .before .before .before .pre .0) _ _ _ _ (c .before .before .before .before .before .before .before .before .before .before .pre .1) (c .before .before .before .before .before .before .before .first-from .ensures) (c .before .before .before .before .before .first-past .ensures) _ (c .before .before .before .before .room-for .ensures) _ refl (c .before .before .before .if1 .left)
+place-requires c κs =
+    let at-if1 = c .before .before .before in
+    let at-room-for = at-if1 .before in
+    let at-first-past = at-room-for .before in
+    let at-first-from = at-first-past .before .before in
+    let start = at-first-from .before .before .before in
+    out-ok (start .pre .0) _ _ _ _ (start .pre .1) (at-first-from .first-from .ensures) (at-first-past .first-past .ensures) _
+    (at-room-for .room-for .ensures) _ refl (at-if1 .if1 .left)
 
 same-length-2 : tie.Need-same-length-2
 same-length-2 c = search needs
 
 returns-2 : tie.Need-returns-2
-returns-2 c = out-yes (c .before .before .before .before .before .before .before .before .before .before .before .before .before .pre .0) _ _ _ _ (c .before .before .before .before .before .before .before .before .before .before .before .before .before .pre .1) (c .before .before .before .before .before .before .before .before .before .before .first-from .ensures) (c .before .before .before .before .before .before .before .before .first-past .ensures) _ (c .before .before .before .before .before .before .before .room-for .ensures) _ (c .before .before .before .before .before .before .if1 .left) (c .before .before .place .ensures)
+returns-2 c =
+    let at-place = c .before .before in
+    let at-if1 = at-place .before .before .before .before in
+    let at-room-for = at-if1 .before in
+    let at-first-past = at-room-for .before in
+    let at-first-from = at-first-past .before .before in
+    let start = at-first-from .before .before .before in
+    out-yes (start .pre .0) _ _ _ _ (start .pre .1) (at-first-from .first-from .ensures) (at-first-past .first-past .ensures) _
+    (at-room-for .room-for .ensures) _ (at-if1 .if1 .left) (at-place .place .ensures)
 
 pub take-out-spec : {M : Type 1} → statement M
 take-out-spec =

@@ -1,6 +1,5 @@
 use denote.Ref.{now}
 use Rattle.fits.proofs.Asking.{ask-window, ask-zero, ask-right}
-use native.Mathlib.Omega.{arith}
 use borrow.Author.Needs.{needs}
 use Rattle.fits.proofs.ask_verdict.Statement.{statement}
 use Rattle.fits.proofs.ask_verdict.Tie as tie
@@ -12,13 +11,27 @@ window-verdict-requires : tie.Need-window-verdict-requires
 window-verdict-requires c κs = search needs
 
 returns : tie.Need-returns
-returns c = let a = c .before .before .before in ask-window (now (a .args .block)) (a .args .a) (a .args .b) (a .args .k) (c .before .window-verdict .result) (c .before .window-verdict .ensures) (c .if1 .taken)
+returns c =
+    let at-window-verdict = c .before in
+    let start = at-window-verdict .before .before in
+    ask-window (now (start .args .block)) (start .args .a) (start .args .b) (start .args .k) (at-window-verdict .window-verdict .result)
+    (at-window-verdict .window-verdict .ensures) (c .if1 .taken)
 
 returns-2 : tie.Need-returns-2
-returns-2 c = let a = c .before .before .before .before in ask-zero (now (a .args .block)) (a .args .a) (a .args .b) (a .args .k) (c .before .before .window-verdict .result) (c .before .before .window-verdict .ensures) (c .before .if1 .left) (c .if2 .taken)
+returns-2 c =
+    let at-if1 = c .before in
+    let at-window-verdict = at-if1 .before in
+    let start = at-window-verdict .before .before in
+    ask-zero (now (start .args .block)) (start .args .a) (start .args .b) (start .args .k) (at-window-verdict .window-verdict .result)
+    (at-window-verdict .window-verdict .ensures) (at-if1 .if1 .left) (c .if2 .taken)
 
 returns-3 : tie.Need-returns-3
-returns-3 c = let a = c .before .before .before .before in ask-right (now (a .args .block)) (a .args .a) (a .args .b) (a .args .k) (c .before .before .window-verdict .result) (c .before .before .window-verdict .ensures) (c .before .if1 .left) (c .if2 .left)
+returns-3 c =
+    let at-if1 = c .before in
+    let at-window-verdict = at-if1 .before in
+    let start = at-window-verdict .before .before in
+    ask-right (now (start .args .block)) (start .args .a) (start .args .b) (start .args .k) (at-window-verdict .window-verdict .result)
+    (at-window-verdict .window-verdict .ensures) (at-if1 .if1 .left) (c .if2 .left)
 
 pub ask-verdict-spec : {M : Type 1} → statement M
 ask-verdict-spec = tie.close (tie.spec window-verdict-requires returns returns-2 returns-3)

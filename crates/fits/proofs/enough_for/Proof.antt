@@ -1,5 +1,4 @@
 use Rattle.fits.proofs.Walking.{enough-best, enough-first}
-use native.Mathlib.Omega.{arith}
 use borrow.Author.Needs.{needs}
 use Rattle.fits.proofs.enough_for.Statement.{statement}
 use Rattle.fits.proofs.enough_for.Tie as tie

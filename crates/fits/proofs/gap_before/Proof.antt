@@ -1,5 +1,4 @@
 use Rattle.fits.proofs.Walking.{before-none, before-cut, before-range}
-use native.Mathlib.Omega.{arith}
 use borrow.Author.Needs.{needs}
 use Rattle.fits.proofs.gap_before.Statement.{statement}
 use Rattle.fits.proofs.gap_before.Tie as tie
@@ -14,7 +13,12 @@ tried-requires : tie.Need-tried-requires
 tried-requires c κs = search needs
 
 returns-2 : tie.Need-returns-2
-returns-2 c = let a = c .before .before .before in before-cut (a .args .best) (a .args .from) (a .args .low) (a .args .b) (a .args .k) (a .pre) (c .tried .result) (c .before .before .if1 .left) (c .before .if2 .taken) (c .tried .ensures)
+returns-2 c =
+    let at-if2 = c .before in
+    let at-if1 = at-if2 .before in
+    let start = at-if1 .before in
+    before-cut (start .args .best) (start .args .from) (start .args .low) (start .args .b) (start .args .k) (start .pre) (c .tried .result)
+    (at-if1 .if1 .left) (at-if2 .if2 .taken) (c .tried .ensures)
 
 sub-tried : tie.Need-sub-tried
 sub-tried c = search needs
@@ -23,7 +27,12 @@ tried-requires-2 : tie.Need-tried-requires-2
 tried-requires-2 c κs = search needs
 
 returns-3 : tie.Need-returns-3
-returns-3 c = let a = c .before .before .before in before-range (a .args .best) (a .args .from) (a .args .low) (a .args .b) (a .args .k) (a .pre) (c .tried2 .result) (c .before .before .if1 .left) (c .before .if2 .left) (c .tried2 .ensures)
+returns-3 c =
+    let at-if2 = c .before in
+    let at-if1 = at-if2 .before in
+    let start = at-if1 .before in
+    before-range (start .args .best) (start .args .from) (start .args .low) (start .args .b) (start .args .k) (start .pre) (c .tried2 .result)
+    (at-if1 .if1 .left) (at-if2 .if2 .left) (c .tried2 .ensures)
 
 pub gap-before-spec : {M : Type 1} → statement M
 gap-before-spec =

@@ -1,3 +1,4 @@
+-- Invariant: the gap held is the chosen one of the gaps before `from` (`Walked`). Measure: the ranges left.
 use denote.Ref.{now}
 use mathlib.Core.Path.{refl, sym, _∙_}
 use Rattle.entries.specs.Questions.{filter}
@@ -20,7 +21,8 @@ use Rattle.fits.proofs.within.Reads as within-reads
 use Rattle.searches.proofs.count_of.Reads as count-of-reads
 
 abbrev Inv-loop : tie.InvT-loop
-Inv-loop block a b k shortest enough best₀ from₀ p₀ left₀ best from p left = Walked block (chooser shortest (filter (fits anywhere k) (gaps a b (entriesOf 2 block)))) b k enough best from p left
+Inv-loop block a b k shortest enough best₀ from₀ p₀ left₀ best from p left =
+    Walked block (chooser shortest (filter (fits anywhere k) (gaps a b (entriesOf 2 block)))) b k enough best from p left
 
 abbrev μ-loop : tie.MeasureT-loop
 μ-loop block a b k shortest enough best₀ from₀ p₀ left₀ best from p left = left
@@ -32,7 +34,12 @@ count-of-requires : tie.Need-count-of-requires Inv-loop μ-loop
 count-of-requires c κs = search needs
 
 loop-holds : tie.Need-loop-holds Inv-loop μ-loop
-loop-holds c = let a = c .before .before .before in walked-start (now (a .args .block)) (a .args .a) (a .args .b) (a .args .k) (a .args .shortest) (c .before .enough-for .result) (c .count-of .result) _ (a .pre) (omega arith) (c .before .enough-for .ensures) (c .count-of .ensures) refl refl refl
+loop-holds c =
+    let at-enough-for = c .before in
+    let start = at-enough-for .before .before in
+    walked-start (now (start .args .block)) (start .args .a) (start .args .b) (start .args .k) (start .args .shortest)
+    (at-enough-for .enough-for .result) (c .count-of .result) _ (start .pre) (omega arith) (at-enough-for .enough-for .ensures)
+    (c .count-of .ensures) refl refl refl
 
 word-requires : tie.Need-word-requires Inv-loop μ-loop
 word-requires c κs = omega (arith, walked-inside (c .before .loop .inv) (c .loop-test .taken))
@@ -50,16 +57,35 @@ within-requires : tie.Need-within-requires Inv-loop μ-loop
 within-requires c κs = c .gap-before .ensures .order
 
 returns : tie.Need-returns Inv-loop μ-loop
-returns c = walked-enough (c .before .before .before .before .before .before .loop .inv) (c .before .before .before .before .before .loop-test .taken) (c .before .before .before .before .word .result) (c .before .before .before .word2 .result) (c .before .before .before .before .word .ensures) (c .before .before .before .word2 .ensures) (c .before .before .gap-before .result) (c .before .before .gap-before .ensures) (sym (c .before .within .ensures) ∙ c .if1 .taken)
+returns c =
+    let at-within = c .before in
+    let at-gap-before = at-within .before in
+    let at-word2 = at-gap-before .before in
+    let at-word = at-word2 .before in
+    let at-loop-test = at-word .before in
+    let at-loop = at-loop-test .before in
+    walked-enough (at-loop .loop .inv) (at-loop-test .loop-test .taken) (at-word .word .result) (at-word2 .word2 .result) (at-word .word .ensures)
+    (at-word2 .word2 .ensures) (at-gap-before .gap-before .result) (at-gap-before .gap-before .ensures)
+    (sym (at-within .within .ensures) ∙ c .if1 .taken)
 
 returns-2 : tie.Need-returns-2 Inv-loop μ-loop
-returns-2 c = walked-over (c .before .before .before .before .before .before .before .loop .inv) (c .before .before .before .before .before .before .loop-test .taken) (c .before .before .before .before .before .word .result) (c .before .before .before .before .word2 .result) (c .before .before .before .before .before .word .ensures) (c .before .before .before .before .word2 .ensures) (c .before .before .before .gap-before .result) (c .before .before .before .gap-before .ensures) (c .if2 .taken)
+returns-2 c =
+    let at-gap-before = c .before .before .before in
+    let at-word2 = at-gap-before .before in
+    let at-word = at-word2 .before in
+    let at-loop-test = at-word .before in
+    let at-loop = at-loop-test .before in
+    walked-over (at-loop .loop .inv) (at-loop-test .loop-test .taken) (at-word .word .result) (at-word2 .word2 .result) (at-word .word .ensures)
+    (at-word2 .word2 .ensures) (at-gap-before .gap-before .result) (at-gap-before .gap-before .ensures) (c .if2 .taken)
 
 above-requires : tie.Need-above-requires Inv-loop μ-loop
 above-requires c κs = search needs
 
 add-p : tie.Need-add-p Inv-loop μ-loop
-add-p c = record { fits = omega (arith, walked-inside (c .before .before .before .before .before .before .before .before .loop .inv) (c .before .before .before .before .before .before .before .loop-test .taken)) }
+add-p c =
+    let at-loop-test = c .before .before .before .before .before .before .before in
+    let at-loop = at-loop-test .before in
+    record { fits = omega (arith, walked-inside (at-loop .loop .inv) (at-loop-test .loop-test .taken)) }
 
 sub-left : tie.Need-sub-left Inv-loop μ-loop
 sub-left c = search needs
@@ -68,7 +94,18 @@ loop-less : tie.Need-loop-less Inv-loop μ-loop
 loop-less c = search needs
 
 loop-again : tie.Need-loop-again Inv-loop μ-loop
-loop-again c = walked-on (c .before .before .before .before .before .before .before .before .loop .inv) (c .before .before .before .before .before .before .before .loop-test .taken) (c .before .before .before .before .before .before .word .result) (c .before .before .before .before .before .word2 .result) (c .before .before .before .before .before .before .word .ensures) (c .before .before .before .before .before .word2 .ensures) (c .before .before .before .before .gap-before .result) (c .before .before .before .before .gap-before .ensures) (c .above .result) _ _ (sym (c .before .before .before .within .ensures) ∙ c .before .before .if1 .left) (c .before .if2 .left) (c .above .ensures) refl refl
+loop-again c =
+    let at-if2 = c .before in
+    let at-if1 = at-if2 .before in
+    let at-within = at-if1 .before in
+    let at-gap-before = at-within .before in
+    let at-word2 = at-gap-before .before in
+    let at-word = at-word2 .before in
+    let at-loop-test = at-word .before in
+    let at-loop = at-loop-test .before in
+    walked-on (at-loop .loop .inv) (at-loop-test .loop-test .taken) (at-word .word .result) (at-word2 .word2 .result) (at-word .word .ensures)
+    (at-word2 .word2 .ensures) (at-gap-before .gap-before .result) (at-gap-before .gap-before .ensures) (c .above .result) _ _
+    (sym (at-within .within .ensures) ∙ at-if1 .if1 .left) (at-if2 .if2 .left) (c .above .ensures) refl refl
 
 tried-requires : tie.Need-tried-requires Inv-loop μ-loop
 tried-requires c κs = let i = c .before .loop .inv in record { held = i .order; order = i .inside; run = i .run }

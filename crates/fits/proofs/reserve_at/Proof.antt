@@ -24,13 +24,25 @@ slice-aggregate-put-value : tie.Need-slice-aggregate-put-value
 slice-aggregate-put-value c = search needs
 
 put-value-requires : tie.Need-put-value-requires
-put-value-requires c κs = let a = c .before .before .before .before .before in (record { two = omega arith; block = a .pre .block; count = c .before .before .count-of .ensures }, omega arith)
+put-value-requires c κs =
+    let at-count-of = c .before .before in
+    let start = at-count-of .before .before .before in
+    record {
+      edit = record { two = omega arith; block = start .pre .block; count = at-count-of .count-of .ensures };
+      whole = refl;
+      order = omega
+          arith;
+    }
 
 same-length : tie.Need-same-length
 same-length c = search needs
 
 returns : tie.Need-returns
-returns c = let a = c .before .before .before .before .before .before .before .before .before .before in reserved (a .args .block .now) (a .args .s) (a .args .k) (a .pre) _ refl (c .before .before .before .before .put-value .result) _ (c .before .before .before .before .put-value .ensures) (c .if1 .taken)
+returns c =
+    let at-put-value = c .before .before .before .before in
+    let start = at-put-value .before .before .before .before .before .before in
+    reserved (start .args .block .now) (start .args .s) (start .args .k) (start .pre) _ refl (at-put-value .put-value .result) _
+    (at-put-value .put-value .ensures) (c .if1 .taken)
 
 refusal-of-requires : tie.Need-refusal-of-requires
 refusal-of-requires c κs = search needs
@@ -39,7 +51,12 @@ same-length-2 : tie.Need-same-length-2
 same-length-2 c = search needs
 
 returns-2 : tie.Need-returns-2
-returns-2 c = let a = c .before .before .before .before .before .before .before .before .before .before .before in no-room (a .args .block .now) (a .args .s) (a .args .k) (a .pre) _ refl (c .before .before .before .before .before .put-value .result) _ (c .before .before .before .before .before .put-value .ensures) (c .refusal-of .result) (c .before .if1 .left) (c .refusal-of .ensures)
+returns-2 c =
+    let at-if1 = c .before in
+    let at-put-value = at-if1 .before .before .before .before in
+    let start = at-put-value .before .before .before .before .before .before in
+    no-room (start .args .block .now) (start .args .s) (start .args .k) (start .pre) _ refl (at-put-value .put-value .result) _
+    (at-put-value .put-value .ensures) (c .refusal-of .result) (at-if1 .if1 .left) (c .refusal-of .ensures)
 
 pub reserve-at-spec : {M : Type 1} → statement M
 reserve-at-spec =

@@ -1,6 +1,5 @@
 use Rattle.fits.proofs.Walking.{tried-short, tried-keep, tried-new}
 use mathlib.Core.Path.{refl, sym, _∙_}
-use native.Mathlib.Omega.{arith}
 use borrow.Author.Needs.{needs}
 use Rattle.fits.proofs.tried.Statement.{statement}
 use Rattle.fits.proofs.tried.Tie as tie
@@ -21,10 +20,20 @@ within-requires : tie.Need-within-requires
 within-requires c κs = search needs
 
 returns-2 : tie.Need-returns-2
-returns-2 c = let a = c .before .before .before in tried-keep (a .args .best) (a .args .low) (a .args .high) (a .args .k) (a .pre) (c .before .before .if1 .left) (sym (c .before .within .ensures) ∙ c .if2 .taken)
+returns-2 c =
+    let at-within = c .before in
+    let at-if1 = at-within .before in
+    let start = at-if1 .before in
+    tried-keep (start .args .best) (start .args .low) (start .args .high) (start .args .k) (start .pre) (at-if1 .if1 .left)
+    (sym (at-within .within .ensures) ∙ c .if2 .taken)
 
 returns-3 : tie.Need-returns-3
-returns-3 c = let a = c .before .before .before in tried-new (a .args .best) (a .args .low) (a .args .high) (a .args .k) (a .pre) (c .before .before .if1 .left) _ refl refl refl (sym (c .before .within .ensures) ∙ c .if2 .left)
+returns-3 c =
+    let at-within = c .before in
+    let at-if1 = at-within .before in
+    let start = at-if1 .before in
+    tried-new (start .args .best) (start .args .low) (start .args .high) (start .args .k) (start .pre) (at-if1 .if1 .left) _ refl refl refl
+    (sym (at-within .within .ensures) ∙ c .if2 .left)
 
 pub tried-spec : {M : Type 1} → statement M
 tried-spec = tie.close (tie.spec sub-less sub-if1 returns within-requires returns-2 returns-3)

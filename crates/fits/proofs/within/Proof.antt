@@ -1,5 +1,4 @@
 use Rattle.fits.proofs.Walking.{found-test, none-test}
-use native.Mathlib.Omega.{arith}
 use borrow.Author.Needs.{needs}
 use Rattle.fits.proofs.within.Statement.{statement}
 use Rattle.fits.proofs.within.Tie as tie

@@ -21,7 +21,7 @@ returns : tie.Need-returns
 returns c =
     let k = c .before .before .before .before .before .before .before .before .before .before in
     let a = k .args in
-    one-stored (a .form .runs) (a .form .layout .width) (a .first .now) (a .second .now) _ _ _ _ (c .if1 .taken) (c .before .before .before .before .store .ensures)
+    one-stored (a .form .runs) (a .first .now) (a .second .now) _ _ _ _ (c .if1 .taken) (c .before .before .before .before .store .ensures)
 
 mul-p : tie.Need-mul-p
 mul-p c = search needs
@@ -48,7 +48,7 @@ returns-2 : tie.Need-returns-2
 returns-2 c =
     let k = c .before .before .before .before .before .before .before .before .before .before .before .before .before .before in
     let a = k .args in
-    two-stored (a .form .runs) (a .form .layout .width) (a .first .now) (a .second .now) _ _ _ _ (not-one _ _ (k .pre .shape) (c .before .before .before .before .if1 .left) .0) (c .before .before .before .before .before .before .before .before .store .ensures) (c .before .before .store2 .ensures)
+    two-stored (a .form .runs) (a .first .now) (a .second .now) _ _ _ _ (not-one _ _ (k .pre .shape) (c .before .before .before .before .if1 .left) .0) (c .before .before .before .before .before .before .before .before .store .ensures) (c .before .before .store2 .ensures)
 
 pub store-runs-spec : {M : Type 1} → statement M
 store-runs-spec =

@@ -7,7 +7,7 @@ use Rattle.host.proofs.tell_deciding.Statement.{statement}
 use Rattle.host.proofs.tell_deciding.Tie as tie
 use Rattle.host.proofs.tell_deciding.Reads as reads
 use Rattle.host.proofs.tell_deciding.Lts as lts
-use Rattle.host.proofs.three_values.Reads as three-values-reads
+use Rattle.told.proofs.three_values.Reads as three-values-reads
 use Rattle.searches.proofs.entry_place.Reads as entry-place-reads
 
 entry-place-requires : tie.Need-entry-place-requires

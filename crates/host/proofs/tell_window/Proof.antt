@@ -8,8 +8,8 @@ use Rattle.host.proofs.tell_window.Statement.{statement}
 use Rattle.host.proofs.tell_window.Tie as tie
 use Rattle.host.proofs.tell_window.Reads as reads
 use Rattle.host.proofs.tell_window.Lts as lts
-use Rattle.host.proofs.refused.Reads as refused-reads
-use Rattle.host.proofs.two_values.Reads as two-values-reads
+use Rattle.told.proofs.refused.Reads as refused-reads
+use Rattle.told.proofs.two_values.Reads as two-values-reads
 use Rattle.searches.proofs.part_at.Reads as part-at-reads
 use Rattle.searches.proofs.window_verdict.Reads as window-verdict-reads
 

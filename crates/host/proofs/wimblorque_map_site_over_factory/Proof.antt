@@ -9,7 +9,7 @@ use Rattle.host.proofs.wimblorque_map_site_over_factory.Tie as tie
 use Rattle.host.proofs.wimblorque_map_site_over_factory.Reads as reads
 use Rattle.host.proofs.wimblorque_map_site_over_factory.Lts as lts
 use Rattle.blocks.proofs.judge.Reads as judge-reads
-use Rattle.host.proofs.refused.Reads as refused-reads
+use Rattle.told.proofs.refused.Reads as refused-reads
 use Rattle.host.proofs.tell_deciding.Reads as tell-deciding-reads
 
 judge-requires : tie.Need-judge-requires

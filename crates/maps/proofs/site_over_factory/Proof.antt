@@ -1,18 +1,26 @@
 use denote.Ref.{now}
-use mathlib.Core.Path.{sym, _∙_}
+use mathlib.Core.List.{[]}
+use Rattle.blocks.specs.Blocks.{mapLayout}
 use Rattle.blocks.proofs.Judging.{verdict-sound}
-use Rattle.maps.proofs.Looking.{site-empty, factory-empty, both-decide}
+use Rattle.searches.specs.Parts.{noPart}
+use mathlib.Core.Path.{_≡_, refl, _∙_, ap}
+use Prim.Native.Nat.{ℕ, _+_, _-_}
+use lib.ListN.{take, drop}
+use Rattle.searches.proofs.Windows.{is-part}
+use Rattle.answers.proofs.Turns.{refused-part, given-part}
+use Rattle.maps.specs.Calls.{siteRefusals, partIn, deciding, siteOverFactoryCall}
+use Rattle.maps.proofs.Sites.{placed, first-map, second-map, held-site, held-factory, held-either}
 use native.Mathlib.Omega.{arith}
 use borrow.Author.Needs.{needs}
 use Rattle.maps.proofs.site_over_factory.Statement.{statement}
 use Rattle.maps.proofs.site_over_factory.Tie as tie
 use Rattle.maps.proofs.site_over_factory.Reads as reads
 use Rattle.maps.proofs.site_over_factory.Lts as lts
-use Rattle.blocks.proofs.judge.Reads as judge-reads
-use Rattle.maps.proofs.decided.Reads as decided-reads
+use Rattle.blocks.proofs.judge_two.Reads as judge-two-reads
+use Rattle.maps.proofs.deciding_of.Reads as deciding-of-reads
 
-judge-requires : tie.Need-judge-requires
-judge-requires c κs = search needs
+judge-two-requires : tie.Need-judge-two-requires
+judge-two-requires c κs = search needs
 
 sub-result : tie.Need-sub-result
 sub-result c = search needs
@@ -24,10 +32,29 @@ part-result-end : tie.Need-part-result-end
 part-result-end c = search needs
 
 returns : tie.Need-returns
-returns c = let a = c .before .before .before .before .before in site-empty (now (a .args .site)) (now (a .args .factory)) (c .before .before .judge .result) (c .before .before .judge .ensures) (a .args .x) (c .before .if1 .taken)
+unfolding siteOverFactoryCall
+returns c =
+    let at-judge-two = c .before .before .before in
+    let start = at-judge-two .before .before .before in
+    placed (start .args .site) (start .args .factory)
+    (refused-part (siteRefusals (now (start .args .site)) (now (start .args .factory))) (at-judge-two .judge-two .result) (at-judge-two .judge-two .ensures)
+    [] [] [] (deciding (now (start .args .site)) (now (start .args .factory)) (start .args .x)) (partIn 0 noPart) (c .before .if1 .taken))
+    (start .args .site) refl (record { block = refl; offset = refl; words = refl })
 
-judge-requires-2 : tie.Need-judge-requires-2
-judge-requires-2 c κs = search needs
+deciding-of-requires : tie.Need-deciding-of-requires
+deciding-of-requires c κs =
+    let at-judge-two = c .before .before in
+    let start = at-judge-two .before .before .before in
+    let k = at-judge-two .judge-two .ensures .clear (c .if1 .left) in
+    (verdict-sound mapLayout (now (start .args .site)) (k .0), verdict-sound mapLayout (now (start .args .factory)) (k .1 .0))
+
+add-to : tie.Need-add-to
+add-to c =
+    record { fits = omega (arith, held-either (c .before .deciding-of .ensures)) }
+
+mul-result : tie.Need-mul-result
+mul-result c =
+    record { fits = omega (arith, held-site (c .before .before .before .deciding-of .ensures) (c .if2 .taken)) }
 
 sub-result-2 : tie.Need-sub-result-2
 sub-result-2 c = search needs
@@ -36,30 +63,71 @@ part-result-start-2 : tie.Need-part-result-start-2
 part-result-start-2 c = search needs
 
 part-result-end-2 : tie.Need-part-result-end-2
-part-result-end-2 c = search needs
+part-result-end-2 c =
+    omega (arith, held-site (c .before .before .before .deciding-of .ensures) (c .if2 .taken))
 
 returns-2 : tie.Need-returns-2
-returns-2 c = let a = c .before .before .before .before .before .before .before in factory-empty (now (a .args .site)) (now (a .args .factory)) (c .before .before .before .before .judge .result) (c .before .before .before .before .judge .ensures) (c .before .before .before .if1 .left) (c .before .before .judge2 .result) (c .before .before .judge2 .ensures) (a .args .x) (c .before .if2 .taken)
+unfolding siteOverFactoryCall
+returns-2 c =
+    let at-deciding = c .before .before .before .before in
+    let at-judge-two = at-deciding .before .before .before in
+    let start = at-judge-two .before .before .before in
+    let d = at-deciding .deciding-of .result in
+    let k : d .place + d .length - d .place ≡ d .length = omega arith in
+    placed (start .args .site) (start .args .factory)
+    (at-deciding .deciding-of .ensures .is
+    ∙ given-part (siteRefusals (now (start .args .site)) (now (start .args .factory))) (at-judge-two .judge-two .result) (at-judge-two .judge-two .ensures)
+    [] [] [] (deciding (now (start .args .site)) (now (start .args .factory)) (start .args .x)) (partIn 0 noPart) (at-deciding .before .if1 .left))
+    (start .args .site) (first-map (start .args .site) (start .args .factory) (d .position) (c .before .if2 .taken))
+    (record { block = refl; offset = refl; words = ap (λ (n : ℕ). take n (drop (d .place) (now (start .args .site)))) k })
 
-decided-requires : tie.Need-decided-requires
-decided-requires c κs = let a = c .before .before .before .before .before .before in (verdict-sound 3 2730 (now (a .args .site)) (sym (c .before .before .before .judge .ensures) ∙ c .before .before .if1 .left), verdict-sound 3 2730 (now (a .args .factory)) (sym (c .before .judge2 .ensures) ∙ c .if2 .left))
+mul-result-2 : tie.Need-mul-result-2
+mul-result-2 c =
+    record { fits = omega (arith, held-factory (c .before .before .before .deciding-of .ensures) (c .if2 .left)) }
+
+sub-result-3 : tie.Need-sub-result-3
+sub-result-3 c = search needs
+
+part-result-start-3 : tie.Need-part-result-start-3
+part-result-start-3 c = search needs
+
+part-result-end-3 : tie.Need-part-result-end-3
+part-result-end-3 c =
+    omega (arith, held-factory (c .before .before .before .deciding-of .ensures) (c .if2 .left))
 
 returns-3 : tie.Need-returns-3
-returns-3 c = let a = c .before .before .before .before .before .before .before in both-decide (now (a .args .site)) (now (a .args .factory)) (c .before .before .before .before .judge .result) (c .before .before .before .before .judge .ensures) (c .before .before .before .if1 .left) (c .before .before .judge2 .result) (c .before .before .judge2 .ensures) (a .args .x) _ (c .before .if2 .left) (c .decided .ensures)
+unfolding siteOverFactoryCall
+returns-3 c =
+    let at-deciding = c .before .before .before .before in
+    let at-judge-two = at-deciding .before .before .before in
+    let start = at-judge-two .before .before .before in
+    let d = at-deciding .deciding-of .result in
+    let k : d .place + d .length - d .place ≡ d .length = omega arith in
+    placed (start .args .site) (start .args .factory)
+    (at-deciding .deciding-of .ensures .is
+    ∙ given-part (siteRefusals (now (start .args .site)) (now (start .args .factory))) (at-judge-two .judge-two .result) (at-judge-two .judge-two .ensures)
+    [] [] [] (deciding (now (start .args .site)) (now (start .args .factory)) (start .args .x)) (partIn 0 noPart) (at-deciding .before .if1 .left))
+    (start .args .factory) (second-map (start .args .site) (start .args .factory) (d .position) (c .before .if2 .left))
+    (record { block = refl; offset = refl; words = ap (λ (n : ℕ). take n (drop (d .place) (now (start .args .factory)))) k })
 
 pub site-over-factory-spec : {M : Type 1} → statement M
 site-over-factory-spec =
     tie.close
     (tie.spec
-    judge-requires
+    judge-two-requires
     sub-result
     part-result-start
     part-result-end
     returns
-    judge-requires-2
+    deciding-of-requires
+    add-to
+    mul-result
     sub-result-2
     part-result-start-2
     part-result-end-2
     returns-2
-    decided-requires
+    mul-result-2
+    sub-result-3
+    part-result-start-3
+    part-result-end-3
     returns-3)

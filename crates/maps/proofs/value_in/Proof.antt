@@ -1,4 +1,3 @@
-use denote.Ref.{now}
 use Rattle.maps.proofs.Looking.{value-none, value-held, value-is}
 use native.Mathlib.Omega.{arith}
 use borrow.Author.Needs.{needs}
@@ -7,22 +6,25 @@ use Rattle.maps.proofs.value_in.Tie as tie
 use Rattle.maps.proofs.value_in.Reads as reads
 use Rattle.maps.proofs.value_in.Lts as lts
 use Rattle.blocks.proofs.word.Reads as word-reads
-use Rattle.searches.proofs.entry_place.Reads as entry-place-reads
+use Rattle.searches.proofs.entry_part.Reads as entry-part-reads
 
-entry-place-requires : tie.Need-entry-place-requires
-entry-place-requires c κs = search needs
+entry-part-requires : tie.Need-entry-part-requires
+entry-part-requires c κs = search needs
 
 returns : tie.Need-returns
-returns c = let a = c .before .before .before in value-none (now (a .args .block)) (a .args .x) (a .pre) (c .before .entry-place .result) (c .before .entry-place .ensures) (c .if1 .taken)
+returns c =
+    value-none (c .before .before .entry-part .ensures) (c .if1 .taken)
 
 add-word : tie.Need-add-word
-add-word c = let a = c .before .before .before in record { fits = omega (arith, value-held (now (a .args .block)) (a .args .x) (a .pre) (c .before .entry-place .result) (c .before .entry-place .ensures) (c .if1 .left)) }
+add-word c = search needs
 
 word-requires : tie.Need-word-requires
-word-requires c κs = let a = c .before .before .before in omega (arith, value-held (now (a .args .block)) (a .args .x) (a .pre) (c .before .entry-place .result) (c .before .entry-place .ensures) (c .if1 .left))
+word-requires c κs =
+    omega (arith, value-held (c .before .before .before .entry-part .ensures) (c .before .if1 .left))
 
 returns-2 : tie.Need-returns-2
-returns-2 c = let a = c .before .before .before .before in value-is (now (a .args .block)) (a .args .x) (a .pre) (c .before .before .entry-place .result) (c .before .before .entry-place .ensures) (c .before .if1 .left) (c .word .result) (c .word .ensures)
+returns-2 c =
+    value-is (c .before .before .before .before .entry-part .ensures) (c .before .before .if1 .left) (c .word .result) (c .word .ensures)
 
 pub value-in-spec : {M : Type 1} → statement M
-value-in-spec = tie.close (tie.spec entry-place-requires returns add-word word-requires returns-2)
+value-in-spec = tie.close (tie.spec entry-part-requires returns add-word word-requires returns-2)

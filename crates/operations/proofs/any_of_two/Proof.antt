@@ -1,5 +1,4 @@
 use Rattle.operations.proofs.Making.{any-inputs, any-fit}
-use native.Mathlib.Omega.{arith}
 use borrow.Author.Needs.{needs}
 use Rattle.operations.proofs.any_of_two.Statement.{statement}
 use Rattle.operations.proofs.any_of_two.Tie as tie
@@ -11,7 +10,9 @@ slice-aggregate-any : tie.Need-slice-aggregate-any
 slice-aggregate-any c = search needs
 
 any-requires : tie.Need-any-requires
-any-requires c κs = let a = c .before .before .before in (any-inputs (a .pre), any-fit (a .pre))
+any-requires c κs =
+    let start = c .before .before .before in
+    (any-inputs (start .pre), any-fit (start .pre))
 
 returns : tie.Need-returns
 returns c = search needs

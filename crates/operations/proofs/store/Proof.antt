@@ -1,5 +1,6 @@
+use Rattle.blocks.specs.Blocks.{layout}
 use denote.Ref.{now}
-use mathlib.Core.Path.{refl, sym, _∙_, ap}
+use mathlib.Core.Path.{sym, _∙_}
 use lib.ListN.{length}
 use borrow.Author.Tests.{leb-true}
 use Rattle.sweeps.specs.Sweeps.{resultOf}
@@ -18,19 +19,44 @@ room-for-requires : tie.Need-room-for-requires
 room-for-requires c κs = search needs
 
 fits-requires : tie.Need-fits-requires
-fits-requires c κs = let a = c .before .before .before .before .before in (a .pre .0, (a .pre .1 .0, (omega (arith, a .pre .1 .1, c .room-for .ensures), a .pre .1 .1 .0)))
+fits-requires c κs =
+    let start = c .before .before .before .before .before in
+    (start .pre .0, (start .pre .1 .0, (omega (arith, start .pre .1 .1, c .room-for .ensures), start .pre .1 .1 .0)))
 
 write-requires : tie.Need-write-requires
-write-requires c κs = let a = c .before .before .before .before .before .before .before .before in (a .pre .0, (a .pre .1 .0, has-room (a .args .plan .out) (a .args .limit) (length (now (a .args .o))) (c .before .before .before .room-for .result) (length (resultOf (a .args .plan) (now (a .args .a)) (now (a .args .b)) (now (a .args .c)))) (c .before .before .before .room-for .ensures) (a .pre .1 .1 .2) (leb-true _ _ (sym (c .before .before .fits2 .ensures) ∙ c .before .if1 .taken))))
+write-requires c κs =
+    let at-if1 = c .before in
+    let at-fits2 = at-if1 .before in
+    let at-room-for = at-fits2 .before in
+    let start = at-room-for .before .before .before .before .before in
+    let room = has-room (layout (start .args .plan .out) (start .args .limit)) (length (now (start .args .o))) (at-room-for .room-for .result)
+    (length (resultOf (start .args .plan) (now (start .args .a)) (now (start .args .b)) (now (start .args .c)))) (at-room-for .room-for .ensures)
+    (start .pre .1 .1 .2) (leb-true _ _ (sym (at-fits2 .fits2 .ensures) ∙ at-if1 .if1 .taken)) in
+    (start .pre .0, (start .pre .1 .0, room))
 
 same-length : tie.Need-same-length
 same-length c = search needs
 
 returns : tie.Need-returns
-returns c = let a = c .before .before .before .before .before .before .before .before .before .before .before in wrote-yes (a .args .plan .out) (a .args .limit) (resultOf (a .args .plan) (now (a .args .a)) (now (a .args .b)) (now (a .args .c))) (now (a .args .o)) _ (c .before .before .before .before .before .before .room-for .result) _ (c .before .before .before .before .before .fits2 .result) refl (c .before .before .before .before .before .before .room-for .ensures) (c .before .before .before .before .before .fits2 .ensures) (c .before .before .before .before .if1 .taken) (c .before .before .write .ensures)
+returns c =
+    let at-write = c .before .before in
+    let at-if1 = at-write .before .before in
+    let at-fits2 = at-if1 .before in
+    let at-room-for = at-fits2 .before in
+    let start = at-room-for .before .before .before .before .before in
+    wrote-yes (layout (start .args .plan .out) (start .args .limit))
+    (resultOf (start .args .plan) (now (start .args .a)) (now (start .args .b)) (now (start .args .c))) (now (start .args .o))
+    (at-room-for .room-for .result) (at-room-for .room-for .ensures) (at-fits2 .fits2 .result) (at-fits2 .fits2 .ensures) _ (at-if1 .if1 .taken)
+    (at-write .write .ensures)
 
 returns-2 : tie.Need-returns-2
-returns-2 c = let a = c .before .before .before .before .before .before .before in wrote-no (a .args .plan .out) (a .args .limit) (resultOf (a .args .plan) (now (a .args .a)) (now (a .args .b)) (now (a .args .c))) (now (a .args .o)) (c .before .before .room-for .result) _ (c .before .fits2 .result) refl (c .before .before .room-for .ensures) (c .before .fits2 .ensures) (c .if1 .left)
+returns-2 c =
+    let at-fits2 = c .before in
+    let at-room-for = at-fits2 .before in
+    let start = at-room-for .before .before .before .before .before in
+    wrote-no (layout (start .args .plan .out) (start .args .limit))
+    (resultOf (start .args .plan) (now (start .args .a)) (now (start .args .b)) (now (start .args .c))) (now (start .args .o))
+    (at-room-for .room-for .result) (at-room-for .room-for .ensures) (at-fits2 .fits2 .result) (at-fits2 .fits2 .ensures) (c .if1 .left)
 
 pub store-spec : {M : Type 1} → statement M
 store-spec =

@@ -1,5 +1,4 @@
 use Rattle.operations.proofs.Making.{store-inputs, store-fit, store-most}
-use native.Mathlib.Omega.{arith}
 use borrow.Author.Needs.{needs}
 use Rattle.operations.proofs.store_two.Statement.{statement}
 use Rattle.operations.proofs.store_two.Tie as tie
@@ -11,7 +10,9 @@ slice-aggregate-store : tie.Need-slice-aggregate-store
 slice-aggregate-store c = search needs
 
 store-requires : tie.Need-store-requires
-store-requires c κs = let a = c .before .before .before .before .before in (store-inputs (a .pre), (store-fit (a .pre), (store-most (a .pre), a .pre .small, a .pre .some)))
+store-requires c κs =
+    let start = c .before .before .before .before .before in
+    (store-inputs (start .pre), (store-fit (start .pre), (store-most (start .pre), start .pre .small, start .pre .some)))
 
 same-length : tie.Need-same-length
 same-length c = search needs

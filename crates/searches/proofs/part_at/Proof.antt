@@ -1,42 +1,86 @@
 use Rattle.searches.proofs.Windows.{spanned, part-is}
-use denote.Ref.{now}
-use Rattle.blocks.proofs.Finding.{held}
+use Rattle.searches.proofs.Finding.{lows, highs}
 use native.Mathlib.Omega.{arith}
 use borrow.Author.Needs.{needs}
 use Rattle.searches.proofs.part_at.Statement.{statement}
 use Rattle.searches.proofs.part_at.Tie as tie
 use Rattle.searches.proofs.part_at.Reads as reads
 use Rattle.searches.proofs.part_at.Lts as lts
-use Rattle.blocks.proofs.first_from.Reads as first-from-reads
-use Rattle.blocks.proofs.first_past.Reads as first-past-reads
+use Rattle.searches.proofs.first_from.Reads as first-from-reads
+use Rattle.searches.proofs.first_past.Reads as first-past-reads
 use Rattle.searches.proofs.count_of.Reads as count-of-reads
 
 count-of-requires : tie.Need-count-of-requires
 count-of-requires c κs = search needs
 
 first-from-requires : tie.Need-first-from-requires
-first-from-requires c κs = let a = c .before .before in (held (a .args .s) (a .pre .two) (now (a .args .block)) (c .count-of .result) (c .count-of .ensures) (a .args .limit) (a .pre .block), omega (arith, a .pre .two))
+first-from-requires c κs = let a = c .before .before in highs (a .pre .two) (a .pre .block) (c .count-of .ensures)
 
 first-past-requires : tie.Need-first-past-requires
-first-past-requires c κs = let a = c .before .before .before in (held (a .args .s) (a .pre .two) (now (a .args .block)) (c .before .count-of .result) (c .before .count-of .ensures) (a .args .limit) (a .pre .block), omega (arith, a .pre .two))
+first-past-requires c κs =
+    let at-count-of = c .before in
+    let start = at-count-of .before .before in
+    lows (start .pre .two) (start .pre .block) (at-count-of .count-of .ensures)
 
 mul-from : tie.Need-mul-from
-mul-from c = let a = c .before .before .before .before in record { fits = omega (arith, spanned (a .args .s) (a .args .limit) (now (a .args .block)) (a .args .a) (a .args .b) (a .pre) (c .before .before .count-of .result) (c .before .first-from .result) (c .first-past .result) (c .before .before .count-of .ensures) (c .before .first-from .ensures) (c .first-past .ensures)) }
+mul-from c =
+    let at-first-past = c .before in
+    let at-first-from = at-first-past .before in
+    let at-count-of = at-first-from .before in
+    let start = at-count-of .before .before in
+    record {
+      fits = omega
+          (arith, spanned (start .pre) (at-count-of .count-of .ensures) (at-first-from .first-from .ensures) (at-first-past .first-past .ensures));
+    }
 
 add-from : tie.Need-add-from
-add-from c = let a = c .before .before .before .before in record { fits = omega (arith, spanned (a .args .s) (a .args .limit) (now (a .args .block)) (a .args .a) (a .args .b) (a .pre) (c .before .before .count-of .result) (c .before .first-from .result) (c .first-past .result) (c .before .before .count-of .ensures) (c .before .first-from .ensures) (c .first-past .ensures)) }
+add-from c =
+    let at-first-past = c .before in
+    let at-first-from = at-first-past .before in
+    let at-count-of = at-first-from .before in
+    let start = at-count-of .before .before in
+    record {
+      fits = omega
+          (arith, spanned (start .pre) (at-count-of .count-of .ensures) (at-first-from .first-from .ensures) (at-first-past .first-past .ensures));
+    }
 
 mul-to : tie.Need-mul-to
-mul-to c = let a = c .before .before .before .before in record { fits = omega (arith, spanned (a .args .s) (a .args .limit) (now (a .args .block)) (a .args .a) (a .args .b) (a .pre) (c .before .before .count-of .result) (c .before .first-from .result) (c .first-past .result) (c .before .before .count-of .ensures) (c .before .first-from .ensures) (c .first-past .ensures)) }
+mul-to c =
+    let at-first-past = c .before .before in
+    let at-first-from = at-first-past .before in
+    let at-count-of = at-first-from .before in
+    let start = at-count-of .before .before in
+    record {
+      fits = omega
+          (arith, spanned (start .pre) (at-count-of .count-of .ensures) (at-first-from .first-from .ensures) (at-first-past .first-past .ensures));
+    }
 
 add-to : tie.Need-add-to
-add-to c = let a = c .before .before .before .before in record { fits = omega (arith, spanned (a .args .s) (a .args .limit) (now (a .args .block)) (a .args .a) (a .args .b) (a .pre) (c .before .before .count-of .result) (c .before .first-from .result) (c .first-past .result) (c .before .before .count-of .ensures) (c .before .first-from .ensures) (c .first-past .ensures)) }
+add-to c =
+    let at-first-past = c .before .before in
+    let at-first-from = at-first-past .before in
+    let at-count-of = at-first-from .before in
+    let start = at-count-of .before .before in
+    record {
+      fits = omega
+          (arith, spanned (start .pre) (at-count-of .count-of .ensures) (at-first-from .first-from .ensures) (at-first-past .first-past .ensures));
+    }
 
-sub-t11 : tie.Need-sub-t11
-sub-t11 c = let a = c .before .before .before .before in omega (arith, spanned (a .args .s) (a .args .limit) (now (a .args .block)) (a .args .a) (a .args .b) (a .pre) (c .before .before .count-of .result) (c .before .first-from .result) (c .first-past .result) (c .before .before .count-of .ensures) (c .before .first-from .ensures) (c .first-past .ensures))
+sub-t10 : tie.Need-sub-t10
+sub-t10 c =
+    let at-first-past = c .before .before in
+    let at-first-from = at-first-past .before in
+    let at-count-of = at-first-from .before in
+    let start = at-count-of .before .before in
+    omega (arith, spanned (start .pre) (at-count-of .count-of .ensures) (at-first-from .first-from .ensures) (at-first-past .first-past .ensures))
 
 returns : tie.Need-returns
-returns c = let a = c .before .before .before .before in part-is (a .args .s) (a .args .limit) (now (a .args .block)) (a .args .a) (a .args .b) (a .pre) (c .before .before .count-of .result) (c .before .first-from .result) (c .first-past .result) (c .before .before .count-of .ensures) (c .before .first-from .ensures) (c .first-past .ensures)
+returns c =
+    let at-first-past = c .before .before in
+    let at-first-from = at-first-past .before in
+    let at-count-of = at-first-from .before in
+    let start = at-count-of .before .before in
+    part-is (start .pre) (at-count-of .count-of .ensures) (at-first-from .first-from .ensures) (at-first-past .first-past .ensures)
 
 pub part-at-spec : {M : Type 1} → statement M
 part-at-spec =
@@ -49,5 +93,5 @@ part-at-spec =
     add-from
     mul-to
     add-to
-    sub-t11
+    sub-t10
     returns)

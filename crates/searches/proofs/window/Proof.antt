@@ -1,7 +1,11 @@
-use mathlib.Core.Path.{sym, _∙_}
+use mathlib.Core.List.{[]}
+use Rattle.answers.specs.Answers.{at}
+use Rattle.answers.proofs.Turns.{refused-part, given-part}
+use Rattle.searches.specs.Calls.{windowPart, windowRefusals, windowCall}
+use mathlib.Core.Path.{refl}
 use denote.Ref.{now}
-use Rattle.searches.proofs.Windows.{judged-window, call-empty, call-part}
-use native.Mathlib.Omega.{arith}
+use Rattle.searches.proofs.Windows.{clear-window, is-part}
+use Rattle.searches.specs.Parts.{noPart}
 use borrow.Author.Needs.{needs}
 use Rattle.searches.proofs.window.Statement.{statement}
 use Rattle.searches.proofs.window.Tie as tie
@@ -23,13 +27,32 @@ part-result-end : tie.Need-part-result-end
 part-result-end c = search needs
 
 returns : tie.Need-returns
-returns c = call-empty _ _ _ _ _ (λ z. c .before .if1 .taken (c .before .before .window-verdict .ensures ∙ z))
+unfolding windowCall
+returns c =
+    let at-if1 = c .before in
+    let at-window-verdict = at-if1 .before in
+    let start = at-window-verdict .before .before in
+    is-part (record { block = refl; offset = refl; words = refl })
+    (refused-part (windowRefusals (start .args .layout) (now (start .args .block)) (start .args .a) (start .args .b))
+    (at 0 (at-window-verdict .window-verdict .result)) (at-window-verdict .window-verdict .ensures) [] [] []
+    (windowPart (start .args .layout .width) (now (start .args .block)) (start .args .a) (start .args .b)) noPart (at-if1 .if1 .taken))
 
 meeting-requires : tie.Need-meeting-requires
-meeting-requires c κs = let a = c .before .before .before in judged-window (a .args .s) (a .args .limit) (now (a .args .block)) (a .args .a) (a .args .b) (a .pre) (sym (c .before .window-verdict .ensures) ∙ c .if1 .left)
+meeting-requires c κs =
+    let at-window-verdict = c .before in
+    let start = at-window-verdict .before .before in
+    clear-window (start .args .layout) (now (start .args .block)) (start .args .a) (start .args .b) (start .pre)
+    (at-window-verdict .window-verdict .ensures .clear (c .if1 .left))
 
 returns-2 : tie.Need-returns-2
-returns-2 c = c .meeting .ensures ∙ call-part _ _ _ _ _ (sym (c .before .before .window-verdict .ensures) ∙ c .before .if1 .left)
+unfolding windowCall
+returns-2 c =
+    let at-if1 = c .before in
+    let at-window-verdict = at-if1 .before in
+    let start = at-window-verdict .before .before in
+    is-part (c .meeting .ensures) (given-part (windowRefusals (start .args .layout) (now (start .args .block)) (start .args .a) (start .args .b))
+    (at 0 (at-window-verdict .window-verdict .result)) (at-window-verdict .window-verdict .ensures) [] [] []
+    (windowPart (start .args .layout .width) (now (start .args .block)) (start .args .a) (start .args .b)) noPart (at-if1 .if1 .left))
 
 pub window-spec : {M : Type 1} → statement M
 window-spec =

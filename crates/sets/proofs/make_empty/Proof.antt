@@ -1,5 +1,4 @@
 use Rattle.sets.proofs.Emptying.{empty-refused, empty-done}
-use native.Mathlib.Omega.{arith}
 use borrow.Author.Needs.{needs}
 use Rattle.sets.proofs.make_empty.Statement.{statement}
 use Rattle.sets.proofs.make_empty.Tie as tie
@@ -24,7 +23,10 @@ same-length : tie.Need-same-length
 same-length c = search needs
 
 returns-2 : tie.Need-returns-2
-returns-2 c = empty-done _ _ _ (c .judged-of2 .ensures) (c .before .before .before .before .before .if1 .left) (c .before .before .before .clear .ensures)
+returns-2 c =
+    let at-clear = c .before .before .before in
+    let at-if1 = at-clear .before .before in
+    empty-done _ _ _ (c .judged-of2 .ensures) (at-if1 .if1 .left) (at-clear .clear .ensures)
 
 pub make-empty-spec : {M : Type 1} → statement M
 make-empty-spec =

@@ -1,6 +1,7 @@
 use denote.Ref.{now}
 use mathlib.Core.Path.{sym, _∙_, ap}
 use mathlib.Core.List.{List}
+use Rattle.blocks.specs.Blocks.{setLayout}
 use Rattle.entries.specs.Entries.{Entry}
 use Rattle.entries.specs.Sets.{member}
 use Rattle.answers.specs.Answers.{truth}
@@ -15,7 +16,7 @@ use Rattle.sets.proofs.member.Reads as reads
 use Rattle.sets.proofs.member.Lts as lts
 use Rattle.answers.proofs.refusal_of.Reads as refusal-of-reads
 use Rattle.blocks.proofs.judge.Reads as judge-reads
-use Rattle.sets.proofs.holds.Reads as holds-reads
+use Rattle.searches.proofs.spot_of.Reads as spot-of-reads
 
 judge-requires : tie.Need-judge-requires
 judge-requires c κs = search needs
@@ -25,20 +26,38 @@ refusal-of-requires c κs = search needs
 
 returns : tie.Need-returns
 unfolding memberCall
-returns c = let a = c .before .before .before .before in refuse-asked (now (a .args .block)) (λ (es : List Entry). truth (member es (a .args .x))) (c .before .before .judge .result) (c .refusal-of .result) (c .before .before .judge .ensures) (c .before .if1 .taken) (c .refusal-of .ensures)
+returns c =
+    let at-if1 = c .before in
+    let at-judge = at-if1 .before in
+    let start = at-judge .before .before in
+    refuse-asked (now (start .args .block)) (λ (es : List Entry). truth (member es (start .args .x))) (at-judge .judge .result)
+    (c .refusal-of .result) (at-judge .judge .ensures) (at-if1 .if1 .taken) (c .refusal-of .ensures)
 
-holds-requires : tie.Need-holds-requires
-holds-requires c κs = verdict-sound 2 4095 (now (c .before .before .before .args .block)) (sym (c .before .judge .ensures) ∙ c .if1 .left)
+spot-of-requires : tie.Need-spot-of-requires
+spot-of-requires c κs =
+    (omega arith, verdict-sound setLayout (now (c .before .before .before .args .block)) (sym (c .before .judge .ensures) ∙ c .if1 .left))
 
 returns-2 : tie.Need-returns-2
 unfolding memberCall
-returns-2 c = let a = c .before .before .before .before .before in give-asked (now (a .args .block)) (λ (es : List Entry). truth (member es (a .args .x))) (c .before .before .before .judge .result) _ (c .before .before .before .judge .ensures) (c .before .before .if1 .left) (ap truth (sym (c .if2 .taken) ∙ c .before .holds .ensures))
+returns-2 c =
+    let at-spot-of = c .before in
+    let at-if1 = at-spot-of .before in
+    let at-judge = at-if1 .before in
+    let start = at-judge .before .before in
+    give-asked (now (start .args .block)) (λ (es : List Entry). truth (member es (start .args .x))) (at-judge .judge .result) _
+    (at-judge .judge .ensures) (at-if1 .if1 .left) (ap truth (sym (c .if2 .taken) ∙ at-spot-of .spot-of .ensures .inside))
 
 returns-3 : tie.Need-returns-3
 unfolding memberCall
-returns-3 c = let a = c .before .before .before .before .before in give-asked (now (a .args .block)) (λ (es : List Entry). truth (member es (a .args .x))) (c .before .before .before .judge .result) _ (c .before .before .before .judge .ensures) (c .before .before .if1 .left) (ap truth (sym (c .if2 .left) ∙ c .before .holds .ensures))
+returns-3 c =
+    let at-spot-of = c .before in
+    let at-if1 = at-spot-of .before in
+    let at-judge = at-if1 .before in
+    let start = at-judge .before .before in
+    give-asked (now (start .args .block)) (λ (es : List Entry). truth (member es (start .args .x))) (at-judge .judge .result) _
+    (at-judge .judge .ensures) (at-if1 .if1 .left) (ap truth (sym (c .if2 .left) ∙ at-spot-of .spot-of .ensures .inside))
 
 pub member-spec : {M : Type 1} → statement M
 member-spec =
     tie.close
-    (tie.spec judge-requires refusal-of-requires returns holds-requires returns-2 returns-3)
+    (tie.spec judge-requires refusal-of-requires returns spot-of-requires returns-2 returns-3)

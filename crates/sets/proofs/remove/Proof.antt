@@ -1,6 +1,5 @@
 use Rattle.edits.proofs.Small.{edit-most}
 use Rattle.answers.proofs.Numbers.{numbered-as}
-use native.Mathlib.Omega.{arith}
 use borrow.Author.Needs.{needs}
 use Rattle.sets.proofs.remove.Statement.{statement}
 use Rattle.sets.proofs.remove.Tie as tie
@@ -19,7 +18,10 @@ same-length : tie.Need-same-length
 same-length c = search needs
 
 returns : tie.Need-returns
-returns c = numbered-as 0 (c .judged-of .ensures) (edit-most _ _ _ _ _ _ (c .before .before .before .edit-out .result) _ (c .before .before .before .edit-out .ensures)) (c .before .before .before .edit-out .ensures)
+returns c =
+    let at-edit-out = c .before .before .before in
+    numbered-as 0 (c .judged-of .ensures) (edit-most _ _ _ _ _ (at-edit-out .edit-out .result) _ (at-edit-out .edit-out .ensures))
+    (at-edit-out .edit-out .ensures)
 
 pub remove-spec : {M : Type 1} → statement M
 remove-spec = tie.close (tie.spec edit-out-requires judged-of-requires same-length returns)

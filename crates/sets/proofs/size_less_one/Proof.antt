@@ -1,3 +1,4 @@
+-- Invariant: the ranges before place p have total + 1 numbers (`Summed`). Measure: the ranges left.
 use denote.Ref.{now}
 use Rattle.sets.proofs.Sizes.{Summed, took, summed-start, summed-as, summed-end}
 use Prim.Native.Nat.{_+_}
@@ -16,19 +17,44 @@ abbrev μ-loop : tie.MeasureT-loop
 μ-loop block n total₀ p₀ left₀ total p left = left
 
 word-requires : tie.Need-word-requires Inv-loop μ-loop
-word-requires c κs = let a = c .before in omega (arith, (summed-start (now (a .args .block)) (a .args .n) (a .pre) (λ j. omega (arith, c .shared-slice-known .given j))) .inside)
+word-requires c κs =
+    let start = c .before in
+    omega (
+      arith,
+      (summed-start (now (start .args .block)) (start .args .n) (start .pre) (λ j. omega (arith, c .shared-slice-known .given j)))
+          .inside,
+    )
 
 word-requires-2 : tie.Need-word-requires-2 Inv-loop μ-loop
-word-requires-2 c κs = let a = c .before .before in omega (arith, (summed-start (now (a .args .block)) (a .args .n) (a .pre) (λ j. omega (arith, c .before .shared-slice-known .given j))) .inside)
+word-requires-2 c κs =
+    let at-shared-slice-known = c .before in
+    let start = at-shared-slice-known .before in
+    omega (
+      arith,
+      (summed-start (now (start .args .block)) (start .args .n) (start .pre)
+          (λ j. omega (arith, at-shared-slice-known .shared-slice-known .given j))) .inside,
+    )
 
 sub-total : tie.Need-sub-total Inv-loop μ-loop
-sub-total c = let a = c .before .before .before in omega (arith, (summed-start (now (a .args .block)) (a .args .n) (a .pre) (λ j. omega (arith, c .before .before .shared-slice-known .given j))) .order)
+sub-total c =
+    let at-shared-slice-known = c .before .before in
+    let start = at-shared-slice-known .before in
+    omega (
+      arith,
+      (summed-start (now (start .args .block)) (start .args .n) (start .pre)
+          (λ j. omega (arith, at-shared-slice-known .shared-slice-known .given j))) .order,
+    )
 
 sub-left : tie.Need-sub-left Inv-loop μ-loop
 sub-left c = let a = c .before .before .before in omega (arith, a .pre .some)
 
 loop-holds : tie.Need-loop-holds Inv-loop μ-loop
-loop-holds c = let a = c .before .before .before in let g = summed-start (now (a .args .block)) (a .args .n) (a .pre) (λ j. omega (arith, c .before .before .shared-slice-known .given j)) in summed-as _ _ _ _ _ _ _ (omega (arith, g .order)) (omega arith) (omega arith) (g .next)
+loop-holds c =
+    let at-shared-slice-known = c .before .before in
+    let start = at-shared-slice-known .before in
+    let g = summed-start (now (start .args .block)) (start .args .n) (start .pre)
+    (λ j. omega (arith, at-shared-slice-known .shared-slice-known .given j)) in
+    summed-as _ _ _ _ _ _ _ (omega (arith, g .order)) (omega arith) (omega arith) (g .next)
 
 add-word : tie.Need-add-word Inv-loop μ-loop
 add-word c = let g = took _ _ _ _ (c .before .loop .inv) (c .loop-test .taken) in record { fits = omega (arith, g .inside) }
@@ -40,16 +66,28 @@ word-requires-4 : tie.Need-word-requires-4 Inv-loop μ-loop
 word-requires-4 c κs = let g = took _ _ _ _ (c .before .before .loop .inv) (c .before .loop-test .taken) in omega (arith, g .inside)
 
 sub-total-2 : tie.Need-sub-total-2 Inv-loop μ-loop
-sub-total-2 c = let g = took _ _ _ _ (c .before .before .before .loop .inv) (c .before .before .loop-test .taken) in omega (arith, g .order)
+sub-total-2 c =
+    let at-loop-test = c .before .before in
+    let at-loop = at-loop-test .before in
+    let g = took _ _ _ _ (at-loop .loop .inv) (at-loop-test .loop-test .taken) in omega (arith, g .order)
 
 add-total : tie.Need-add-total Inv-loop μ-loop
-add-total c = let g = took _ _ _ _ (c .before .before .before .loop .inv) (c .before .before .loop-test .taken) in record { fits = omega (arith, g .order, g .fits) }
+add-total c =
+    let at-loop-test = c .before .before in
+    let at-loop = at-loop-test .before in
+    let g = took _ _ _ _ (at-loop .loop .inv) (at-loop-test .loop-test .taken) in record { fits = omega (arith, g .order, g .fits) }
 
 add-total-2 : tie.Need-add-total-2 Inv-loop μ-loop
-add-total-2 c = let g = took _ _ _ _ (c .before .before .before .loop .inv) (c .before .before .loop-test .taken) in record { fits = omega (arith, g .order, g .fits) }
+add-total-2 c =
+    let at-loop-test = c .before .before in
+    let at-loop = at-loop-test .before in
+    let g = took _ _ _ _ (at-loop .loop .inv) (at-loop-test .loop-test .taken) in record { fits = omega (arith, g .order, g .fits) }
 
 add-p : tie.Need-add-p Inv-loop μ-loop
-add-p c = let g = took _ _ _ _ (c .before .before .before .loop .inv) (c .before .before .loop-test .taken) in record { fits = omega (arith, g .inside) }
+add-p c =
+    let at-loop-test = c .before .before in
+    let at-loop = at-loop-test .before in
+    let g = took _ _ _ _ (at-loop .loop .inv) (at-loop-test .loop-test .taken) in record { fits = omega (arith, g .inside) }
 
 sub-left-2 : tie.Need-sub-left-2 Inv-loop μ-loop
 sub-left-2 c = search needs
@@ -58,7 +96,11 @@ loop-less : tie.Need-loop-less Inv-loop μ-loop
 loop-less c = search needs
 
 loop-again : tie.Need-loop-again Inv-loop μ-loop
-loop-again c = let g = took _ _ _ _ (c .before .before .before .loop .inv) (c .before .before .loop-test .taken) in summed-as _ _ _ _ _ _ _ (omega (arith, g .order)) (omega arith) (omega arith) (g .next)
+loop-again c =
+    let at-loop-test = c .before .before in
+    let at-loop = at-loop-test .before in
+    let g = took _ _ _ _ (at-loop .loop .inv) (at-loop-test .loop-test .taken) in
+    summed-as _ _ _ _ _ _ _ (omega (arith, g .order)) (omega arith) (omega arith) (g .next)
 
 returns : tie.Need-returns Inv-loop μ-loop
 returns c = summed-end _ _ _ _ (omega arith) (c .before .loop .inv)

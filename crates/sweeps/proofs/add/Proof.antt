@@ -14,7 +14,10 @@ less-requires : tie.Need-less-requires
 less-requires c κs = search needs
 
 store-requires : tie.Need-store-requires
-store-requires c κs = let a = c .before .before .before in (a .pre .two, a .pre .four, add-room (a .pre) (c .before .less .result) (c .before .less .ensures))
+store-requires c κs =
+    let at-less = c .before in
+    let start = at-less .before .before in
+    (start .pre .two, start .pre .four, add-room (start .pre) (at-less .less .result) (at-less .less .ensures))
 
 more-requires : tie.Need-more-requires
 more-requires c κs = search needs
@@ -24,10 +27,14 @@ same-length c = search needs
 
 returns : tie.Need-returns
 returns c =
-    let a = c .before .before .before .before .before .before .before in (
-      add-count (a .pre) (c .before .before .before .before .before .less .result) (c .more .result) (c .before .before .before .before .before .less .ensures) (c .more .ensures),
-      added (a .args .keep) (a .args .inside) (a .args .join) (a .args .s) (a .args .n) (a .args .x) (a .args .h) (valueOf (a .args .s) (a .args .v)) (now (a .args .o)) (c .before .before .before .store .last .0)
-          (c .before .before .before .before .before .less .result) (c .more .result) (a .pre) (c .before .before .before .before .before .less .ensures) (c .more .ensures) (c .before .before .before .store .ensures),
+    let at-store = c .before .before .before in
+    let at-less = at-store .before .before in
+    let start = at-less .before .before in (
+      add-count (start .pre) (at-less .less .result) (c .more .result) (at-less .less .ensures) (c .more .ensures),
+      added (start .args .keep)
+          (start .args .inside) (start .args .join) (start .args .s) (start .args .n) (start .args .x) (start .args .h)
+          (valueOf (start .args .s) (start .args .v)) (now (start .args .o)) (at-store .store .last .0) (at-less .less .result) (c .more .result)
+          (start .pre) (at-less .less .ensures) (c .more .ensures) (at-store .store .ensures),
     )
 
 pub add-spec : {M : Type 1} → statement M

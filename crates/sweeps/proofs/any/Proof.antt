@@ -12,7 +12,9 @@ slice-aggregate-sweep : tie.Need-slice-aggregate-sweep
 slice-aggregate-sweep c = search needs
 
 sweep-requires : tie.Need-sweep-requires
-sweep-requires c κs = let a = c .before .before .before .before in (a .pre .0, (a .pre .1, omega (arith, mul-zero (a .args .plan .out))))
+sweep-requires c κs =
+    let start = c .before .before .before .before in
+    (start .pre .0, (start .pre .1, omega (arith, mul-zero (start .args .plan .out))))
 
 returns : tie.Need-returns
 returns c = some-met _ (c .before .sweep .result) (c .before .sweep .ensures .size)

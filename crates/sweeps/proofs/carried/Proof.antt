@@ -11,31 +11,81 @@ nothing-requires : tie.Need-nothing-requires
 nothing-requires c κs = search needs
 
 returns : tie.Need-returns
-returns c = let a = c .before .before .before .before .before .before in carried-set (a .args .at) (a .args .sides) (a .args .ends) (a .pre .0) (a .pre .1 .0) (a .pre .1 .1 .0) (a .pre .1 .1 .1) _ (c .before .if1 .taken)
+returns c =
+    let at-if1 = c .before in
+    let start = at-if1 .before .before .before .before .before in
+    carried-set (start .args .at) (start .args .sides) (start .args .ends) (start .pre .0) (start .pre .1 .0) (start .pre .1 .1 .0)
+    (start .pre .1 .1 .1) _ (at-if1 .if1 .taken)
 
 words-behind-requires : tie.Need-words-behind-requires
-words-behind-requires c κs = let a = c .before .before .before .before .before .before .before in (a .pre .1 .0 .two, a .pre .1 .0 .four, reach-a (a .args .at) (a .args .sides) (a .args .ends) (a .pre .0) (a .pre .1 .0) (a .pre .1 .1 .0) (a .pre .1 .1 .1) (c .before .if2 .taken) (c .if3 .taken))
+words-behind-requires c κs =
+    let at-if2 = c .before in
+    let start = at-if2 .before .before .before .before .before .before in (
+      start .pre .1 .0 .two,
+      start .pre .1 .0 .four,
+      reach-a (start .args .at) (start .args .sides) (start .args .ends) (start .pre .0)
+          (start .pre .1 .0) (start .pre .1 .1 .0) (start .pre .1 .1 .1) (at-if2 .if2 .taken) (c .if3 .taken),
+    )
 
 returns-2 : tie.Need-returns-2
-returns-2 c = let a = c .before .before .before .before .before .before .before .before in carried-a (a .args .at) (a .args .sides) (a .args .ends) (a .pre .0) (a .pre .1 .0) (a .pre .1 .1 .0) (a .pre .1 .1 .1) (c .before .before .if2 .taken) (c .before .if3 .taken) _ (c .words-behind .ensures)
+returns-2 c =
+    let at-if3 = c .before in
+    let at-if2 = at-if3 .before in
+    let start = at-if2 .before .before .before .before .before .before in
+    carried-a (start .args .at) (start .args .sides) (start .args .ends) (start .pre .0) (start .pre .1 .0) (start .pre .1 .1 .0)
+    (start .pre .1 .1 .1) (at-if2 .if2 .taken) (at-if3 .if3 .taken) _ (c .words-behind .ensures)
 
 words-behind-requires-2 : tie.Need-words-behind-requires-2
-words-behind-requires-2 c κs = let a = c .before .before .before .before .before .before .before .before in (a .pre .1 .0 .two, a .pre .1 .0 .four, reach-b (a .args .at) (a .args .sides) (a .args .ends) (a .pre .0) (a .pre .1 .0) (a .pre .1 .1 .0) (a .pre .1 .1 .1) (c .before .before .if2 .taken) (c .before .if3 .left) (c .if4 .taken))
+words-behind-requires-2 c κs =
+    let at-if3 = c .before in
+    let at-if2 = at-if3 .before in
+    let start = at-if2 .before .before .before .before .before .before in (
+      start .pre .1 .0 .two,
+      start .pre .1 .0 .four,
+      reach-b (start .args .at) (start .args .sides) (start .args .ends) (start .pre .0)
+          (start .pre .1 .0) (start .pre .1 .1 .0) (start .pre .1 .1 .1) (at-if2 .if2 .taken) (at-if3 .if3 .left) (c .if4 .taken),
+    )
 
 returns-3 : tie.Need-returns-3
-returns-3 c = let a = c .before .before .before .before .before .before .before .before .before in carried-b (a .args .at) (a .args .sides) (a .args .ends) (a .pre .0) (a .pre .1 .0) (a .pre .1 .1 .0) (a .pre .1 .1 .1) (c .before .before .before .if2 .taken) (c .before .before .if3 .left) (c .before .if4 .taken) _ (c .words-behind2 .ensures)
+returns-3 c =
+    let at-if4 = c .before in
+    let at-if3 = at-if4 .before in
+    let at-if2 = at-if3 .before in
+    let start = at-if2 .before .before .before .before .before .before in
+    carried-b (start .args .at) (start .args .sides) (start .args .ends) (start .pre .0) (start .pre .1 .0) (start .pre .1 .1 .0)
+    (start .pre .1 .1 .1) (at-if2 .if2 .taken) (at-if3 .if3 .left) (at-if4 .if4 .taken) _ (c .words-behind2 .ensures)
 
 words-behind-requires-3 : tie.Need-words-behind-requires-3
-words-behind-requires-3 c κs = let a = c .before .before .before .before .before .before .before .before in (a .pre .1 .0 .two, a .pre .1 .0 .four, reach-c (a .args .at) (a .args .sides) (a .args .ends) (a .pre .0) (a .pre .1 .0) (a .pre .1 .1 .0) (a .pre .1 .1 .1) (c .before .before .if2 .taken) (c .before .if3 .left) (c .if4 .left) (c .before .before .before .if1 .left))
+words-behind-requires-3 c κs =
+    let at-if3 = c .before in
+    let at-if2 = at-if3 .before in
+    let at-if1 = at-if2 .before in
+    let start = at-if1 .before .before .before .before .before in (
+      start .pre .1 .0 .two,
+      start .pre .1 .0 .four,
+      reach-c (start .args .at) (start .args .sides) (start .args .ends) (start .pre .0)
+          (start .pre .1 .0) (start .pre .1 .1 .0) (start .pre .1 .1 .1) (at-if2 .if2 .taken) (at-if3 .if3 .left) (c .if4 .left) (at-if1 .if1 .left),
+    )
 
 returns-4 : tie.Need-returns-4
-returns-4 c = let a = c .before .before .before .before .before .before .before .before .before in carried-c (a .args .at) (a .args .sides) (a .args .ends) (a .pre .0) (a .pre .1 .0) (a .pre .1 .1 .0) (a .pre .1 .1 .1) (c .before .before .before .if2 .taken) (c .before .before .if3 .left) (c .before .if4 .left) (c .before .before .before .before .if1 .left) _ (c .words-behind3 .ensures)
+returns-4 c =
+    let at-if4 = c .before in
+    let at-if3 = at-if4 .before in
+    let at-if2 = at-if3 .before in
+    let at-if1 = at-if2 .before in
+    let start = at-if1 .before .before .before .before .before in
+    carried-c (start .args .at) (start .args .sides) (start .args .ends) (start .pre .0) (start .pre .1 .0) (start .pre .1 .1 .0)
+    (start .pre .1 .1 .1) (at-if2 .if2 .taken) (at-if3 .if3 .left) (at-if4 .if4 .left) (at-if1 .if1 .left) _ (c .words-behind3 .ensures)
 
 nothing-requires-2 : tie.Need-nothing-requires-2
 nothing-requires-2 c κs = search needs
 
 returns-5 : tie.Need-returns-5
-returns-5 c = let a = c .before .before .before .before .before .before .before in carried-none (a .args .at) (a .args .sides) (a .args .ends) (a .pre .0) (a .pre .1 .0) (a .pre .1 .1 .0) (a .pre .1 .1 .1) _ (c .before .if2 .left)
+returns-5 c =
+    let at-if2 = c .before in
+    let start = at-if2 .before .before .before .before .before .before in
+    carried-none (start .args .at) (start .args .sides) (start .args .ends) (start .pre .0) (start .pre .1 .0) (start .pre .1 .1 .0)
+    (start .pre .1 .1 .1) _ (at-if2 .if2 .left)
 
 pub carried-spec : {M : Type 1} → statement M
 carried-spec =

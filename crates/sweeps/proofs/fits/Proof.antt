@@ -9,7 +9,9 @@ use Rattle.sweeps.proofs.fits.Lts as lts
 use Rattle.sweeps.proofs.sweep.Reads as sweep-reads
 
 returns : tie.Need-returns
-returns c = let a = c .before .before .before .before in bound-fits _ (a .args .bound) (a .args .cap) (a .pre .1 .1 .1) (c .if1 .taken)
+returns c =
+    let start = c .before .before .before .before in
+    bound-fits _ (start .args .bound) (start .args .cap) (start .pre .1 .1 .1) (c .if1 .taken)
 
 add-sweep : tie.Need-add-sweep
 add-sweep c = search needs
@@ -18,10 +20,15 @@ slice-aggregate-sweep : tie.Need-slice-aggregate-sweep
 slice-aggregate-sweep c = search needs
 
 sweep-requires : tie.Need-sweep-requires
-sweep-requires c κs = let a = c .before .before .before .before .before in (a .pre .0, (a .pre .1 .0, omega (arith, mul-zero (a .args .plan .out))))
+sweep-requires c κs =
+    let start = c .before .before .before .before .before in
+    (start .pre .0, (start .pre .1 .0, omega (arith, mul-zero (start .args .plan .out))))
 
 returns-2 : tie.Need-returns-2
-returns-2 c = let a = c .before .before .before .before .before .before .before in few-enough _ (c .before .sweep .result) (a .args .cap) (c .before .sweep .ensures .size)
+returns-2 c =
+    let at-sweep = c .before in
+    let start = at-sweep .before .before .before .before .before .before in
+    few-enough _ (at-sweep .sweep .result) (start .args .cap) (at-sweep .sweep .ensures .size)
 
 pub fits-spec : {M : Type 1} → statement M
 fits-spec = tie.close (tie.spec returns add-sweep slice-aggregate-sweep sweep-requires returns-2)

@@ -31,7 +31,11 @@ same-length : tie.Need-same-length
 same-length c = search needs
 
 returns : tie.Need-returns
-returns c = let a = c .before .before .before in lay-two (a .args .s) (now (a .args .o)) (a .args .q) (a .args .x) (a .args .h) (a .args .join) (c .before .more .result) (c .before .more .ensures) (a .args .v) (a .pre .0) (a .pre .2) (c .if1 .taken)
+returns c =
+    let at-more = c .before in
+    let start = at-more .before .before in
+    lay-two (start .args .s) (now (start .args .o)) (start .args .q) (start .args .x) (start .args .h) (start .args .join) (at-more .more .result)
+    (at-more .more .ensures) (start .args .v) (start .pre .0) (start .pre .2) (c .if1 .taken)
 
 add-o-2 : tie.Need-add-o-2
 add-o-2 c = search needs
@@ -46,7 +50,11 @@ same-length-2 : tie.Need-same-length-2
 same-length-2 c = search needs
 
 returns-2 : tie.Need-returns-2
-returns-2 c = let a = c .before .before .before .before in lay-three (a .args .s) (now (a .args .o)) (a .args .q) (a .args .x) (a .args .h) (a .args .join) (c .before .before .more .result) (c .before .before .more .ensures) (a .args .v) (a .pre .0) (a .pre .2) (c .if2 .taken)
+returns-2 c =
+    let at-more = c .before .before in
+    let start = at-more .before .before in
+    lay-three (start .args .s) (now (start .args .o)) (start .args .q) (start .args .x) (start .args .h) (start .args .join) (at-more .more .result)
+    (at-more .more .ensures) (start .args .v) (start .pre .0) (start .pre .2) (c .if2 .taken)
 
 add-o-3 : tie.Need-add-o-3
 add-o-3 c = search needs
@@ -61,7 +69,11 @@ same-length-3 : tie.Need-same-length-3
 same-length-3 c = search needs
 
 returns-3 : tie.Need-returns-3
-returns-3 c = let a = c .before .before .before .before in lay-four (a .args .s) (now (a .args .o)) (a .args .q) (a .args .x) (a .args .h) (a .args .join) (c .before .before .more .result) (c .before .before .more .ensures) (a .args .v) (a .pre .0) (a .pre .2) (omega arith)
+returns-3 c =
+    let at-more = c .before .before in
+    let start = at-more .before .before in
+    lay-four (start .args .s) (now (start .args .o)) (start .args .q) (start .args .x) (start .args .h) (start .args .join) (at-more .more .result)
+    (at-more .more .ensures) (start .args .v) (start .pre .0) (start .pre .2) (omega arith)
 
 pub lay-spec : {M : Type 1} → statement M
 lay-spec =

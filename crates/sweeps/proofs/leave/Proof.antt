@@ -22,31 +22,54 @@ add-q c = search needs
 
 returns : tie.Need-returns
 returns c =
-    let a = c .before .before .before in
-    leave-last (a .args .s) (now (a .args .w)) (a .args .x) (a .pre .0) (a .pre .1) (c .before .word .result) _ (c .before .word .ensures) refl (c .if1 .taken)
+    let at-word = c .before in
+    let start = at-word .before .before in
+    leave-last (start .args .s) (now (start .args .w)) (start .args .x) (start .pre .0) (start .pre .1) (at-word .word .result) _
+    (at-word .word .ensures) refl (c .if1 .taken)
 
 word-requires-2 : tie.Need-word-requires-2
 word-requires-2 c κs =
-    let a = c .before .before .before in
-    omega (arith, next-here (a .args .s) (now (a .args .w)) (a .args .x) (a .pre .0) (a .pre .1) (c .before .word .result) _ (c .before .word .ensures) refl (c .if1 .left), a .pre .0 .two)
+    let at-word = c .before in
+    let start = at-word .before .before in
+    omega (
+      arith,
+      next-here (start .args .s) (now (start .args .w)) (start .args .x) (start .pre .0) (start .pre .1) (at-word .word .result) _
+          (at-word .word .ensures) refl (c .if1 .left),
+      start .pre .0 .two,
+    )
 
 sub-if2 : tie.Need-sub-if2
 sub-if2 c =
-    let a = c .before .before .before .before in
-    omega (arith, next-later (a .args .s) (now (a .args .w)) (a .args .x) (a .pre .0) (a .pre .1) (c .before .before .word .result) _ (c .before .before .word .ensures) refl (c .before .if1 .left), c .word2 .ensures)
+    let at-if1 = c .before in
+    let at-word = at-if1 .before in
+    let start = at-word .before .before in
+    omega (
+      arith,
+      next-later (start .args .s) (now (start .args .w)) (start .args .x) (start .pre .0) (start .pre .1) (at-word .word .result) _
+          (at-word .word .ensures) refl (at-if1 .if1 .left),
+      c .word2 .ensures,
+    )
 
 add-t12 : tie.Need-add-t12
 add-t12 c = search needs
 
 returns-2 : tie.Need-returns-2
 returns-2 c =
-    let a = c .before .before .before .before .before in
-    leave-touching (a .args .s) (now (a .args .w)) (a .args .x) (a .pre .0) (a .pre .1) (c .before .before .before .word .result) _ (c .before .before .before .word .ensures) refl (c .before .before .if1 .left) (c .before .word2 .result) (c .before .word2 .ensures) (c .if2 .taken)
+    let at-word2 = c .before in
+    let at-if1 = at-word2 .before in
+    let at-word = at-if1 .before in
+    let start = at-word .before .before in
+    leave-touching (start .args .s) (now (start .args .w)) (start .args .x) (start .pre .0) (start .pre .1) (at-word .word .result) _
+    (at-word .word .ensures) refl (at-if1 .if1 .left) (at-word2 .word2 .result) (at-word2 .word2 .ensures) (c .if2 .taken)
 
 returns-3 : tie.Need-returns-3
 returns-3 c =
-    let a = c .before .before .before .before .before in
-    leave-apart (a .args .s) (now (a .args .w)) (a .args .x) (a .pre .0) (a .pre .1) (c .before .before .before .word .result) _ (c .before .before .before .word .ensures) refl (c .before .before .if1 .left) (c .before .word2 .result) (c .before .word2 .ensures) (c .if2 .left)
+    let at-word2 = c .before in
+    let at-if1 = at-word2 .before in
+    let at-word = at-if1 .before in
+    let start = at-word .before .before in
+    leave-apart (start .args .s) (now (start .args .w)) (start .args .x) (start .pre .0) (start .pre .1) (at-word .word .result) _
+    (at-word .word .ensures) refl (at-if1 .if1 .left) (at-word2 .word2 .result) (at-word2 .word2 .ensures) (c .if2 .left)
 
 pub leave-spec : {M : Type 1} → statement M
 leave-spec =

@@ -1,6 +1,7 @@
 use lib.Dec.{eqb}
 use denote.Ref.{now}
 use mathlib.Core.Path.{refl}
+use Rattle.entries.specs.Sets.{M}
 use Rattle.sweeps.specs.Cursors.{setPlan}
 use Rattle.sweeps.proofs.Segments.{segment-made, pick-same}
 use Rattle.sweeps.proofs.Runs.{turn-end}
@@ -13,7 +14,7 @@ use Rattle.sweeps.proofs.pair_segment_at.Lts as lts
 use Rattle.sweeps.proofs.accepted.Reads as accepted-reads
 use Rattle.sweeps.proofs.flip.Reads as flip-reads
 use Rattle.sweeps.proofs.least.Reads as least-reads
-use Rattle.sweeps.proofs.moved.Reads as moved-reads
+use Rattle.blocks.proofs.chosen.Reads as chosen-reads
 use Rattle.sweeps.proofs.nothing.Reads as nothing-reads
 use Rattle.sweeps.proofs.turned.Reads as turned-reads
 
@@ -29,11 +30,11 @@ least-requires c κs = search needs
 accepted-requires : tie.Need-accepted-requires
 accepted-requires c κs = search needs
 
-moved-requires : tie.Need-moved-requires
-moved-requires c κs = search needs
+chosen-requires : tie.Need-chosen-requires
+chosen-requires c κs = search needs
 
-moved-requires-2 : tie.Need-moved-requires-2
-moved-requires-2 c κs = search needs
+chosen-requires-2 : tie.Need-chosen-requires-2
+chosen-requires-2 c κs = search needs
 
 turned-requires : tie.Need-turned-requires
 turned-requires c κs = search needs
@@ -45,7 +46,29 @@ nothing-requires : tie.Need-nothing-requires
 nothing-requires c κs = search needs
 
 returns : tie.Need-returns
-returns c = let a = c .before .before .before .before .before .before .before .before .before .before .before .before .before .before .before .before in (segment-made (setPlan (a .args .table)) (now (a .args .a)) (now (a .args .b)) (now (a .args .c)) (a .args .x) (a .args .at) (a .args .sides) (a .args .ends) (c .before .before .before .before .before .before .before .before .before .before .before .before .flip .result) (c .before .before .before .before .before .before .before .before .before .before .before .flip2 .result) (record { last = 18446744073709551615; next = a .args .at .c; then = a .args .sides .c }) _ (c .before .before .before .before .before .before .before .before .before .before .least .result) (c .before .before .before .before .before .before .before .before .before .before .before .before .flip .ensures, c .before .before .before .before .before .before .before .before .before .before .before .flip2 .ensures, turn-end 2 (now (a .args .c)) (a .args .x) (a .pre .0 .third) (a .pre .1 .0 .at-c) (a .pre .1 .1) (omega arith)) (c .before .before .before .before .before .before .before .before .before .before .least .ensures) (omega (arith, c .before .before .before .before .before .before .before .before .before .before .least .ensures, c .before .before .before .before .before .before .before .before .before .before .before .before .flip .ensures .fits)) (c .before .before .before .before .before .before .before .before .before .accepted .ensures) refl (c .before .before .before .before .before .before .before .moved .ensures, c .before .before .before .before .before .moved2 .ensures, pick-same (eqb 18446744073709551615 (c .before .before .before .before .before .before .before .before .before .before .least .result)) _) (c .before .before .before .turned .ensures, c .before .turned2 .ensures, pick-same (eqb 18446744073709551615 (c .before .before .before .before .before .before .before .before .before .before .least .result)) _), a .pre .1 .1)
+returns c =
+    let at-turned2 = c .before in
+    let at-turned = at-turned2 .before .before in
+    let at-chosen2 = at-turned .before .before in
+    let at-chosen = at-chosen2 .before .before in
+    let at-accepted = at-chosen .before .before in
+    let at-least = at-accepted .before in
+    let at-flip2 = at-least .before in
+    let at-flip = at-flip2 .before in
+    let start = at-flip .before .before .before .before in (
+      segment-made (setPlan (start .args .table)) (now (start .args .a)) (now (start .args .b)) (now (start .args .c)) (start .args .x)
+          (start .args .at) (start .args .sides) (start .args .ends) (at-flip .flip .result) (at-flip2 .flip2 .result)
+          (record { last = M; next = start .args .at .c; then = start .args .sides .c }) _ (at-least .least .result) (
+            at-flip .flip .ensures,
+            at-flip2 .flip2 .ensures,
+            turn-end 2 (now (start .args .c)) (start .args .x) (start .pre .0 .third)
+                (start .pre .1 .0 .at-c) (start .pre .1 .1) (omega arith),
+          ) (at-least .least .ensures)
+          (omega (arith, at-least .least .ensures, at-flip .flip .ensures .fits)) (at-accepted .accepted .ensures) refl
+          (at-chosen .chosen .ensures, at-chosen2 .chosen2 .ensures, pick-same (eqb M (at-least .least .result)) _)
+          (at-turned .turned .ensures, at-turned2 .turned2 .ensures, pick-same (eqb M (at-least .least .result)) _),
+      start .pre .1 .1,
+    )
 
 pub pair-segment-at-spec : {M : Type 1} → statement M
 pair-segment-at-spec =
@@ -55,8 +78,8 @@ pair-segment-at-spec =
     flip-requires-2
     least-requires
     accepted-requires
-    moved-requires
-    moved-requires-2
+    chosen-requires
+    chosen-requires-2
     turned-requires
     turned-requires-2
     nothing-requires

@@ -8,7 +8,7 @@ use Rattle.sweeps.proofs.segment_at.Lts as lts
 use Rattle.sweeps.proofs.accepted.Reads as accepted-reads
 use Rattle.sweeps.proofs.carried.Reads as carried-reads
 use Rattle.sweeps.proofs.least.Reads as least-reads
-use Rattle.sweeps.proofs.moved.Reads as moved-reads
+use Rattle.blocks.proofs.chosen.Reads as chosen-reads
 use Rattle.sweeps.proofs.run_at.Reads as run-at-reads
 use Rattle.sweeps.proofs.turned.Reads as turned-reads
 
@@ -33,14 +33,14 @@ accepted-requires c κs = search needs
 carried-requires : tie.Need-carried-requires
 carried-requires c κs = search needs
 
-moved-requires : tie.Need-moved-requires
-moved-requires c κs = search needs
+chosen-requires : tie.Need-chosen-requires
+chosen-requires c κs = search needs
 
-moved-requires-2 : tie.Need-moved-requires-2
-moved-requires-2 c κs = search needs
+chosen-requires-2 : tie.Need-chosen-requires-2
+chosen-requires-2 c κs = search needs
 
-moved-requires-3 : tie.Need-moved-requires-3
-moved-requires-3 c κs = search needs
+chosen-requires-3 : tie.Need-chosen-requires-3
+chosen-requires-3 c κs = search needs
 
 turned-requires : tie.Need-turned-requires
 turned-requires c κs = search needs
@@ -53,10 +53,25 @@ turned-requires-3 c κs = search needs
 
 returns : tie.Need-returns
 returns c =
-    let a = c .before .before .before .before .before .before .before .before .before .before .before .before .before .before .before .before .before .before .before .before .before .before in
-    segment-made (a .args .plan) (now (a .args .a)) (now (a .args .b)) (now (a .args .c)) (a .args .x) (a .args .at) (a .args .sides) (a .args .ends) (c .before .before .before .before .before .before .before .before .before .before .before .before .before .before .before .before .before .before .run-at .result) (c .before .before .before .before .before .before .before .before .before .before .before .before .before .before .before .before .before .run-at2 .result) (c .before .before .before .before .before .before .before .before .before .before .before .before .before .before .before .before .run-at3 .result) _ (c .before .before .before .before .before .before .before .before .before .before .before .before .before .before .before .least .result)
-    (c .before .before .before .before .before .before .before .before .before .before .before .before .before .before .before .before .before .before .run-at .ensures, c .before .before .before .before .before .before .before .before .before .before .before .before .before .before .before .before .before .run-at2 .ensures, c .before .before .before .before .before .before .before .before .before .before .before .before .before .before .before .before .run-at3 .ensures) (c .before .before .before .before .before .before .before .before .before .before .before .before .before .before .before .least .ensures) (c .before .before .before .before .before .before .before .before .before .before .before .before .before .before .least2 .ensures) (c .before .before .before .before .before .before .before .before .before .before .before .before .before .accepted .ensures) (c .before .before .before .before .before .before .before .before .before .before .before .before .carried .ensures)
-    (c .before .before .before .before .before .before .before .before .before .before .moved .ensures, c .before .before .before .before .before .before .before .before .moved2 .ensures, c .before .before .before .before .before .before .moved3 .ensures) (c .before .before .before .before .turned .ensures, c .before .before .turned2 .ensures, c .turned3 .ensures)
+    let at-turned2 = c .before .before in
+    let at-turned = at-turned2 .before .before in
+    let at-chosen3 = at-turned .before .before in
+    let at-chosen2 = at-chosen3 .before .before in
+    let at-chosen = at-chosen2 .before .before in
+    let at-carried = at-chosen .before .before in
+    let at-accepted = at-carried .before in
+    let at-least2 = at-accepted .before in
+    let at-least = at-least2 .before in
+    let at-run-at3 = at-least .before in
+    let at-run-at2 = at-run-at3 .before in
+    let at-run-at = at-run-at2 .before in
+    let start = at-run-at .before .before .before .before in
+    segment-made (start .args .plan) (now (start .args .a)) (now (start .args .b)) (now (start .args .c)) (start .args .x) (start .args .at)
+    (start .args .sides) (start .args .ends) (at-run-at .run-at .result) (at-run-at2 .run-at2 .result) (at-run-at3 .run-at3 .result) _
+    (at-least .least .result) (at-run-at .run-at .ensures, at-run-at2 .run-at2 .ensures, at-run-at3 .run-at3 .ensures) (at-least .least .ensures)
+    (at-least2 .least2 .ensures) (at-accepted .accepted .ensures) (at-carried .carried .ensures)
+    (at-chosen .chosen .ensures, at-chosen2 .chosen2 .ensures, at-chosen3 .chosen3 .ensures)
+    (at-turned .turned .ensures, at-turned2 .turned2 .ensures, c .turned3 .ensures)
 
 pub segment-at-spec : {M : Type 1} → statement M
 segment-at-spec =
@@ -69,9 +84,9 @@ segment-at-spec =
     least-requires-2
     accepted-requires
     carried-requires
-    moved-requires
-    moved-requires-2
-    moved-requires-3
+    chosen-requires
+    chosen-requires-2
+    chosen-requires-3
     turned-requires
     turned-requires-2
     turned-requires-3

@@ -10,7 +10,7 @@ use Rattle.sweeps.proofs.set_segment_at.Lts as lts
 use Rattle.sweeps.proofs.accepted.Reads as accepted-reads
 use Rattle.sweeps.proofs.flip.Reads as flip-reads
 use Rattle.sweeps.proofs.least.Reads as least-reads
-use Rattle.sweeps.proofs.moved.Reads as moved-reads
+use Rattle.blocks.proofs.chosen.Reads as chosen-reads
 use Rattle.sweeps.proofs.nothing.Reads as nothing-reads
 use Rattle.sweeps.proofs.turned.Reads as turned-reads
 
@@ -32,14 +32,14 @@ least-requires-2 c κs = search needs
 accepted-requires : tie.Need-accepted-requires
 accepted-requires c κs = search needs
 
-moved-requires : tie.Need-moved-requires
-moved-requires c κs = search needs
+chosen-requires : tie.Need-chosen-requires
+chosen-requires c κs = search needs
 
-moved-requires-2 : tie.Need-moved-requires-2
-moved-requires-2 c κs = search needs
+chosen-requires-2 : tie.Need-chosen-requires-2
+chosen-requires-2 c κs = search needs
 
-moved-requires-3 : tie.Need-moved-requires-3
-moved-requires-3 c κs = search needs
+chosen-requires-3 : tie.Need-chosen-requires-3
+chosen-requires-3 c κs = search needs
 
 turned-requires : tie.Need-turned-requires
 turned-requires c κs = search needs
@@ -55,10 +55,25 @@ nothing-requires c κs = search needs
 
 returns : tie.Need-returns
 returns c =
-    let a = c .before .before .before .before .before .before .before .before .before .before .before .before .before .before .before .before .before .before .before .before .before .before in
-    segment-made (setPlan (a .args .table)) (now (a .args .a)) (now (a .args .b)) (now (a .args .c)) (a .args .x) (a .args .at) (a .args .sides) (a .args .ends) (c .before .before .before .before .before .before .before .before .before .before .before .before .before .before .before .before .before .before .flip .result) (c .before .before .before .before .before .before .before .before .before .before .before .before .before .before .before .before .before .flip2 .result) (c .before .before .before .before .before .before .before .before .before .before .before .before .before .before .before .before .flip3 .result) _ (c .before .before .before .before .before .before .before .before .before .before .before .before .before .before .before .least .result)
-    (c .before .before .before .before .before .before .before .before .before .before .before .before .before .before .before .before .before .before .flip .ensures, c .before .before .before .before .before .before .before .before .before .before .before .before .before .before .before .before .before .flip2 .ensures, c .before .before .before .before .before .before .before .before .before .before .before .before .before .before .before .before .flip3 .ensures) (c .before .before .before .before .before .before .before .before .before .before .before .before .before .before .before .least .ensures) (c .before .before .before .before .before .before .before .before .before .before .before .before .before .before .least2 .ensures) (c .before .before .before .before .before .before .before .before .before .before .before .before .before .accepted .ensures) refl
-    (c .before .before .before .before .before .before .before .before .before .before .before .moved .ensures, c .before .before .before .before .before .before .before .before .before .moved2 .ensures, c .before .before .before .before .before .before .before .moved3 .ensures) (c .before .before .before .before .before .turned .ensures, c .before .before .before .turned2 .ensures, c .before .turned3 .ensures)
+    let at-turned3 = c .before in
+    let at-turned2 = at-turned3 .before .before in
+    let at-turned = at-turned2 .before .before in
+    let at-chosen3 = at-turned .before .before in
+    let at-chosen2 = at-chosen3 .before .before in
+    let at-chosen = at-chosen2 .before .before in
+    let at-accepted = at-chosen .before .before in
+    let at-least2 = at-accepted .before in
+    let at-least = at-least2 .before in
+    let at-flip3 = at-least .before in
+    let at-flip2 = at-flip3 .before in
+    let at-flip = at-flip2 .before in
+    let start = at-flip .before .before .before .before in
+    segment-made (setPlan (start .args .table)) (now (start .args .a)) (now (start .args .b)) (now (start .args .c)) (start .args .x)
+    (start .args .at) (start .args .sides) (start .args .ends) (at-flip .flip .result) (at-flip2 .flip2 .result) (at-flip3 .flip3 .result) _
+    (at-least .least .result) (at-flip .flip .ensures, at-flip2 .flip2 .ensures, at-flip3 .flip3 .ensures) (at-least .least .ensures)
+    (at-least2 .least2 .ensures) (at-accepted .accepted .ensures) refl
+    (at-chosen .chosen .ensures, at-chosen2 .chosen2 .ensures, at-chosen3 .chosen3 .ensures)
+    (at-turned .turned .ensures, at-turned2 .turned2 .ensures, at-turned3 .turned3 .ensures)
 
 pub set-segment-at-spec : {M : Type 1} → statement M
 set-segment-at-spec =
@@ -70,9 +85,9 @@ set-segment-at-spec =
     least-requires
     least-requires-2
     accepted-requires
-    moved-requires
-    moved-requires-2
-    moved-requires-3
+    chosen-requires
+    chosen-requires-2
+    chosen-requires-3
     turned-requires
     turned-requires-2
     turned-requires-3

@@ -19,33 +19,61 @@ wide-requires c κs = search needs
 
 mul-end : tie.Need-mul-end
 mul-end c =
-    let a = c .before .before .before in
-    record { fits = omega (arith, held-by (a .args .s) (now (a .args .w)) (a .pre) (c .wide .result) (c .wide .ensures ∙ c .before .word .ensures)) }
+    let at-word = c .before in
+    let start = at-word .before .before in
+    record {
+      fits = omega
+          (arith, held-by (start .args .s) (now (start .args .w)) (start .pre) (c .wide .result) (c .wide .ensures ∙ at-word .word .ensures));
+    }
 
 add-end : tie.Need-add-end
 add-end c =
-    let a = c .before .before .before in
-    record { fits = omega (arith, held-by (a .args .s) (now (a .args .w)) (a .pre) (c .wide .result) (c .wide .ensures ∙ c .before .word .ensures)) }
+    let at-word = c .before in
+    let start = at-word .before .before in
+    record {
+      fits = omega
+          (arith, held-by (start .args .s) (now (start .args .w)) (start .pre) (c .wide .result) (c .wide .ensures ∙ at-word .word .ensures));
+    }
 
 returns : tie.Need-returns
 returns c =
-    let a = c .before .before .before .before in
-    start-none (a .args .s) (now (a .args .w)) (a .pre) (c .before .wide .result) _ (c .before .wide .ensures ∙ c .before .before .word .ensures) refl (c .if1 .taken)
+    let at-wide = c .before in
+    let at-word = at-wide .before in
+    let start = at-word .before .before in
+    start-none (start .args .s) (now (start .args .w)) (start .pre) (at-wide .wide .result) _ (at-wide .wide .ensures ∙ at-word .word .ensures) refl
+    (c .if1 .taken)
 
 word-requires-2 : tie.Need-word-requires-2
 word-requires-2 c κs =
-    let a = c .before .before .before .before in
-    omega (arith, held-by (a .args .s) (now (a .args .w)) (a .pre) (c .before .wide .result) (c .before .wide .ensures ∙ c .before .before .word .ensures), le-mul (a .args .s) (c .before .wide .result) (a .pre .two), c .if1 .left)
+    let at-wide = c .before in
+    let at-word = at-wide .before in
+    let start = at-word .before .before in
+    omega (
+      arith,
+      held-by (start .args .s) (now (start .args .w)) (start .pre) (at-wide .wide .result)
+          (at-wide .wide .ensures ∙ at-word .word .ensures),
+      le-mul (start .args .s) (at-wide .wide .result) (start .pre .two),
+      c .if1 .left,
+    )
 
 returns-2 : tie.Need-returns-2
 returns-2 c =
-    let a = c .before .before .before .before .before .before in
-    start-in (a .args .s) (now (a .args .w)) (a .pre) (c .before .before .before .wide .result) _ (c .before .before .before .wide .ensures ∙ c .before .before .before .before .word .ensures) refl (c .before .before .if1 .left) (sym (c .before .word2 .ensures) ∙ c .if2 .taken)
+    let at-word2 = c .before in
+    let at-if1 = at-word2 .before in
+    let at-wide = at-if1 .before in
+    let at-word = at-wide .before in
+    let start = at-word .before .before in
+    start-in (start .args .s) (now (start .args .w)) (start .pre) (at-wide .wide .result) _ (at-wide .wide .ensures ∙ at-word .word .ensures) refl
+    (at-if1 .if1 .left) (sym (at-word2 .word2 .ensures) ∙ c .if2 .taken)
 
 returns-3 : tie.Need-returns-3
 returns-3 c =
-    let a = c .before .before .before .before .before .before in
-    start-out (a .args .s) (now (a .args .w)) (a .pre) (c .before .before .before .wide .result) _ (c .before .before .before .wide .ensures ∙ c .before .before .before .before .word .ensures) refl (λ e. c .if2 .left (c .before .word2 .ensures ∙ e))
+    let at-word2 = c .before in
+    let at-wide = at-word2 .before .before in
+    let at-word = at-wide .before in
+    let start = at-word .before .before in
+    start-out (start .args .s) (now (start .args .w)) (start .pre) (at-wide .wide .result) _ (at-wide .wide .ensures ∙ at-word .word .ensures) refl
+    (λ e. c .if2 .left (at-word2 .word2 .ensures ∙ e))
 
 pub start-spec : {M : Type 1} → statement M
 start-spec =

@@ -26,13 +26,19 @@ same-length : tie.Need-same-length
 same-length c = search needs
 
 returns : tie.Need-returns
-returns c = rw (c .before .before .before .before .before .if1 .taken) (c .before .before .lay .ensures)
+returns c =
+    let at-lay = c .before .before in
+    let at-if1 = at-lay .before .before .before in
+    rw (at-if1 .if1 .taken) (at-lay .lay .ensures)
 
 returns-2 : tie.Need-returns-2
 returns-2 c =
-    let a = c .before .before .before in
-    let h = rw (c .before .if1 .taken) at (a .pre .2) in
-    rw (c .before .if1 .taken) (laid-not (a .args .s) (now (a .args .o)) (1 + a .args .s * a .args .k) _ (a .args .h) (valueOf (a .args .s) (a .args .v)) (omega arith))
+    let at-if1 = c .before in
+    let start = at-if1 .before .before in
+    let h = rw (at-if1 .if1 .taken) at (start .pre .2) in
+    rw (at-if1 .if1 .taken)
+    (laid-not (start .args .s) (now (start .args .o)) (1 + start .args .s * start .args .k) _ (start .args .h)
+    (valueOf (start .args .s) (start .args .v)) (omega arith))
 
 returns-3 : tie.Need-returns-3
 returns-3 c = rw (c .if1 .left) tt

@@ -21,10 +21,14 @@ only-sets-requires c κs = search needs
 
 sweep-sets-requires : tie.Need-sweep-sets-requires
 sweep-sets-requires c κs =
-    let a = c .before .before .before .before .before .before .before in
-    let e = sets-only (a .args .plan) (c .before .before .only-sets .result) (c .before .before .only-sets .ensures) (c .before .if1 .taken) in (
-      subst (λ (p : Plan). Inputs (p .a) (p .b) (p .c) (now (a .args .a)) (now (a .args .b)) (now (a .args .c))) e (a .pre .0),
-      subst (λ (p : Plan). 1 + p .out * pick (a .args .keep) (length (resultOf p (now (a .args .a)) (now (a .args .b)) (now (a .args .c)))) 0 ≤ length (now (a .args .o))) e (a .pre .1 .1),
+    let at-if1 = c .before in
+    let at-only-sets = at-if1 .before in
+    let start = at-only-sets .before .before .before .before .before in
+    let e = sets-only (start .args .plan) (at-only-sets .only-sets .result) (at-only-sets .only-sets .ensures) (at-if1 .if1 .taken) in (
+      subst (λ (p : Plan). Inputs (p .a) (p .b) (p .c) (now (start .args .a)) (now (start .args .b)) (now (start .args .c))) e (start .pre .0),
+      subst
+          (λ (p : Plan). 1 + p .out * pick (start .args .keep) (length (resultOf p (now (start .args .a)) (now (start .args .b)) (now (start .args .c)))) 0
+          ≤ length (now (start .args .o))) e (start .pre .1 .1),
     )
 
 same-length : tie.Need-same-length
@@ -32,9 +36,14 @@ same-length c = search needs
 
 returns : tie.Need-returns
 returns c =
-    let a = c .before .before .before .before .before .before .before .before .before .before in
-    let e = sets-only (a .args .plan) (c .before .before .before .before .before .only-sets .result) (c .before .before .before .before .before .only-sets .ensures) (c .before .before .before .before .if1 .taken) in
-    subst (λ (p : Plan). Stopped (a .args .keep) (p .out) (a .args .stop) (resultOf p (now (a .args .a)) (now (a .args .b)) (now (a .args .c))) (c .before .before .sweep-sets .result) (c .before .before .sweep-sets .last .1 .1 .1 .1 .1 .1 .0)) (sym e) (c .before .before .sweep-sets .ensures)
+    let at-sweep-sets = c .before .before in
+    let at-if1 = at-sweep-sets .before .before in
+    let at-only-sets = at-if1 .before in
+    let start = at-only-sets .before .before .before .before .before in
+    let e = sets-only (start .args .plan) (at-only-sets .only-sets .result) (at-only-sets .only-sets .ensures) (at-if1 .if1 .taken) in
+    subst (λ (p : Plan). Stopped (start .args .keep) (p .out) (start .args .stop)
+    (resultOf p (now (start .args .a)) (now (start .args .b)) (now (start .args .c))) (at-sweep-sets .sweep-sets .result)
+    (at-sweep-sets .sweep-sets .last .1 .1 .1 .1 .1 .1 .0)) (sym e) (at-sweep-sets .sweep-sets .ensures)
 
 sweep-any-requires : tie.Need-sweep-any-requires
 sweep-any-requires c κs = search needs

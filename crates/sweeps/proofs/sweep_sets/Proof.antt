@@ -3,7 +3,6 @@ use mathlib.Core.Path.{sym, subst}
 use Rattle.sweeps.specs.Sweeps.{Inputs}
 use Rattle.sweeps.specs.Cursors.{PointsAt}
 use Rattle.sweeps.specs.declared.Plan.{Plan}
-use native.Mathlib.Omega.{arith}
 use borrow.Author.Needs.{needs}
 use Rattle.sweeps.proofs.sweep_sets.Statement.{statement}
 use Rattle.sweeps.proofs.sweep_sets.Tie as tie
@@ -18,10 +17,25 @@ set-plan-requires : tie.Need-set-plan-requires
 set-plan-requires c κs = search needs
 
 begin-requires : tie.Need-begin-requires
-begin-requires c κs = let a = c .before .before .before .before .before in subst (λ (p : Plan). Inputs (p .a) (p .b) (p .c) (now (a .args .a)) (now (a .args .b)) (now (a .args .c))) (sym (c .set-plan .ensures)) (a .pre .0)
+begin-requires c κs =
+    let start = c .before .before .before .before .before in
+    subst (λ (p : Plan). Inputs (p .a) (p .b) (p .c) (now (start .args .a)) (now (start .args .b)) (now (start .args .c)))
+    (sym (c .set-plan .ensures)) (start .pre .0)
 
 sweep-pair-requires : tie.Need-sweep-pair-requires
-sweep-pair-requires c κs = let a = c .before .before .before .before .before .before .before .before .before in (a .pre .0, (subst (λ (p : Plan). PointsAt p (now (a .args .a)) (now (a .args .b)) (now (a .args .c)) 0 (c .before .before .before .begin .result .at) (c .before .before .before .begin .result .sides) (c .before .before .before .begin .result .ends)) (c .before .before .before .before .set-plan .ensures) (c .before .before .before .begin .ensures), (c .before .if1 .taken, a .pre .1)))
+sweep-pair-requires c κs =
+    let at-if1 = c .before in
+    let at-begin = at-if1 .before .before in
+    let at-set-plan = at-begin .before in
+    let start = at-set-plan .before .before .before .before .before in (
+      start .pre .0,
+      (
+        subst
+            (λ (p : Plan). PointsAt p (now (start .args .a)) (now (start .args .b)) (now (start .args .c)) 0 (at-begin .begin .result .at)
+            (at-begin .begin .result .sides) (at-begin .begin .result .ends)) (at-set-plan .set-plan .ensures) (at-begin .begin .ensures),
+        (at-if1 .if1 .taken, start .pre .1),
+      ),
+    )
 
 same-length : tie.Need-same-length
 same-length c = search needs
@@ -30,7 +44,18 @@ returns : tie.Need-returns
 returns c = search needs
 
 sweep-three-requires : tie.Need-sweep-three-requires
-sweep-three-requires c κs = let a = c .before .before .before .before .before .before .before .before .before in (a .pre .0, (subst (λ (p : Plan). PointsAt p (now (a .args .a)) (now (a .args .b)) (now (a .args .c)) 0 (c .before .before .before .begin .result .at) (c .before .before .before .begin .result .sides) (c .before .before .before .begin .result .ends)) (c .before .before .before .before .set-plan .ensures) (c .before .before .before .begin .ensures), a .pre .1))
+sweep-three-requires c κs =
+    let at-begin = c .before .before .before in
+    let at-set-plan = at-begin .before in
+    let start = at-set-plan .before .before .before .before .before in (
+      start .pre .0,
+      (
+        subst
+            (λ (p : Plan). PointsAt p (now (start .args .a)) (now (start .args .b)) (now (start .args .c)) 0 (at-begin .begin .result .at)
+            (at-begin .begin .result .sides) (at-begin .begin .result .ends)) (at-set-plan .set-plan .ensures) (at-begin .begin .ensures),
+        start .pre .1,
+      ),
+    )
 
 same-length-2 : tie.Need-same-length-2
 same-length-2 c = search needs

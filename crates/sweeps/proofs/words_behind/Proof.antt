@@ -21,8 +21,9 @@ word-requires c κs = search needs
 
 returns-2 : tie.Need-returns-2
 returns-2 c =
-    let a = c .before .before .before .before in
-    words-three (a .args .s) _ (now (a .args .w)) (a .args .p + 1) (c .if2 .taken) (omega arith) (c .before .word .ensures)
+    let at-word = c .before in
+    let start = at-word .before .before .before in
+    words-three (start .args .s) _ (now (start .args .w)) (start .args .p + 1) (c .if2 .taken) (omega arith) (at-word .word .ensures)
 
 add-word-2 : tie.Need-add-word-2
 add-word-2 c = search needs
@@ -32,9 +33,11 @@ word-requires-2 c κs = search needs
 
 returns-3 : tie.Need-returns-3
 returns-3 c =
-    let a = c .before .before .before .before .before in
-    let k : a .args .p + 2 ≡ a .args .p + 1 + 1 = omega arith in
-    words-four (a .args .s) _ (now (a .args .w)) (a .args .p + 1) (omega arith) (omega arith) (c .before .before .word .ensures) (c .word2 .ensures ∙ ap (λ i. lib.ListN.getD (now (a .args .w)) i 0) k)
+    let at-word = c .before .before in
+    let start = at-word .before .before .before in
+    let k : start .args .p + 2 ≡ start .args .p + 1 + 1 = omega arith in
+    words-four (start .args .s) _ (now (start .args .w)) (start .args .p + 1) (omega arith) (omega arith) (at-word .word .ensures)
+    (c .word2 .ensures ∙ ap (λ i. lib.ListN.getD (now (start .args .w)) i 0) k)
 
 pub words-behind-spec : {M : Type 1} → statement M
 words-behind-spec =

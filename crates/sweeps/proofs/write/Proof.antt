@@ -23,26 +23,50 @@ slice-write-o c = search needs
 
 mul-clear : tie.Need-mul-clear
 mul-clear c =
-    let a = c .before .before .before .before .before .before .before .before .before .before .before in
-    record { fits = omega (arith, all-met (a .args .plan .out) _ (c .before .before .before .before .before .sweep .result) (length (now (a .args .o))) (a .pre .1 .0 .two) (a .pre .1 .1) (c .before .before .before .before .before .sweep .ensures .size)) }
+    let at-sweep = c .before .before .before .before .before in
+    let start = at-sweep .before .before .before .before .before .before in
+    record {
+      fits = omega (
+        arith,
+        all-met (start .args .plan .out) _ (at-sweep .sweep .result) (length (now (start .args .o))) (start .pre .1 .0 .two) (start .pre .1 .1)
+            (at-sweep .sweep .ensures .size),
+      );
+    }
 
 add-clear : tie.Need-add-clear
 add-clear c =
-    let a = c .before .before .before .before .before .before .before .before .before .before .before in
-    record { fits = omega (arith, all-met (a .args .plan .out) _ (c .before .before .before .before .before .sweep .result) (length (now (a .args .o))) (a .pre .1 .0 .two) (a .pre .1 .1) (c .before .before .before .before .before .sweep .ensures .size)) }
+    let at-sweep = c .before .before .before .before .before in
+    let start = at-sweep .before .before .before .before .before .before in
+    record {
+      fits = omega (
+        arith,
+        all-met (start .args .plan .out) _ (at-sweep .sweep .result) (length (now (start .args .o))) (start .pre .1 .0 .two) (start .pre .1 .1)
+            (at-sweep .sweep .ensures .size),
+      );
+    }
 
 clear-requires : tie.Need-clear-requires
 clear-requires c κs = search needs
 
 same-length : tie.Need-same-length
-same-length c = c .before .before .clear .ensures .same ∙ length-set (c .before .before .before .before .before .before .before .before .sweep .last .1 .1 .1 .1 .1 .1 .0) 0 (c .before .before .before .before .before .narrow .result) ∙ c .before .before .before .before .before .before .before .before .sweep .kept .1 .1 .1 .1 .1 .1 .0
+same-length c =
+    let at-clear = c .before .before in
+    let at-narrow = at-clear .before .before .before in
+    let at-sweep = at-narrow .before .before .before in
+    at-clear .clear .ensures .same ∙ length-set (at-sweep .sweep .last .1 .1 .1 .1 .1 .1 .0) 0 (at-narrow .narrow .result)
+    ∙ at-sweep .sweep .kept .1 .1 .1 .1 .1 .1 .0
 
 returns : tie.Need-returns
 returns c =
-    let a = c .before .before .before .before .before .before .before .before .before .before .before .before .before .before in
-    let m = all-met (a .args .plan .out) _ (c .before .before .before .before .before .before .before .before .sweep .result) (length (now (a .args .o))) (a .pre .1 .0 .two) (a .pre .1 .1) (c .before .before .before .before .before .before .before .before .sweep .ensures .size) in
-    finished (a .args .plan .out) (a .pre .1 .0 .two) (c .before .before .before .before .before .before .before .before .sweep .last .1 .1 .1 .1 .1 .1 .0) (c .before .before .clear .last .0) (c .before .before .before .before .before .before .before .before .sweep .result) (c .before .before .before .before .before .narrow .result) (length (now (a .args .o))) _
-    (c .before .before .before .before .before .before .before .before .sweep .kept .1 .1 .1 .1 .1 .1 .0) (c .before .before .before .before .before .before .before .before .sweep .ensures .holds (m .0)) (c .before .before .before .before .before .narrow .ensures) (m .1) (c .before .before .clear .ensures)
+    let at-clear = c .before .before in
+    let at-narrow = at-clear .before .before .before in
+    let at-sweep = at-narrow .before .before .before in
+    let start = at-sweep .before .before .before .before .before .before in
+    let m = all-met (start .args .plan .out) _ (at-sweep .sweep .result) (length (now (start .args .o))) (start .pre .1 .0 .two) (start .pre .1 .1)
+    (at-sweep .sweep .ensures .size) in
+    finished (start .args .plan .out) (start .pre .1 .0 .two) (at-sweep .sweep .last .1 .1 .1 .1 .1 .1 .0) (at-clear .clear .last .0)
+    (at-sweep .sweep .result) (at-narrow .narrow .result) (length (now (start .args .o))) _ (at-sweep .sweep .kept .1 .1 .1 .1 .1 .1 .0)
+    (at-sweep .sweep .ensures .holds (m .0)) (at-narrow .narrow .ensures) (m .1) (at-clear .clear .ensures)
 
 pub write-spec : {M : Type 1} → statement M
 write-spec =

@@ -47,7 +47,7 @@ returns-4 c =
     let k = x .before .before .before in
     let a = k .args in
     last-is (a .form) (a .n) (a .m) (a .bytes .now) _ (x .judge-run .ensures) (y .before .if1 .left) _ (y .judge-run2 .ensures) (c .before .before .before .before .if2 .left) (c .before .before .if3 .left) 0
-    (sym (ap (λ (t : Bool). applies t 14) (one-run (a .form .runs) (a .form .layout .width) _ _ (k .pre .0 .shape) (c .if4 .taken))))
+    (sym (ap (λ (t : Bool). applies t 14) (one-run (a .form .runs) _ _ (c .if4 .taken))))
 
 share-records-requires : tie.Need-share-records-requires
 share-records-requires c κs =

@@ -1,7 +1,7 @@
 use Prim.Native.Nat.{_+_, _*_, _≤_}
 use mathlib.Core.Path.{refl}
 use lib.ListN.{length}
-use Rattle.operations.proofs.Walking.{Left, all-left, no-others, none-left, go-left, go-right, found}
+use Rattle.searches.proofs.Walking.{Left, all-left, no-others, none-left, go-left, go-right, found}
 use Rattle.verdicts.proofs.Walking.{in-bytes}
 use borrow.Author.Needs.{needs}
 use native.Mathlib.Omega.{arith}

@@ -1,0 +1,41 @@
+use denote.Ref.{now}
+use mathlib.Core.Path.{sym, _∙_}
+use Prim.Native.Nat.{_+_}
+use Rattle.blocks.specs.Blocks.{verdict}
+use Rattle.answers.proofs.Turns.{stops, passes, ends}
+use Rattle.blocks.proofs.Judging.{verdict-small}
+use native.Mathlib.Omega.{arith}
+use borrow.Author.Needs.{needs}
+use Rattle.blocks.proofs.judge_two.Statement.{statement}
+use Rattle.blocks.proofs.judge_two.Tie as tie
+use Rattle.blocks.proofs.judge_two.Reads as reads
+use Rattle.blocks.proofs.judge_two.Lts as lts
+use Rattle.blocks.proofs.judge.Reads as judge-reads
+
+judge-requires : tie.Need-judge-requires
+judge-requires c κs = search needs
+
+returns : tie.Need-returns
+returns c =
+    let at-judge = c .before in
+    let start = at-judge .before .before .before in
+    stops (at-judge .judge .result) (verdict (start .args .first) (now (start .args .a))) (start .args .position) _ (at-judge .judge .ensures)
+    (verdict-small (start .args .first) (now (start .args .a))) (c .if1 .taken)
+
+judge-requires-2 : tie.Need-judge-requires-2
+judge-requires-2 c κs = search needs
+
+add-t9 : tie.Need-add-t9
+add-t9 c = search needs
+
+returns-2 : tie.Need-returns-2
+returns-2 c =
+    let at-if1 = c .before in
+    let at-judge = at-if1 .before in
+    let start = at-judge .before .before .before in
+    passes (verdict (start .args .first) (now (start .args .a))) (start .args .position) _ _ (sym (at-judge .judge .ensures) ∙ at-if1 .if1 .left)
+    (ends (c .judge2 .result) (verdict (start .args .second) (now (start .args .b))) (start .args .position + 1) (c .judge2 .ensures)
+    (verdict-small (start .args .second) (now (start .args .b))))
+
+pub judge-two-spec : {M : Type 1} → statement M
+judge-two-spec = tie.close (tie.spec judge-requires returns judge-requires-2 add-t9 returns-2)

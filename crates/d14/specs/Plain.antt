@@ -1,0 +1,60 @@
+-- The plain terms in which the theorems are said: what words say, and what an outcome is.
+use mathlib.Core.Path.{_≡_}
+use mathlib.Core.Bool.{Bool}
+use mathlib.Core.Option.{Option}
+use mathlib.Core.List.{List, [], _∷_}
+use Prim.Native.Nat.{ℕ, _+_, _*_, _≤_, _<_}
+use lib.ListN.{length, getD}
+use Rattle.entries.specs.Entries.{Value, valueAt}
+use Rattle.entries.specs.Sets.{member, M}
+use Rattle.answers.specs.Answers.{given, Outcome, outcome}
+use Rattle.blocks.specs.declared.Layout.{Layout}
+use Rattle.blocks.specs.Blocks.{setLayout, mapLayout, entriesOf, blockOf, verdict}
+
+-- each follows from the other
+pub record Iff (P Q : Type 0) : Type 0 where
+  pub to : P → Q
+  pub from : Q → P
+
+-- a block that a call does not refuse as an input [B4, B5]
+abbrev pub SoundSet : List ℕ → Type 0
+SoundSet w = verdict setLayout w ≡ 0
+
+abbrev pub SoundMap : List ℕ → Type 0
+SoundMap w = verdict mapLayout w ≡ 0
+
+-- [B1, B2] x is in a range of the set block w: some i below word 0 with word 1+2i ≤ x ≤ word 2+2i
+pub record InRange (w : List ℕ) (x : ℕ) : Type 0 where
+  pub index : ℕ
+  pub below : index < getD w 0 0
+  pub low : getD w (1 + 2 * index) 0 ≤ x
+  pub high : x ≤ getD w (2 + 2 * index) 0
+
+-- [B1, B2, B6] x is in an entry of the map block w, with the value v: some i below word 0 with word 1+3i ≤ x ≤ word 2+3i, word 3+3i = v
+pub record InEntry (w : List ℕ) (x v : ℕ) : Type 0 where
+  pub index : ℕ
+  pub below : index < getD w 0 0
+  pub low : getD w (1 + 3 * index) 0 ≤ x
+  pub high : x ≤ getD w (2 + 3 * index) 0
+  pub value : getD w (3 + 3 * index) 0 ≡ v
+
+-- the plain set that a set block names, and the plain assignment that a map block names (`InSet`, `InMap` of specs/Questions: exactly
+-- what its words say)
+abbrev pub In : List ℕ → ℕ → Bool
+In w x = member (entriesOf (setLayout .width) w) x
+
+abbrev pub ValueOf : List ℕ → ℕ → Option Value
+ValueOf w x = valueAt (entriesOf (mapLayout .width) w) x
+
+-- a question's answer, and an accepted change with what it leaves
+abbrev pub answers : List ℕ → Outcome
+answers xs = outcome (given xs) []
+
+abbrev pub yes : Outcome
+yes = answers (1 ∷ [])
+
+abbrev pub no : Outcome
+no = answers (0 ∷ [])
+
+abbrev pub leaves : List ℕ → Outcome
+leaves after = outcome (given []) (after ∷ [])

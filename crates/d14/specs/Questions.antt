@@ -1,0 +1,65 @@
+-- WHAT IS ASKED OF A LIST, by its meaning. Each call is said to answer, of a sound block; on any other block it is refused by R1, R2, R3.
+use mathlib.Core.Path.{_≡_}
+use mathlib.Core.Bool.{true, false}
+use mathlib.Core.Option.{none, some}
+use mathlib.Core.List.{List, [], _∷_}
+use Prim.Native.Nat.{ℕ, suc, _+_, _*_, _≤_, _<_}
+use lib.ListN.{getD}
+use Rattle.entries.specs.Sets.{M, pastM}
+use Rattle.entries.specs.Questions.{meeting}
+use Rattle.entries.proofs.Questions.{count}
+use Rattle.blocks.specs.Blocks.{setLayout, entriesOf, wordsOf}
+use Rattle.blocks.specs.Steps.{Lent}
+use Rattle.answers.specs.Answers.{Outcome}
+use Rattle.sets.specs.Calls.{memberCall, rangeAtCall, sizeCall, leastMemberCall, leastNonMemberCall, setWindowCall, equalCall, withinCall, disjointCall}
+use Rattle.searches.specs.Parts.{wordsAt}
+use Rattle.d14.specs.Plain.{Iff, SoundSet, InRange, In, answers, yes, no}
+
+-- [B1, B2] the plain set is exactly what the words say
+abbrev pub InSet : Type 0
+InSet = (w : List ℕ) (x : ℕ) → SoundSet w → Iff (In w x ≡ true) (InRange w x)
+
+-- yes exactly if P holds, and no exactly if it does not
+abbrev pub Answers : Outcome → Type 0 → Type 0
+Answers call P = Iff (call ≡ yes) P × Iff (call ≡ no) (P → ⊥)
+
+-- [S1, D2] member: yes exactly if some range holds x
+abbrev pub Member : Type 0
+Member = (w : List ℕ) (x : ℕ) → SoundSet w → Answers (memberCall w x) (InRange w x)
+
+-- [S2] the range at index i, or none if i is at least n
+abbrev pub RangeAt : Type 0
+RangeAt = (w : List ℕ) (i : ℕ) → SoundSet w
+    → (i < getD w 0 0 → rangeAtCall w i ≡ answers (getD w (1 + 2 * i) 0 ∷ getD w (2 + 2 * i) 0 ∷ [])) × (getD w 0 0 ≤ i → rangeAtCall w i ≡ answers [])
+
+-- [S3] size: empty exactly if nothing is a member; else k, where k + 1 numbers are members
+abbrev pub Size : Type 0
+Size = (w : List ℕ) → SoundSet w → Lent w
+    → Iff (sizeCall w ≡ answers []) ((x : ℕ) → In w x ≡ false) × ((k : ℕ) → Iff (sizeCall w ≡ answers (k ∷ [])) (suc k ≡ count (In w) pastM))
+
+-- [S4] y is the least member at or above x; or there is none
+abbrev pub LeastMember : Type 0
+LeastMember = (w : List ℕ) (x : ℕ) → SoundSet w
+    → ((y : ℕ) → leastMemberCall w x ≡ answers (y ∷ []) → (x ≤ y) × (In w y ≡ true) × ((z : ℕ) → x ≤ z → z < y → In w z ≡ false))
+    × Iff (leastMemberCall w x ≡ answers []) ((z : ℕ) → x ≤ z → In w z ≡ false)
+
+-- [S5] y is the least non-member at or above x; none exactly if every number from x to M is a member
+abbrev pub LeastNonMember : Type 0
+LeastNonMember = (w : List ℕ) (x : ℕ) → SoundSet w
+    → ((y : ℕ) → leastNonMemberCall w x ≡ answers (y ∷ []) → (x ≤ y) × (y ≤ M) × (In w y ≡ false) × ((z : ℕ) → x ≤ z → z < y → In w z ≡ true))
+    × Iff (leastNonMemberCall w x ≡ answers []) ((z : ℕ) → x ≤ z → z ≤ M → In w z ≡ true)
+
+-- [S7, D2] of two sets: equal, the first within the second, no common number; looked at in 0 to M alone
+abbrev pub Equal : Type 0
+Equal = (w v : List ℕ) → SoundSet w → SoundSet v → Lent w → Lent v → Answers (equalCall w v) ((x : ℕ) → x ≤ M → In w x ≡ In v x)
+
+abbrev pub Within : Type 0
+Within = (w v : List ℕ) → SoundSet w → SoundSet v → Lent w → Answers (withinCall w v) ((x : ℕ) → x ≤ M → In w x ≡ true → In v x ≡ true)
+
+abbrev pub Disjoint : Type 0
+Disjoint = (w v : List ℕ) → SoundSet w → SoundSet v → Lent w → Answers (disjointCall w v) ((x : ℕ) → x ≤ M → In w x ≡ true → In v x ≡ true → ⊥)
+
+-- [S6, M7, G2] a window's words: those of all ranges, or entries, that share a number with a..b, in order
+abbrev pub SetWindow : Type 0
+SetWindow = (w : List ℕ) (a b : ℕ) → SoundSet w → a ≤ b → wordsAt w (setWindowCall w a b) ≡ wordsOf (meeting a b (entriesOf (setLayout .width) w))
+

@@ -1,0 +1,29 @@
+use denote.Ref.{now}
+use mathlib.Core.List.{[]}
+use Rattle.answers.specs.Answers.{at}
+use Rattle.answers.proofs.Turns.{answered-by}
+use Rattle.searches.specs.Calls.{windowRefusals, windowRefusalCall}
+use borrow.Author.Needs.{needs}
+use Rattle.searches.proofs.window_refusal.Statement.{statement}
+use Rattle.searches.proofs.window_refusal.Tie as tie
+use Rattle.searches.proofs.window_refusal.Reads as reads
+use Rattle.searches.proofs.window_refusal.Lts as lts
+use Rattle.answers.proofs.judged_of.Reads as judged-of-reads
+use Rattle.searches.proofs.window_verdict.Reads as window-verdict-reads
+
+window-verdict-requires : tie.Need-window-verdict-requires
+window-verdict-requires c κs = search needs
+
+judged-of-requires : tie.Need-judged-of-requires
+judged-of-requires c κs = search needs
+
+returns : tie.Need-returns
+unfolding windowRefusalCall
+returns c =
+    let at-window-verdict = c .before in
+    let start = at-window-verdict .before .before in
+    answered-by (windowRefusals (start .args .layout) (now (start .args .block)) (start .args .a) (start .args .b))
+    (at 0 (at-window-verdict .window-verdict .result)) (at-window-verdict .window-verdict .ensures) [] (c .judged-of .result) (c .judged-of .ensures)
+
+pub window-refusal-spec : {M : Type 1} → statement M
+window-refusal-spec = tie.close (tie.spec window-verdict-requires judged-of-requires returns)

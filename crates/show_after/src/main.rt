@@ -1,4 +1,0 @@
-// The program on a set with a byte after it.
-fn main() {
-    shown::run();
-}

@@ -1,4 +1,0 @@
-// The program on the empty set.
-fn main() {
-    shown::run();
-}

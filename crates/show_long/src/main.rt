@@ -1,4 +1,0 @@
-// The program on 65,537 bytes.
-fn main() {
-    shown::run();
-}

@@ -1,4 +1,0 @@
-// The program on the form of a map.
-fn main() {
-    shown::run();
-}

@@ -1,4 +1,0 @@
-// The program on an empty input.
-fn main() {
-    shown::run();
-}

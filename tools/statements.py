@@ -1,0 +1,109 @@
+#!/usr/bin/env python3
+"""Writes docs/STATEMENTS.md: every definition and every theorem that must be believed, with the comment above it and no proof, and the
+contract of every call that a user is given. With --check, says whether the page that is there is the one that it would write. The page
+ends with how many lines a reader has to believe."""
+import os
+import re
+import sys
+
+sys.path.insert(0, os.path.dirname(os.path.abspath(__file__)))
+import antt  # noqa: E402
+
+PAGE = os.path.join(antt.ROOT, "docs", "STATEMENTS.md")
+
+READING = """# Statements
+
+Made by `tools/statements.py`; do not edit. What a reader has to believe, and nothing else: the theorems, the contracts of the calls, and the definitions that both are said in. The prover checks the rest.
+
+## How to read the notation
+
+- `name : A → B → C` declares something that takes an A and a B and gives a C; the lines below it, `name x y = ..`, say what. Application is written without parentheses: `member es x` is `member` of `es` and `x`. A theorem is declared in the same way: it takes what is supposed and gives what follows, so `(x : ℕ) → x ≤ M → P x` reads 'for every number x, if x is at most M, then P of x'.
+- `×` is 'and', `⊎` is 'or', `P → ⊥` is 'not P', `≡` is 'equals'. `ℕ` are the whole numbers from 0 on, without end; `+`, `*` do not wrap; `m - n` is 0 where n is the larger; `/` rounds down.
+- `[]` is the empty list, `x ∷ xs` is x and then the list xs, `xs ++ ys` the one after the other. `length`, `take n`, `drop n` are as usual; `getD w i 0` is element i of w, counted from 0, and 0 past its end; `replicate n x` is x, n times.
+- `none` and `some v` are nothing and the value v. `true`, `false`, `not`, `andb`, `orb` are truth values and what is computed with them; `leb m n`, `ltb m n`, `eqb m n` are the tests ≤, <, =, as truth values; `pick t a b` is a if t is true, and else b.
+- `record R .. where` lists what an R has; `r .field` is that part of r. Of a record that is a statement, each field is one thing that it says.
+- `λ x. e` is the function that gives e for x.
+- In a contract `now (block .entry)` is the list of words lent as `block` when the call begins, `now (block .exit)` what it is afterwards; `r` is the answer. `judgedSays r`, `truthSays r`, .. give the answer's numbers in the table's terms.
+- Two definitions are long and need not be read: `build`, which computes the list of a function (`built` and `canonical` say that it is the one sound list that names exactly that function), and `put`, which is `build` for a change of a..b.
+"""
+
+# The pages' parts: a heading, and the files whose public declarations it holds, the most important first.
+PARTS = [
+    ("The theorems", "what the calls promise, said of their outcomes", [("demands", "specs")]),
+    ("Answers and outcomes", "refusals in their order, and what an answer says", [("answers", "specs")]),
+    ("The calls", "what each call answers and leaves", [(c, "specs") for c in
+        ("sets", "fits", "maps", "bulletins", "forms", "told", "host", "edits", "searches", "operations")]),
+    ("Blocks of words", "what words say", [("blocks", "specs")]),
+    ("Bytes", "records, numbers, the check", [("numbers", "specs"), ("records", "specs")]),
+    ("Lists of entries", "what a list names", [("entries", "specs")]),
+]
+# What the code promises itself; no theorem and no contract of a user's call names it.
+INNER = {"Steps"}
+# Two laws that stand for a definition that need not be read.
+LAWS = [("entries", "Building", "built"), ("entries", "Canon", "canonical")]
+
+
+def contracts(crate):
+    """The public functions of a crate that users are given: comment, signature and contract."""
+    folder = os.path.join("crates", crate, "src")
+    for name in sorted(os.listdir(os.path.join(antt.ROOT, folder))):
+        for m in re.finditer(r'((?:^//[^\n]*\n)*)(?:^#\[no_mangle\]\n)?^(pub (?:extern "C" )?fn .*?)\n\{', antt.read(folder, name), re.M | re.S):
+            comment = " ".join(line[2:].strip() for line in m.group(1).splitlines())
+            yield comment, m.group(2).splitlines()
+
+
+def entry(comment, lines):
+    shown = [comment, ""] if comment else []
+    return shown + ["```", *lines, "```", ""], len(lines)
+
+
+def files(crate, kind):
+    folder = os.path.join(antt.ROOT, "crates", crate, kind)
+    if not os.path.isdir(folder):
+        return []
+    return [(module, path) for owner, module, path in antt.antt_files(kind) if owner == crate and module not in INNER]
+
+
+def page():
+    out, counts = [READING], {}
+    for heading, words, wanted in PARTS:
+        out += [f"## {heading}: {words}", ""]
+        counts[heading] = 0
+        for crate, kind in wanted:
+            for module, path in files(crate, kind):
+                out += [f"### `{crate}`, {module}", ""]
+                for item in antt.items(path):
+                    text, n = entry(item.comment, item.lines)
+                    out += text
+                    counts[heading] += n
+    out += ["### Two laws that stand for `build`", ""]
+    for crate, module, name in LAWS:
+        item = next(i for i in antt.items(os.path.join("crates", crate, "proofs", module + ".antt")) if i.name == name)
+        text, n = entry(item.comment, item.statement())
+        out += text
+        counts["Lists of entries"] += n
+    out += ["## The contracts: of the calls that users are given", ""]
+    counts["The contracts"] = 0
+    for crate in re.findall(r"^## `(\w+)`", antt.read("docs", "CALLS.md"), re.M):
+        out += [f"### `{crate}`", ""]
+        for comment, lines in contracts(crate):
+            text, n = entry(comment, lines)
+            out += text
+            counts["The contracts"] += n
+    out += ["## How much there is to believe", "", "| part | lines |", "|---|---|"]
+    out += [f"| {k} | {n} |" for k, n in counts.items()] + [f"| together | {sum(counts.values())} |", ""]
+    return "\n".join(out)
+
+
+def main():
+    made = page()
+    if sys.argv[1:] == ["--check"]:
+        if not os.path.exists(PAGE) or antt.read("docs", "STATEMENTS.md") != made:
+            sys.exit("statements: docs/STATEMENTS.md is not what the crates say: run tools/statements.py")
+        print("statements: docs/STATEMENTS.md is what the crates say")
+        return
+    with open(PAGE, "w", encoding="utf-8") as f:
+        f.write(made)
+
+
+main()
