@@ -205,3 +205,16 @@ refused-only fs lent xs after n p i left only e =
     let m = refused-named fs lent xs after n p left e in
     let k = only (m .index) (m .number) (m .place) in
     record { before = λ j h. m .first .before j (omega arith); here = λ z. m .first .here (ap (numberAt fs) k ∙ z) }
+
+-- an outcome without its values: what a companion question answers
+abbrev pub bare : Outcome → Outcome
+bare (outcome (given xs) lent) = outcome (given []) lent
+bare (outcome (refused n p) lent) = outcome (refused n p) lent
+
+pub turn-bare : (fs : List Finding) (lent : List (List ℕ)) (o : Outcome) → bare (inTurn fs lent o) ≡ inTurn fs lent (bare o)
+turn-bare [] lent o = refl
+turn-bare (f ∷ fs) lent o = go (f .number) (turn-bare fs lent o)
+  where
+    go : (v : ℕ) → bare (inTurn fs lent o) ≡ inTurn fs lent (bare o) → bare (judged v (f .place) lent (inTurn fs lent o)) ≡ judged v (f .place) lent (inTurn fs lent (bare o))
+    go zero e = e
+    go (suc v) e = refl

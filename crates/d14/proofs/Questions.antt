@@ -61,9 +61,10 @@ asked-sound w answer s = clear-turn (input 0 setLayout w ∷ []) [] _ (s, tt)
 
 -- a question that is true or not, where being true is P
 decided : (call : Outcome) (b : Bool) (P : Type 0) → call ≡ outcome (truth b) [] → (b ≡ true → P) → (P → b ≡ true) → Answers call P
-decided call b P e f g =
-    (record { to = λ q. f (told-yes b (sym e ∙ q)); from = λ p. e ∙ ap (λ (t : Bool). outcome (truth t) []) (g p) },
-     record { to = λ q p. true≢false (sym (g p) ∙ told-no b (sym e ∙ q)); from = λ n. e ∙ ap (λ (t : Bool). outcome (truth t) []) (not-true b (λ t. n (f t))) })
+decided call b P e f g = (
+  record { to = λ q. f (told-yes b (sym e ∙ q)); from = λ p. e ∙ ap (λ (t : Bool). outcome (truth t) []) (g p) },
+  record { to = λ q p. true≢false (sym (g p) ∙ told-no b (sym e ∙ q)); from = λ n. e ∙ ap (λ (t : Bool). outcome (truth t) []) (not-true b (λ t. n (f t))) },
+)
   where
     told-yes : (t : Bool) → outcome (truth t) [] ≡ yes → t ≡ true
     told-yes true q = refl

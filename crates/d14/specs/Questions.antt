@@ -62,4 +62,3 @@ Disjoint = (w v : List ℕ) → SoundSet w → SoundSet v → Lent w → Answers
 -- [S6, M7, G2] a window's words: those of all ranges, or entries, that share a number with a..b, in order
 abbrev pub SetWindow : Type 0
 SetWindow = (w : List ℕ) (a b : ℕ) → SoundSet w → a ≤ b → wordsAt w (setWindowCall w a b) ≡ wordsOf (meeting a b (entriesOf (setLayout .width) w))
-

@@ -25,7 +25,7 @@ use Rattle.records.proofs.Items.{counts-two}
 use Rattle.runs.specs.Runs.{entriesIn, lengths}
 use Rattle.verdicts.specs.declared.Form.{Form}
 use Rattle.verdicts.specs.Forms.{ofSet, startSize, sizeOf, formCounts, formEntries, formRefusals, outRefusals}
-use Rattle.forms.specs.Calls.{storedIn, readCall, judgeCall, oneNumber, firstOf, memberCall}
+use Rattle.forms.specs.Calls.{storedIn, readCall, judgeCall, oneNumber, firstOf, memberOfFormCall}
 use Rattle.forms.specs.Steps.{Stored, Stores}
 use Rattle.verdicts.specs.Steps.{Shape, lone, pair, FormKind, eachOf, itemSize, secondAt, runsHere}
 use Rattle.verdicts.proofs.Whole.{set-kind, start-long, counted}
@@ -143,16 +143,16 @@ module _ (b : List ℕ) (v : Finding) (fv : FirstOf (formRefusals ofSet b) v) wh
   judge-good z n e =
       given-by (formRefusals ofSet b) v fv [] (outcome (given (formCounts ofSet b)) []) (outcome (given (n ∷ [])) []) z (ap (λ (i : ℕ). outcome (given (i ∷ [])) []) e)
 
-  pub member-refused : (x : ℕ) → (v .number ≡ 0 → ⊥) → 16 + v .number ≡ memberCall b x
-  unfolding memberCall
+  pub member-refused : (x : ℕ) → (v .number ≡ 0 → ⊥) → 16 + v .number ≡ memberOfFormCall b x
+  unfolding memberOfFormCall
   member-refused x nz = ap oneNumber (refused-first (formRefusals ofSet b) v fv nz [] (outcome (truth (member (firstOf (formEntries ofSet b)) x)) []))
 
   pub member-held : Bytes b → v .number ≡ 0 → (n : ℕ) → n ≡ num2 b 3 → 7 + 21 * n ≤ length b
   member-held y z n e = omega (arith, accepted-size ofSet set-kind b y (fv .clear z), ap (sizeOf ofSet) (counted ofSet set-kind b))
 
   pub member-told : v .number ≡ 0 → (n : ℕ) → n ≡ num2 b 3 → (x : ℕ) (t : Bool) → t ≡ member (entriesIn 0x10 2 n (drop 7 b)) x
-      → oneNumber (outcome (truth t) []) ≡ memberCall b x
-  unfolding memberCall
+      → oneNumber (outcome (truth t) []) ≡ memberOfFormCall b x
+  unfolding memberOfFormCall
   member-told z n e x t m =
       ap oneNumber
       (given-by (formRefusals ofSet b) v fv [] (outcome (truth (member (firstOf (formEntries ofSet b)) x)) []) (outcome (truth t) []) z

@@ -104,5 +104,5 @@ oneNumber (outcome (refused number place) lent) = 16 + number
 
 -- «A C host asks with a byte buffer and a number whether the number is a member of the set in the buffer. .. The whole form is judged
 -- before 1 or 0 is given.»
-unfoldable pub memberCall : List ℕ → ℕ → ℕ
-memberCall b x = oneNumber (inTurn (formRefusals ofSet b) [] (outcome (truth (member (firstOf (formEntries ofSet b)) x)) []))
+unfoldable pub memberOfFormCall : List ℕ → ℕ → ℕ
+memberOfFormCall b x = oneNumber (inTurn (formRefusals ofSet b) [] (outcome (truth (member (firstOf (formEntries ofSet b)) x)) []))

@@ -11,7 +11,7 @@ ghost use Rattle.numbers.specs.Numbers.{over};
 ghost use Rattle.verdicts.specs.Forms.{formOf};
 ghost use Rattle.forms.specs.Calls.{storedIn, readCall, readSetCall, readMapCall, readBulletinCall};
 ghost use Rattle.forms.specs.Calls.{blockRefusals, noSpace, writeCall, writeSetCall, writeMapCall, writeBulletinCall};
-ghost use Rattle.forms.specs.Calls.{judgeSetCall, formSays, memberCall};
+ghost use Rattle.forms.specs.Calls.{judgeSetCall, formSays, memberOfFormCall};
 ghost use Rattle.verdicts.specs.Steps.{FormKind, eachOf, runsHere};
 ghost use Rattle.forms.specs.Steps.{Stores, Puts, countHeld};
 use answers::Finding;
@@ -217,7 +217,7 @@ pub fn judge_set(bytes: &[u8]) -> FormRead
 // Whether x is a member of the set whose byte form the bytes are: 1 member, 0 not, 16 plus the number of the refusal where they are
 // not the byte form of a set.
 pub fn member(bytes: &[u8], x: u64) -> u64
-    ensures { λ r. ⌜ r ≡ memberCall (now (bytes .entry)) x ⌝ }
+    ensures { λ r. ⌜ r ≡ memberOfFormCall (now (bytes .entry)) x ⌝ }
 {
     let v = verdicts::judge_form(bytes, verdicts::SET_FORM);
     if v.number != 0 {

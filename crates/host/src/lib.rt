@@ -2,53 +2,15 @@
 // Each contract is the outcome of the call's own definition, told in C by one definition, `inC` of specs/Told.
 ghost use mathlib.Core.Path.{_≡_};
 ghost use mathlib.Core.List.{[], _∷_};
-ghost use Prim.Native.Nat.{_+_, _*_, _≤_};
-ghost use lib.Dec.{leb};
-ghost use lib.ListN.{length, drop};
-ghost use Rattle.entries.specs.Build.{andb};
-ghost use Rattle.entries.specs.Sets.{member};
-ghost use Rattle.answers.specs.Answers.{given};
-ghost use Rattle.blocks.specs.Blocks.{SoundBlock, setLimit, mapLimit};
-ghost use Rattle.searches.specs.Calls.{windowAtCall};
-ghost use Rattle.sets.specs.Calls.{makeEmptyCall, memberCall, rangeAtCall, sizeCall, leastMemberCall, leastNonMemberCall, insertCall, removeCall, equalCall, withinCall, disjointCall, unionCall, intersectionCall, differenceCall, symmetricDifferenceCall, complementCall};
+ghost use Rattle.sets.specs.Calls.{makeEmptyCall, memberCall, rangeAtCall, sizeCall, leastMemberCall, leastNonMemberCall, setWindowAtCall, insertCall, removeCall, equalCall, withinCall, disjointCall, unionCall, intersectionCall, differenceCall, symmetricDifferenceCall, complementCall};
 ghost use Rattle.fits.specs.Calls.{firstFitCall, bestFitCall, reserveFirstCall, reserveBestCall};
-ghost use Rattle.maps.specs.Calls.{lookUpCall, assignCall, eraseCall, overlayCall, restrictionCall, domainCall};
+ghost use Rattle.maps.specs.Calls.{lookUpCall, assignCall, eraseCall, mapWindowAtCall, siteOverFactoryAtCall, overlayCall, restrictionCall, domainCall};
 ghost use Rattle.bulletins.specs.Calls.{applyCall, foldCall};
-ghost use Rattle.forms.specs.Calls.{readSetCall, readMapCall, readBulletinCall, judgeSetCall, writeSetCall, writeMapCall, writeBulletinCall};
-ghost use Rattle.forms.specs.Calls as of-forms;
+ghost use Rattle.forms.specs.Calls.{readSetCall, readMapCall, readBulletinCall, judgeSetCall, memberOfFormCall};
+ghost use Rattle.forms.specs.Calls.{writeSetCall, writeMapCall, writeBulletinCall};
 ghost use Rattle.told.specs.Told.{told, reply, inC, Tells};
-ghost use Rattle.host.specs.Calls.{decidingAt, siteOverFactoryAtCall};
 use forms::FormRead;
 use told::Told;
-
-// The part of a window, as its offset and its length.
-fn tell_window(block: &[u64], s: usize, limit: usize, a: u64, b: u64) -> Told
-    requires { ⌜ 2 ≤ s ⌝ }
-    ensures { λ r. ⌜ reply r [] ≡ inC (windowAtCall s limit (now (block .entry)) a b) ⌝ }
-{
-    let v = searches::window_verdict(block, s, limit, a, b);
-    if v != 0 {
-        return told::refused(v, 0);
-    }
-    let p = searches::part_at(block, s, limit, a, b);
-    told::two_values(p.place as u64, p.length as u64)
-}
-
-// The entry of two sound maps that decides x, as the offset and the length of its part and the position of its map.
-fn tell_deciding(site: &[u64], factory: &[u64], x: u64) -> Told
-    requires { ⌜ SoundBlock 3 mapLimit (now site) × SoundBlock 3 mapLimit (now factory) ⌝ }
-    ensures { λ r. ⌜ r ≡ told (given (decidingAt (now (site .entry)) (now (factory .entry)) x)) ⌝ }
-{
-    let a = searches::entry_place(site, 3, blocks::MAP_LIMIT, x);
-    if a != 0 {
-        return told::three_values(a as u64, 3, 0);
-    }
-    let b = searches::entry_place(factory, 3, blocks::MAP_LIMIT, x);
-    if b != 0 {
-        return told::three_values(b as u64, 3, 1);
-    }
-    told::three_values(0, 0, 0)
-}
 
 // Makes the block the empty set, or the empty map, whatever stood in it.
 #[no_mangle]
@@ -98,12 +60,12 @@ pub extern "C" fn wimblorque_set_least_non_member(block: &[u64], x: u64) -> Told
     told::tell_found(sets::least_non_member(block, x))
 }
 
-// The part of the block with the ranges that share a number with a..b: its offset and its length.
+// The part of the block with the ranges that share a number with a..b: its offset and its length, or no values where there are none.
 #[no_mangle]
 pub extern "C" fn wimblorque_set_window(block: &[u64], a: u64, b: u64) -> Told
-    ensures { λ r. ⌜ reply r [] ≡ inC (windowAtCall 2 setLimit (now (block .entry)) a b) ⌝ }
+    ensures { λ r. ⌜ Tells r [] (setWindowAtCall (now (block .entry)) a b) ⌝ }
 {
-    tell_window(block, 2, blocks::SET_LIMIT, a, b)
+    told::tell_parted(sets::window_at(block, a, b))
 }
 
 // Makes every number of a..b a member.
@@ -246,29 +208,21 @@ pub extern "C" fn wimblorque_map_erase(block: &mut [u64], a: u64, b: u64) -> Tol
     told::tell_judged(maps::erase(block, a, b))
 }
 
-// The part of the block with the entries that share a number with a..b: its offset and its length.
+// The part of the block with the entries that share a number with a..b: its offset and its length, or no values where there are none.
 #[no_mangle]
 pub extern "C" fn wimblorque_map_window(block: &[u64], a: u64, b: u64) -> Told
-    ensures { λ r. ⌜ reply r [] ≡ inC (windowAtCall 3 mapLimit (now (block .entry)) a b) ⌝ }
+    ensures { λ r. ⌜ Tells r [] (mapWindowAtCall (now (block .entry)) a b) ⌝ }
 {
-    tell_window(block, 3, blocks::MAP_LIMIT, a, b)
+    told::tell_parted(maps::window_at(block, a, b))
 }
 
 // The entry that decides x, the site map's where it has a value, else the factory map's: the offset and the length of its part, and the
-// position of the map that holds it.
+// position of the map that holds it; or no values where no entry decides.
 #[no_mangle]
 pub extern "C" fn wimblorque_map_site_over_factory(site: &[u64], factory: &[u64], x: u64) -> Told
-    ensures { λ r. ⌜ reply r [] ≡ inC (siteOverFactoryAtCall (now (site .entry)) (now (factory .entry)) x) ⌝ }
+    ensures { λ r. ⌜ Tells r [] (siteOverFactoryAtCall (now (site .entry)) (now (factory .entry)) x) ⌝ }
 {
-    let v = blocks::judge(site, 3, blocks::MAP_LIMIT);
-    if v != 0 {
-        return told::refused(v, 0);
-    }
-    let u = blocks::judge(factory, 3, blocks::MAP_LIMIT);
-    if u != 0 {
-        return told::refused(u, 1);
-    }
-    tell_deciding(site, factory, x)
+    told::tell_decided(maps::site_over_factory_at(site, factory, x))
 }
 
 // The upper map's value where it has one, else the lower's, into out.
@@ -402,7 +356,7 @@ pub extern "C" fn wimblorque_bulletin_write(
 // are not the byte form of a set.
 #[no_mangle]
 pub extern "C" fn wimblorque_member(bytes: &[u8], x: u64) -> u64
-    ensures { λ r. ⌜ r ≡ of-forms.memberCall (now (bytes .entry)) x ⌝ }
+    ensures { λ r. ⌜ r ≡ memberOfFormCall (now (bytes .entry)) x ⌝ }
 {
     forms::member(bytes, x)
 }

@@ -7,19 +7,20 @@ use native.Mathlib.Omega.{arith}
 use native.Mathlib.Decide.{decLt}
 use lib.Dec.{eqb}
 use lib.ListN.{length, take, drop}
-use borrow.Author.Tests.{eq-eqb, ne-eqb}
+use borrow.Author.Tests.{eq-eqb, ne-eqb, eqb-true}
 use denote.Ref.{RefT, now}
 use Rattle.entries.specs.Entries.{valueAt}
 use Rattle.entries.specs.Build.{pick}
 use Rattle.entries.specs.Sets.{has}
-use Rattle.answers.specs.Answers.{Answer, given, outcome}
-use Rattle.blocks.specs.Blocks.{mapLayout}
+use Rattle.answers.specs.Answers.{Answer, given, refused, Outcome, outcome, judged, inTurn, handed}
+use Rattle.answers.proofs.Turns.{bare, turn-bare}
+use Rattle.blocks.specs.Blocks.{mapLayout, verdict}
 use Rattle.searches.specs.declared.Part.{Part}
-use Rattle.searches.specs.Parts.{part, IsPart}
+use Rattle.searches.specs.Parts.{part, noPart, wordsAt, IsPart}
 use Rattle.searches.specs.Calls.{entryPart}
 use Rattle.searches.specs.Steps.{EntryOf}
 use Rattle.maps.specs.declared.Deciding.{Deciding}
-use Rattle.maps.specs.Calls.{mapEntries, partIn, atPosition, deciding, decidingSays}
+use Rattle.maps.specs.Calls.{mapEntries, partIn, atPosition, deciding, decidingSays, siteRefusals, siteRefusalCall, siteOverFactoryCall, siteOverFactoryAtCall}
 use Rattle.maps.specs.Steps.{DecidingOf}
 
 -- by whether the site map has a value
@@ -79,3 +80,48 @@ module _ {site factory : List ℕ} {x : ℕ} {d : Deciding} (g : DecidingOf site
   pub decided-entry : (d .length ≡ 0 → ⊥)
       → outcome (given (d .place ∷ d .length ∷ d .position ∷ [])) [] ≡ outcome (decidingSays (deciding site factory x)) []
   decided-entry n = said-as false (ne-eqb (d .length) 0 n)
+
+-- the deciding entry that an answer with an offset, a length and a position names, and where there are none, none
+abbrev pub decidingIn : Outcome → Deciding
+decidingIn (outcome (given []) lent) = partIn 0 noPart
+decidingIn (outcome (given (place ∷ [])) lent) = partIn 0 noPart
+decidingIn (outcome (given (place ∷ words ∷ [])) lent) = partIn 0 noPart
+decidingIn (outcome (given (place ∷ words ∷ position ∷ xs)) lent) = partIn position (part place words)
+decidingIn (outcome (refused n p) lent) = partIn 0 noPart
+
+-- its words
+abbrev pub wordsOfTwo : List ℕ → List ℕ → Deciding → List ℕ
+wordsOfTwo site factory d = wordsAt (atPosition (d .position) site factory) (part (d .place) (d .length))
+
+-- the offset, the length and the position name the words that are handed back
+pub part-of-deciding : (site factory : List ℕ) (x : ℕ)
+    → wordsOfTwo site factory (decidingIn (siteOverFactoryAtCall site factory x)) ≡ wordsOfTwo site factory (siteOverFactoryCall site factory x)
+unfolding siteOverFactoryAtCall siteOverFactoryCall
+part-of-deciding site factory x = go (verdict mapLayout site) (verdict mapLayout factory)
+  where
+    d : Deciding
+    d = deciding site factory x
+
+    named : (t : Bool) → eqb (d .length) 0 ≡ t
+        → wordsOfTwo site factory (decidingIn (outcome (pick t (given []) (given (d .place ∷ d .length ∷ d .position ∷ []))) [])) ≡ wordsOfTwo site factory d
+    named true e = ap (λ (n : ℕ). take n (drop (d .place) (atPosition (d .position) site factory))) (sym (eqb-true (d .length) 0 e))
+    named false e = refl
+
+    go : (v u : ℕ) → wordsOfTwo site factory (decidingIn (judged v 0 [] (judged u 1 [] (outcome (decidingSays d) []))))
+        ≡ wordsOfTwo site factory (handed (judged v 0 [] (judged u 1 [] (outcome (given []) []))) d (partIn 0 noPart))
+    go zero zero = named (eqb (d .length) 0) refl
+    go zero (suc u) = refl
+    go (suc v) u = refl
+
+-- the companion question answers the same refusals: C needs no call for it
+pub deciding-companion : (site factory : List ℕ) (x : ℕ) → bare (siteOverFactoryAtCall site factory x) ≡ siteRefusalCall site factory
+unfolding siteOverFactoryAtCall siteRefusalCall
+deciding-companion site factory x =
+    turn-bare (siteRefusals site factory) [] (outcome (decidingSays d) []) ∙ ap (inTurn (siteRefusals site factory) []) (go (eqb (d .length) 0))
+  where
+    d : Deciding
+    d = deciding site factory x
+
+    go : (t : Bool) → bare (outcome (pick t (given []) (given (d .place ∷ d .length ∷ d .position ∷ []))) []) ≡ outcome (given []) []
+    go true = refl
+    go false = refl

@@ -15,9 +15,9 @@ use Rattle.entries.specs.Entries.{Entry}
 use Rattle.entries.specs.Build.{pick}
 use Rattle.entries.specs.Questions.{meeting, whollyBelow}
 use Rattle.entries.proofs.Windows.{Passed, Begun, meeting-part, in-order as ends-in-order}
-use Rattle.answers.specs.Answers.{Outcome, outcome, given, refused, judged, at, applies, handed}
+use Rattle.answers.specs.Answers.{Outcome, outcome, given, refused, judged, at, applies, handed, inTurn}
 use Rattle.answers.specs.Steps.{Clear, FirstOf}
-use Rattle.answers.proofs.Turns.{stops, passes, ends}
+use Rattle.answers.proofs.Turns.{stops, passes, ends, bare, turn-bare}
 use Rattle.blocks.specs.declared.Layout.{Layout}
 use Rattle.blocks.specs.Blocks.{entriesOf, itemsOf, wordsOf, verdict}
 use Rattle.blocks.specs.Steps.{zero-item}
@@ -26,7 +26,7 @@ use Rattle.blocks.proofs.Refusing.{in-order}
 use Rattle.blocks.proofs.Items.{entries-count, held}
 use Rattle.blocks.proofs.Judging.{verdict-small, verdict-sound}
 use Rattle.blocks.proofs.Words.{items-drop, items-take, write-back}
-use Rattle.searches.specs.Calls.{windowPlace, windowLength, windowPart, windowRefusals, windowCall, windowAtCall}
+use Rattle.searches.specs.Calls.{windowPlace, windowLength, windowPart, windowRefusals, windowCall, windowAtCall, windowRefusalCall}
 use Rattle.searches.specs.declared.Part.{Part}
 use Rattle.searches.specs.Parts.{part, noPart, wordsAt, IsPart, partSays}
 use Rattle.searches.specs.Steps.{FirstFrom, Windowed, PartOf}
@@ -198,3 +198,16 @@ module _ (l : Layout) (w : List ℕ) (a b : ℕ) {p : Part} (g : PartOf (l .widt
 
   pub part-some : (p .length ≡ 0 → ⊥) → outcome (given (p .place ∷ p .length ∷ [])) [] ≡ outcome (partSays (windowPart (l .width) w a b)) []
   part-some n = said-as false (ne-eqb (p .length) 0 n)
+
+-- the companion question answers the same refusals: C needs no call for it
+pub window-companion : (l : Layout) (w : List ℕ) (a b : ℕ) → bare (windowAtCall l w a b) ≡ windowRefusalCall l w a b
+unfolding windowAtCall windowRefusalCall
+window-companion l w a b =
+    turn-bare (windowRefusals l w a b) [] (outcome (partSays p) []) ∙ ap (inTurn (windowRefusals l w a b) []) (go (eqb (p .length) 0))
+  where
+    p : Part
+    p = windowPart (l .width) w a b
+
+    go : (t : Bool) → bare (outcome (pick t (given []) (given (p .place ∷ p .length ∷ []))) []) ≡ outcome (given []) []
+    go true = refl
+    go false = refl
