@@ -84,7 +84,7 @@ fn wide(x: u8) -> u64 {
 fn published(name: &[u8], text: &[u8]) {
     if text.len() <= 33 {
         io::write_all(1, name);
-        io::print_hex(1, records::check_of(text, records::MARK), 4);
+        io::print_hex(1, numbers::check_of(text, verdicts::MARK), 4);
         io::write_all(1, b"\n");
     }
 }

@@ -4,13 +4,15 @@ use mathlib.Core.List.{List, [], _∷_, _++_}
 use mathlib.Core.Path.{_≡_, refl}
 use lib.ListN.{take, drop, replicate}
 use Rattle.entries.specs.Entries.{entry}
+use Rattle.entries.specs.Sets.{intersection}
+use Rattle.entries.specs.Bulletins.{shareb}
 use Rattle.answers.specs.Answers.{outcome, given, refuse}
 use Rattle.blocks.specs.Blocks.{blockOf}
-use Rattle.records.specs.Check.{fletcher, checkOf}
-use Rattle.records.specs.Records.{bodyLength, headVerdict, startVerdict, itemVerdict}
-use Rattle.runs.specs.Runs.{runOf, entriesIn, runVerdict}
-use Rattle.forms.specs.Forms.{formOf, setForm, mapForm, formEntries, formVerdict}
-use Rattle.forms.specs.Calls.{readCall, readSetCall, readMapCall}
+use Rattle.numbers.specs.Check.{fletcher, checkOf}
+use Rattle.records.specs.Records.{bodyLength, said, saying, recordVerdict}
+use Rattle.runs.specs.Runs.{runOf, entriesIn, runRefusals, runsOf, runsIn, runsRefusals}
+use Rattle.verdicts.specs.Forms.{formOf, setForm, mapForm, bulletinForm, formEntries, formRefusals}
+use Rattle.forms.specs.Calls.{readCall, readSetCall, readMapCall, readBulletinCall, memberOfFormCall}
 
 abbrev caseH : List ℕ
 caseH = 0xC5 ∷ 0x3A ∷ 0x01 ∷ 0x00 ∷ 0x01 ∷ 0x04 ∷ 0x02 ∷ 0xC5 ∷ 0x3A ∷ 0x10 ∷ 0 ∷ 0 ∷ 0 ∷ 0 ∷ 0 ∷ 0 ∷ 0 ∷ 5 ∷ 0 ∷ 0 ∷ 0 ∷ 0 ∷ 0 ∷ 0 ∷ 0 ∷ 9 ∷ 0x47 ∷ 0x1E ∷ []
@@ -24,14 +26,28 @@ set-refusals :
     ∷ readSetCall (0xC5 ∷ 0x3B ∷ drop 2 caseH) [] ∷ readSetCall (mapForm []) [] ∷ readSetCall (caseH ++ (0 ∷ [])) [] ∷ readSetCall caseH [] ∷ readSetCall caseH (7 ∷ 7 ∷ []) ∷ []
     ≡ refuse 8 0 ([] ∷ []) ∷ refuse 8 0 ([] ∷ []) ∷ refuse 8 7 ([] ∷ []) ∷ refuse 8 7 ([] ∷ [])
     ∷ refuse 9 0 ([] ∷ []) ∷ refuse 10 0 ([] ∷ []) ∷ refuse 13 28 ([] ∷ []) ∷ refuse 1 0 ([] ∷ []) ∷ refuse 5 0 ((7 ∷ 7 ∷ []) ∷ []) ∷ []
-unfolding formOf runOf readCall formVerdict formEntries runVerdict entriesIn startVerdict itemVerdict headVerdict bodyLength checkOf fletcher blockOf
+unfolding formOf runsOf runOf saying readCall formRefusals formEntries runsRefusals runRefusals runsIn entriesIn said recordVerdict bodyLength checkOf fletcher blockOf
 set-refusals = refl
 
 -- 12 blames the later of two items: backwards, touching in a set, touching with the same value in a map; other values may touch
 contents :
     readSetCall (setForm (entry 9 5 [] ∷ [])) [] ∷ readSetCall (setForm (entry 1 4 [] ∷ entry 5 6 [] ∷ [])) []
-    ∷ readMapCall (mapForm (entry 1 4 (2 ∷ []) ∷ entry 5 6 (2 ∷ []) ∷ [])) [] ∷ readMapCall (mapForm (entry 1 4 (2 ∷ []) ∷ entry 5 6 (3 ∷ []) ∷ [])) (replicate 8 9) ∷ []
+    ∷ readMapCall (mapForm (entry 1 4 (2 ∷ []) ∷ entry 5 6 (2 ∷ []) ∷ [])) []
+    ∷ readMapCall (mapForm (entry 1 4 (2 ∷ []) ∷ entry 5 6 (3 ∷ []) ∷ [])) (replicate 8 9) ∷ []
     ≡ refuse 12 7 ([] ∷ []) ∷ refuse 12 28 ([] ∷ [])
     ∷ refuse 12 36 ([] ∷ []) ∷ outcome (given []) ((2 ∷ 1 ∷ 4 ∷ 2 ∷ 5 ∷ 6 ∷ 3 ∷ 0 ∷ []) ∷ []) ∷ []
-unfolding formOf runOf readCall formVerdict formEntries runVerdict entriesIn startVerdict itemVerdict headVerdict bodyLength checkOf fletcher blockOf
+unfolding formOf runsOf runOf saying readCall formRefusals formEntries runsRefusals runRefusals runsIn entriesIn said recordVerdict bodyLength checkOf fletcher blockOf
 contents = refl
+
+-- a bulletin that releases 1..4 and withdraws 9..9, and one whose sets overlap
+bulletins :
+    readBulletinCall (bulletinForm (entry 1 4 [] ∷ []) (entry 9 9 [] ∷ [])) (7 ∷ 7 ∷ 7 ∷ []) (7 ∷ 7 ∷ 7 ∷ 7 ∷ [])
+    ∷ readBulletinCall (bulletinForm (entry 1 4 [] ∷ []) (entry 3 9 [] ∷ [])) [] [] ∷ []
+    ≡ outcome (given []) ((1 ∷ 1 ∷ 4 ∷ []) ∷ (1 ∷ 9 ∷ 9 ∷ 0 ∷ []) ∷ []) ∷ refuse 14 0 ([] ∷ [] ∷ []) ∷ []
+unfolding formOf runsOf runOf saying readCall formRefusals formEntries runsRefusals runRefusals runsIn entriesIn said recordVerdict bodyLength checkOf fletcher blockOf shareb intersection
+bulletins = refl
+
+-- «1 member, 0 not, 16 plus the refusal number»
+asked : memberOfFormCall caseH 9 ∷ memberOfFormCall caseH 4 ∷ memberOfFormCall (take 27 caseH) 9 ∷ [] ≡ 1 ∷ 0 ∷ 24 ∷ []
+unfolding memberOfFormCall formRefusals formEntries runsRefusals runRefusals runsIn entriesIn said recordVerdict bodyLength checkOf fletcher
+asked = refl

@@ -1,91 +1,178 @@
--- The laws of the byte form. `start`, `kind`, `s` and `limit` are those of sets (`set-kinds`) or of maps (`map-kinds`) in proofs/Whole.
-use Prim.Native.Nat.{ℕ, _+_, _-_, _*_, _<_, _≤_}
-use mathlib.Core.List.{List, [], _∷_}
-use mathlib.Core.Path.{_≡_, refl, sym, ap, ap₂, _∙_}
+-- The laws of the byte form, for every form: those of 01 are `set-kind`, `map-kind` and `bulletin-kind` in proofs/Whole.
+use Prim.Native.Nat.{ℕ, suc, _+_, _-_, _*_, _<_, _≤_}
+use mathlib.Core.List.{List, [], _∷_, _++_}
+use mathlib.Core.Bool.{Bool, true, false}
+use mathlib.Core.Path.{_≡_, refl, sym, subst, ap, ap₂, _∙_}
 use native.Mathlib.Omega.{arith}
-use lib.ListN.{length, getD, take, drop, length-drop}
+use lib.Dec.{ltb, eqb}
+use lib.ListN.{length, getD, take, drop, replicate, length-drop, length-append, length-replicate}
 use lib.Seq.{take-at, drop-at, length-take-le}
-use borrow.Author.Tests.{le-ltb, ne-eqb}
+use borrow.Author.Tests.{ltb-false, eqb-false, le-ltb, ne-eqb}
 use Rattle.entries.specs.Entries.{Entry, Sound}
-use Rattle.answers.specs.Answers.{outcome, given}
-use Rattle.blocks.specs.Blocks.{setLimit, mapLimit, capacity, entriesOf, wordsOf, blockOf}
-use Rattle.blocks.proofs.Words.{Shaped, items-shaped, items-length}
-use Rattle.blocks.proofs.Judging.{verdict-sound, room}
-use Rattle.records.specs.Numbers.{Bytes, over, patch}
-use Rattle.forms.specs.Forms.{formOf, formEntries, formVerdict}
-use Rattle.forms.specs.Calls.{readCall, writeCall}
-use Rattle.forms.specs.Steps.{FormKind}
-use Rattle.runs.proofs.Running.{Fit}
-use Rattle.forms.proofs.Whole.{set-kinds, map-kinds, made, whole, back, made-size}
-use Rattle.forms.proofs.Outcomes.{read-inv, write-inv, block-entries, block-verdict}
+use Rattle.entries.specs.Build.{pick}
+use Rattle.answers.specs.Answers.{Outcome, outcome, given, inTurn, applies}
+use Rattle.answers.specs.Steps.{Clear}
+use Rattle.answers.proofs.Turns.{turn-accepted, clear-turn, applies-clear}
+use Rattle.blocks.specs.Blocks.{capacity, entriesOf, wordsOf, blockOf, verdict}
+use Rattle.blocks.specs.declared.Layout.{Layout}
+use Rattle.blocks.proofs.Words.{Shaped, items-shaped, items-length, words-length, read-back}
+use Rattle.blocks.proofs.Judging.{verdict-sound, sound-verdict, room-words}
+use Rattle.blocks.proofs.Refusing.{some-words, room-fits}
+use Rattle.numbers.specs.Numbers.{Bytes, over, patch}
+use Rattle.runs.specs.Runs.{lengths}
+use Rattle.runs.proofs.Running.{clear-split, clear-join}
+use Rattle.runs.proofs.Several.{Each, Fine, shapes}
+use Rattle.verdicts.specs.declared.Form.{Form}
+use Rattle.verdicts.specs.Forms.{formOf, sizeOf, formEntries, sharing, overlap, formRefusals, noBlocks, noRooms, outRefusals}
+use Rattle.forms.specs.Calls.{storedIn, readCall, heldIn, inputs, noSpace, blockRefusals, writeRefusals, writtenAt, writeCall}
+use Rattle.verdicts.specs.Steps.{FormKind}
+use Rattle.verdicts.proofs.Whole.{Formed, made, back, whole, size}
 
--- b is the byte form of the entries es, which are sound, take s words each, are at most as many as the limit, and fit 64-bit words
-pub record Formed (start kind s limit : ℕ) (b : List ℕ) (es : List Entry) : Type 0 where
-  pub form : b ≡ formOf start kind es
-  pub sound : Sound es
-  pub shaped : Shaped s es
-  pub within : length es ≤ limit
-  pub fit : Fit (wordsOf es)
+-- the block of sound entries is sound, and says them
+module _ (l : Layout) (L : ℕ) (es : List Entry) (two : 2 ≤ l .width) (h : Shaped (l .width) es) where
+  block-entries : entriesOf (l .width) (blockOf L es) ≡ es
+  unfolding blockOf
+  block-entries = read-back (l .width) two es (replicate (L - (1 + length (wordsOf es))) 0) h
 
-module _ (start kind s limit : ℕ) (k : FormKind start kind s limit) where
-  -- «acceptance exactly of byte forms»: only byte forms are accepted, those of the entries that are then read
-  pub accepted-formed : (b : List ℕ) → Bytes b → formVerdict start kind s limit b ≡ given [] → Formed start kind s limit b (formEntries s b)
-  accepted-formed b y e =
-      let m = made start kind s limit k b y e in
-      record { form = m .form; sound = m .sound; shaped = m .shaped; within = m .within; fit = m .fit }
+  block-verdict : Sound es → 0 < L → length es ≤ capacity l L → verdict l (blockOf L es) ≡ 0
+  unfolding blockOf
+  block-verdict d p c =
+      let z = L - (1 + length (wordsOf es)) in
+      let lb : length (blockOf L es) ≡ L =
+      omega (arith, length-append (wordsOf es) (replicate z 0), length-replicate {A = ℕ} z 0, words-length (l .width) es h, room-words l L (length es) p c) in
+      sound-verdict l (blockOf L es) record { some = omega arith; fits = rw lb c; sound = rw block-entries d }
 
-  -- and each byte form is accepted, with its entries
-  pub formed-accepted : (b : List ℕ) (es : List Entry) → Formed start kind s limit b es → (formVerdict start kind s limit b ≡ given []) × (formEntries s b ≡ es)
-  formed-accepted b es f = (
-    ap (formVerdict start kind s limit) (f .form) ∙ whole start kind s limit k es (f .shaped) (f .sound) (f .within),
-    ap (formEntries s) (f .form) ∙ back start kind s limit k es (f .shaped),
-  )
+-- an output that has words, and room
+pub has-words : (l : ℕ) → 0 < l → applies (eqb l 0) 1 ≡ 0
+has-words l h = rw (ne-eqb l 0 (λ z. omega arith))
 
-  -- «Sizes: set 7+21n, map 7+29n»: for s = 2 and s = 3, 8 * s + 5 is 21 and 29
-  pub accepted-size : (b : List ℕ) → Bytes b → formVerdict start kind s limit b ≡ given [] → length b ≡ 7 + (8 * s + 5) * length (formEntries s b)
-  accepted-size b y e = made-size start kind s limit k b y e
+pub has-room : (c n : ℕ) → n ≤ c → applies (ltb c n) 5 ≡ 0
+has-room c n h = rw (le-ltb c n h)
 
-  -- one byte form, one list; that a list has one byte form is `formOf`
-  pub one-list : (es fs : List Entry) → Shaped s es → Shaped s fs → formOf start kind es ≡ formOf start kind fs → es ≡ fs
-  one-list es fs p q e = sym (back start kind s limit k es p) ∙ ap (formEntries s) e ∙ back start kind s limit k fs q
+-- blocks that hold runs, and blocks judged
+module _ (layout : Layout) (two : 2 ≤ layout .width) where
+  abbrev s : ℕ
+  s = layout .width
+
+  held-stored : (outs : List (List ℕ)) (runs : List (List Entry)) → length outs ≡ length runs → Each (Shaped s) runs → heldIn layout (storedIn outs runs) ≡ runs
+  held-stored [] [] l h = refl
+  held-stored [] (es ∷ runs) l h = absurd (omega arith)
+  held-stored (w ∷ outs) [] l h = absurd (omega arith)
+  held-stored (w ∷ outs) (es ∷ runs) l h = ap₂ _∷_ (block-entries layout (length w) es two (h .0)) (held-stored outs runs (omega arith) (h .1))
+
+  sound-stored : (i j q : ℕ) (outs : List (List ℕ)) (runs : List (List Entry)) → Clear (noBlocks i (lengths outs)) → Clear (noRooms layout j (lengths outs) (lengths runs))
+      → Each (Fine s (layout .limit)) runs → Clear (inputs layout q (storedIn outs runs))
+  sound-stored i j q [] runs c d h = tt
+  sound-stored i j q (w ∷ outs) [] c d h = tt
+  sound-stored i j q (w ∷ outs) (es ∷ runs) c d h =
+      let g = room-fits layout (length w) es (d .0) in
+      (block-verdict layout (length w) es two (h .0 .shaped) (h .0 .sound) (some-words (length w) (c .0)) g,
+      sound-stored (suc i) (suc j) (suc q) outs runs (c .1) (d .1) (h .1))
+
+  pub held-fine : (q : ℕ) (ws : List (List ℕ)) → Clear (inputs layout q ws) → Each (Fine s (layout .limit)) (heldIn layout ws)
+  held-fine q [] c = tt
+  held-fine q (w ∷ ws) c =
+      let d = verdict-sound layout w (c .0) in
+      let n = getD w 0 0 in
+      let h = items-shaped s two n (drop 1 w) (omega (arith, room-words layout (length w) n (d .some) (d .fits), length-drop 1 w)) in
+      (record { sound = d .sound; shaped = h; within = omega (arith, items-length s n (drop 1 w), d .fits) }, held-fine (suc q) ws (c .1))
+
+many-stored : (outs : List (List ℕ)) (runs : List (List Entry)) → length outs ≡ length runs → length (storedIn outs runs) ≡ length runs
+many-stored [] [] l = refl
+many-stored [] (es ∷ runs) l = absurd (omega arith)
+many-stored (w ∷ outs) [] l = absurd (omega arith)
+many-stored (w ∷ outs) (es ∷ runs) l = ap suc (many-stored outs runs (omega arith))
+
+pub many-held : (layout : Layout) (ws : List (List ℕ)) → length (heldIn layout ws) ≡ length ws
+many-held layout [] = refl
+many-held layout (w ∷ ws) = ap suc (many-held layout ws)
+
+-- «Refusal 15 exactly if ..»
+pub space-clear : (p size len : ℕ) → applies (noSpace p size len) 15 ≡ 0 → (p ≤ len) × (size ≤ len - p)
+space-clear p size len e = go (ltb len p) refl (ltb (len - p) size) refl (applies-clear (noSpace p size len) 14 e)
+  where
+    go : (t : Bool) → ltb len p ≡ t → (u : Bool) → ltb (len - p) size ≡ u → pick t true u ≡ false → (p ≤ len) × (size ≤ len - p)
+    go true a u b e = absurd (let z : _≡_ {A = ℕ} 0 1 = cc in omega arith)
+    go false a true b e = absurd (let z : _≡_ {A = ℕ} 0 1 = cc in omega arith)
+    go false a false b e = (ltb-false len p a, ltb-false (len - p) size b)
+
+pub space-there : (p size len : ℕ) → p ≤ len → size ≤ len - p → applies (noSpace p size len) 15 ≡ 0
+space-there p size len h l = rw (le-ltb len p h, le-ltb (len - p) size l)
+
+module _ (f : Form) (k : FormKind f) where
+  -- «acceptance exactly of byte forms»: only byte forms are accepted, those of the runs that are then read
+  pub accepted-formed : (b : List ℕ) → Bytes b → Clear (formRefusals f b) → Formed f b (formEntries f b)
+  accepted-formed = made f k
+
+  -- and each byte form is accepted, with its runs
+  pub formed-accepted : (b : List ℕ) (runs : List (List Entry)) → Formed f b runs → Clear (formRefusals f b) × (formEntries f b ≡ runs)
+  formed-accepted b runs g =
+      let h = shapes (f .layout .width) (f .layout .limit) runs (g .fine) in
+      (subst (λ (x : List ℕ). Clear (formRefusals f x)) (sym (g .form)) (whole f k runs (g .many) h (g .fine) (g .apart)),
+      ap (formEntries f) (g .form) ∙ back f k runs (g .many) h)
+
+  -- «Sizes»
+  pub accepted-size : (b : List ℕ) → Bytes b → Clear (formRefusals f b) → length b ≡ sizeOf f (lengths (formEntries f b))
+  accepted-size b y c =
+      let g = made f k b y c in
+      ap length (g .form) ∙ size f k (formEntries f b) (g .many) (shapes (f .layout .width) (f .layout .limit) (formEntries f b) (g .fine))
+
+  -- one byte form names one list for each run; that these have one byte form is `formOf`
+  pub one-form : (runs others : List (List Entry)) → length runs ≡ f .runs → length others ≡ f .runs → Each (Shaped (f .layout .width)) runs
+      → Each (Shaped (f .layout .width)) others → formOf f runs ≡ formOf f others → runs ≡ others
+  one-form runs others n m h g e = sym (back f k runs n h) ∙ ap (formEntries f) e ∙ back f k others m g
 
   -- what was read, written into enough bytes, gives back the bytes read
-  pub read-written : (b out w bytes : List ℕ) (p : ℕ) → Bytes b → readCall start kind s limit b out ≡ outcome (given []) (w ∷ [])
-      → p + length b ≤ length bytes → writeCall start kind s limit w bytes p ≡ outcome (given (length b ∷ [])) (patch p b bytes ∷ [])
-  unfolding writeCall
-  read-written b out w bytes p y e h =
-      let r = read-inv start kind s limit b out w e in
-      let m = made start kind s limit k b y (r .0) in
-      let es = formEntries s b in
-      let v = block-verdict s limit (length out) es (k .item .two) (m .shaped) (m .sound) (r .1 .some) (r .1 .fits) in
-      let i = block-entries s limit (length out) es (k .item .two) (m .shaped) in
-      let f : formOf start kind (entriesOf s (blockOf (length out) es)) ≡ b = ap (formOf start kind) i ∙ sym (m .form) in
-      rw (r .1 .block, v, f, le-ltb (length bytes) p (omega arith), le-ltb (length bytes - p) (length b) (omega arith))
+  pub read-written : (b : List ℕ) (outs ws : List (List ℕ)) (bytes : List ℕ) (p : ℕ) → Bytes b → length outs ≡ f .runs
+      → readCall f b outs ≡ outcome (given []) ws → p + length b ≤ length bytes
+      → writeCall f ws bytes p ≡ outcome (given (length b ∷ [])) (patch p b bytes ∷ [])
+  unfolding readCall writeCall
+  read-written b outs ws bytes p y n e h =
+      let es = formEntries f b in
+      let t = turn-accepted (formRefusals f b ++ outRefusals (f .layout) (lengths outs) (lengths es)) outs (outcome (given []) (storedIn outs es)) [] ws e in
+      let c = clear-split (formRefusals f b) (outRefusals (f .layout) (lengths outs) (lengths es)) (t .0) in
+      let d = clear-split (noBlocks 0 (lengths outs)) (noRooms (f .layout) 0 (lengths outs) (lengths es)) (c .1) in
+      let g = made f k b y (c .0) in
+      let w : storedIn outs es ≡ ws = cc in
+      let l : length outs ≡ length es = n ∙ sym (g .many) in
+      let i : heldIn (f .layout) ws ≡ es =
+      ap (heldIn (f .layout)) (sym w) ∙ held-stored (f .layout) (k .first .two) outs es l (shapes (f .layout .width) (f .layout .limit) es (g .fine)) in
+      let v : Clear (inputs (f .layout) 0 ws) =
+      subst (λ (x : List (List ℕ)). Clear (inputs (f .layout) 0 x)) w (sound-stored (f .layout) (k .first .two) 0 0 0 outs es (d .0) (d .1) (g .fine)) in
+      let form : formOf f (heldIn (f .layout) ws) ≡ b = ap (formOf f) i ∙ sym (g .form) in
+      let o : applies (sharing (heldIn (f .layout) ws)) 14 ≡ 0 = ap (λ (x : List (List Entry)). applies (sharing x) 14) i ∙ rw (g .apart) in
+      let u = space-there p (length b) (length bytes) (omega arith) (omega arith) in
+      ap (λ (x : List ℕ). inTurn (writeRefusals f ws (length x) (length bytes) p) (bytes ∷ []) (writtenAt p x bytes)) form
+      ∙ clear-turn (writeRefusals f ws (length b) (length bytes) p) (bytes ∷ []) (writtenAt p b bytes)
+      (clear-join (blockRefusals f ws) _ (clear-join (inputs (f .layout) 0 ws) (overlap (heldIn (f .layout) ws) ∷ []) v (o, tt)) (u, tt))
 
   -- what was written, read into enough words, gives the same words, and 0 to the end
-  pub written-read : (w bytes bytes' out : List ℕ) (p n : ℕ) → writeCall start kind s limit w bytes p ≡ outcome (given (n ∷ [])) (bytes' ∷ [])
-      → 0 < length out → length (entriesOf s w) ≤ capacity s limit (length out)
-      → readCall start kind s limit (take n (drop p bytes')) out ≡ outcome (given []) (blockOf (length out) (entriesOf s w) ∷ [])
-  unfolding readCall
-  written-read w bytes bytes' out p n e o c =
-      let t = write-inv start kind s limit w bytes p n bytes' e in
-      let d = verdict-sound s limit w (t .0) in
-      let es = entriesOf s w in
-      let l = items-length s (getD w 0 0) (drop 1 w) in
-      let h : Shaped s es = items-shaped s (k .item .two) (getD w 0 0) (drop 1 w) (omega (arith, room s limit (length w) (getD w 0 0) (d .some) (d .fits), length-drop 1 w)) in
-      let g = formOf start kind es in
+  pub written-read : (ws : List (List ℕ)) (bytes bytes' : List ℕ) (outs : List (List ℕ)) (p n : ℕ) → length ws ≡ f .runs
+      → writeCall f ws bytes p ≡ outcome (given (n ∷ [])) (bytes' ∷ [])
+      → Clear (outRefusals (f .layout) (lengths outs) (lengths (heldIn (f .layout) ws)))
+      → readCall f (take n (drop p bytes')) outs ≡ outcome (given []) (storedIn outs (heldIn (f .layout) ws))
+  unfolding readCall writeCall
+  written-read ws bytes bytes' outs p n m e c =
+      let es = heldIn (f .layout) ws in
+      let g = formOf f es in
+      let t = turn-accepted (writeRefusals f ws (length g) (length bytes) p) (bytes ∷ []) (writtenAt p g bytes) (n ∷ []) (bytes' ∷ []) e in
+      let a = clear-split (blockRefusals f ws) _ (t .0) in
+      let i = clear-split (inputs (f .layout) 0 ws) (overlap es ∷ []) (a .0) in
+      let d = held-fine (f .layout) (k .first .two) 0 ws (i .0) in
+      let h = shapes (f .layout .width) (f .layout .limit) es d in
+      let u = space-clear p (length g) (length bytes) (a .1 .0) in
+      let x : length g ≡ n = cc in
+      let z : patch p g bytes ≡ bytes' = cc in
       let part : take n (drop p bytes') ≡ g =
-      ap₂ (λ (m : ℕ) (x : List ℕ). take m (drop p x)) (t .1 .count) (t .1 .laid)
-      ∙ ap (take (length g)) (drop-at (take p bytes) (over g (drop p bytes)) p (length-take-le p bytes (t .1 .above)))
+      ap₂ (λ (j : ℕ) (y : List ℕ). take j (drop p y)) (sym x) (sym z)
+      ∙ ap (take (length g)) (drop-at (take p bytes) (over g (drop p bytes)) p (length-take-le p bytes (u .0)))
       ∙ take-at g (drop (length g) (drop p bytes)) (length g) refl in
-      let v = whole start kind s limit k es h (d .sound) (omega (arith, d .fits)) in
-      let b = back start kind s limit k es h in
-      rw (part, v, b, ne-eqb (length out) 0 (λ z. omega arith), le-ltb (capacity s limit (length out)) (length es) c)
-
--- «set 7+21n»
-pub set-size : (b : List ℕ) → Bytes b → formVerdict 0x01 0x10 2 setLimit b ≡ given [] → length b ≡ 7 + 21 * length (formEntries 2 b)
-set-size = accepted-size 0x01 0x10 2 setLimit set-kinds
-
--- «map 7+29n»
-pub map-size : (b : List ℕ) → Bytes b → formVerdict 0x02 0x11 3 mapLimit b ≡ given [] → length b ≡ 7 + 29 * length (formEntries 3 b)
-map-size = accepted-size 0x02 0x11 3 mapLimit map-kinds
+      let r = many-held (f .layout) ws ∙ m in
+      let v = whole f k es r h d (applies-clear (sharing es) 13 (i .1 .0)) in
+      let q = back f k es r h in
+      ap (λ (y : List ℕ). inTurn (formRefusals f y ++ outRefusals (f .layout) (lengths outs) (lengths (formEntries f y))) outs
+      (outcome (given []) (storedIn outs (formEntries f y)))) part
+      ∙ ap (λ (y : List (List Entry)). inTurn (formRefusals f g ++ outRefusals (f .layout) (lengths outs) (lengths y)) outs
+      (outcome (given []) (storedIn outs y))) q
+      ∙ clear-turn (formRefusals f g ++ outRefusals (f .layout) (lengths outs) (lengths es)) outs (outcome (given []) (storedIn outs es))
+      (clear-join (formRefusals f g) (outRefusals (f .layout) (lengths outs) (lengths es)) v c)

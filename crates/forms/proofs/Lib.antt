@@ -1,7 +1,4 @@
-pub mod Verdicts
-pub mod Whole
-pub mod Writing
-pub mod Answering
-pub mod Outcomes
 pub mod Forms
+pub mod Reading
+pub mod Writing
 pub mod Cases

@@ -1,3 +1,2 @@
-pub mod Forms
 pub mod Calls
 pub mod Steps

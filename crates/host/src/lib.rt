@@ -2,22 +2,14 @@
 // Each contract is the outcome of the call's own definition, told in C by one definition, `inC` of specs/Told.
 ghost use mathlib.Core.Path.{_≡_};
 ghost use mathlib.Core.List.{[], _∷_};
-ghost use Prim.Native.Nat.{_+_, _*_, _≤_};
-ghost use lib.Dec.{leb};
-ghost use lib.ListN.{length, drop};
-ghost use Rattle.entries.specs.Build.{andb};
-ghost use Rattle.entries.specs.Sets.{member};
-ghost use Rattle.answers.specs.Answers.{given};
 ghost use Rattle.sets.specs.Calls.{makeEmptyCall, memberCall, rangeAtCall, sizeCall, leastMemberCall, leastNonMemberCall, setWindowAtCall, insertCall, removeCall, equalCall, withinCall, disjointCall, unionCall, intersectionCall, differenceCall, symmetricDifferenceCall, complementCall};
 ghost use Rattle.fits.specs.Calls.{firstFitCall, bestFitCall, reserveFirstCall, reserveBestCall};
 ghost use Rattle.maps.specs.Calls.{lookUpCall, assignCall, eraseCall, mapWindowAtCall, siteOverFactoryAtCall, overlayCall, restrictionCall, domainCall};
 ghost use Rattle.bulletins.specs.Calls.{applyCall, foldCall};
-ghost use Rattle.forms.specs.Calls.{readSetCall, readMapCall, writeSetCall, writeMapCall};
-ghost use Rattle.bulletin_forms.specs.Calls.{readBulletinCall, writeBulletinCall};
-ghost use Rattle.runs.specs.Runs.{entriesIn};
+ghost use Rattle.forms.specs.Calls.{readSetCall, readMapCall, readBulletinCall, judgeSetCall, memberOfFormCall};
+ghost use Rattle.forms.specs.Calls.{writeSetCall, writeMapCall, writeBulletinCall};
 ghost use Rattle.told.specs.Told.{told, reply, inC, Tells};
-ghost use Rattle.host.specs.Calls.{memberOfFormCall, judgeFormCall};
-use runs::FormRead;
+use forms::FormRead;
 use told::Told;
 
 // Makes the block the empty set, or the empty map, whatever stood in it.
@@ -317,13 +309,13 @@ pub extern "C" fn wimblorque_bulletin_read(
 ) -> Told
     ensures { λ r. ⌜ Tells r (now (released .exit) ∷ now (withdrawn .exit) ∷ []) (readBulletinCall (now (bytes .entry)) (now (released .entry)) (now (withdrawn .entry))) ⌝ }
 {
-    told::tell_judged(bulletin_forms::read_bulletin(bytes, released, withdrawn))
+    told::tell_judged(forms::read_bulletin(bytes, released, withdrawn))
 }
 
 // Judges the byte form of a set and stores nothing; answers the number of its ranges.
 #[no_mangle]
 pub extern "C" fn wimblorque_set_judge_form(bytes: &[u8]) -> Told
-    ensures { λ r. ⌜ reply r [] ≡ inC (judgeFormCall (now (bytes .entry))) ⌝ }
+    ensures { λ r. ⌜ Tells r [] (judgeSetCall (now (bytes .entry))) ⌝ }
 {
     match forms::judge_set(bytes) {
         FormRead::Good(n) => told::one_value(n as u64),
@@ -357,34 +349,7 @@ pub extern "C" fn wimblorque_bulletin_write(
 ) -> Told
     ensures { λ r. ⌜ Tells r (now (bytes .exit) ∷ []) (writeBulletinCall (now (released .entry)) (now (withdrawn .entry)) (now (bytes .entry)) p) ⌝ }
 {
-    told::tell_written(bulletin_forms::write_bulletin(released, withdrawn, bytes, p))
-}
-
-// Whether x is in low..high.
-fn between(low: u64, x: u64, high: u64) -> bool
-    ensures { λ r. ⌜ r ≡ andb (leb low x) (leb x high) ⌝ }
-{
-    if low <= x {
-        return x <= high;
-    }
-    false
-}
-
-// Whether x is in one of the n ranges whose records begin at place 7.
-fn holds(bytes: &[u8], n: usize, x: u64) -> bool
-    requires { ⌜ 7 + 21 * n ≤ length (now bytes) ⌝ }
-    ensures { λ r. ⌜ r ≡ member (entriesIn 2 n (drop 7 (now (bytes .entry)))) x ⌝ }
-{
-    let mut p: usize = 7;
-    let mut left = n;
-    while 0 < left {
-        if between(records::get8(bytes, p + 3), x, records::get8(bytes, p + 11)) {
-            return true;
-        }
-        p += 21;
-        left -= 1;
-    }
-    false
+    told::tell_written(forms::write_bulletin(released, withdrawn, bytes, p))
 }
 
 // Whether x is a member of the set whose byte form is in the buffer: 1 member, 0 not, 16 plus the refusal's number where the bytes
@@ -393,13 +358,5 @@ fn holds(bytes: &[u8], n: usize, x: u64) -> bool
 pub extern "C" fn wimblorque_member(bytes: &[u8], x: u64) -> u64
     ensures { λ r. ⌜ r ≡ memberOfFormCall (now (bytes .entry)) x ⌝ }
 {
-    match forms::judge_set(bytes) {
-        FormRead::Good(n) => {
-            if holds(bytes, n, x) {
-                return 1;
-            }
-            0
-        }
-        FormRead::Refused(number, _) => 16 + number as u64,
-    }
+    forms::member(bytes, x)
 }

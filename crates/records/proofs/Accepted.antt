@@ -1,4 +1,4 @@
--- What an accepted record says of the bytes, and the bytes of a record are accepted.
+-- A whole record is the record of what it says, and the record of an entry or of counts is whole and says them.
 use Prim.Native.Nat.{ℕ, _+_, _-_, _*_, _≤_}
 use mathlib.Core.List.{List, [], _∷_, _++_, append-assoc}
 use mathlib.Core.Bool.{Bool, true, false}
@@ -12,57 +12,19 @@ use lib.Seq.{drop-drop, take-at, drop-at, take-all}
 use Rattle.entries.specs.Entries.{Entry, entry}
 use Rattle.entries.specs.Build.{pick, andb}
 use Rattle.blocks.specs.Blocks.{itemOf}
-use Rattle.records.specs.Numbers.{Bytes, num2, be2, wordsIn, wordBytes, countsIn, countBytes}
-use Rattle.records.specs.Check.{checkOf}
-use Rattle.records.specs.Records.{bodyLength, headVerdict, recordOf, startRecord, itemRecord, allWithin, startVerdict, entryIn, follows, itemVerdict}
-use Rattle.records.proofs.Heads.{Whole, both-zero, kind-body, head-inv, head-whole}
-use Rattle.records.proofs.Numbers.{two-bytes, words-bytes, counts-bytes, words-drop, counts-drop, words-back, counts-back, length-words, num2-drop}
+use Rattle.numbers.specs.Numbers.{Bytes, num2, be2, wordsIn, wordBytes, countsIn, countBytes}
+use Rattle.numbers.specs.Check.{checkOf}
+use Rattle.records.specs.Records.{recordOf, startRecord, entryWords, saying, said, itemRecord, entryIn}
+use Rattle.records.proofs.Said.{says, same-saying}
+use Rattle.records.proofs.Heads.{Whole, kind-body}
+use Rattle.records.proofs.Items.{item-words}
+use Rattle.numbers.proofs.Numbers.{two-bytes, words-bytes, counts-bytes, words-drop, counts-drop, words-back, counts-back, length-words, num2-drop}
 
-content-true : (t : Bool) → _≡_ {A = ℕ} (pick t 0 12) 0 → t ≡ true
-content-true true e = refl
-content-true false e = absurd (omega arith)
-
--- the words of an item, from its entry
-pub item-words : (s : ℕ) (ws : List ℕ) → 2 ≤ s → length ws ≡ s → (itemOf s ws) .low ∷ (itemOf s ws) .high ∷ (itemOf s ws) .value ≡ ws
-item-words s [] two h = absurd (omega arith)
-item-words s (a ∷ []) two h = absurd (omega arith)
-item-words s (a ∷ b ∷ ws) two h = ap (λ (l : List ℕ). a ∷ b ∷ l) (take-all (s - 2) ws (omega arith))
-
-pub words-item : (s : ℕ) (e : Entry) → 2 + length (e .value) ≡ s → itemOf s (e .low ∷ e .high ∷ e .value) ≡ e
+-- an entry from its words
+pub words-item : (s : ℕ) (e : Entry) → 2 + length (e .value) ≡ s → itemOf s (entryWords e) ≡ e
 words-item s e h = ap (λ (v : List ℕ). entry (e .low) (e .high) v) (take-all (s - 2) (e .value) (omega arith))
 
 module _ (mark kind : ℕ) (b : List ℕ) where
-  -- an item
-  pub record ItemAt (s : ℕ) (before : Option Entry) : Type 0 where
-    pub whole : Whole mark kind (8 * s) b
-    pub sound : andb (leb (entryIn s b .low) (entryIn s b .high)) (follows before (entryIn s b)) ≡ true
-
-  pub item-inv : (s : ℕ) (before : Option Entry) → bodyLength kind ≡ some (8 * s) → itemVerdict mark kind s before b ≡ 0 → ItemAt s before
-  unfolding itemVerdict
-  item-inv s before k e =
-      let t = andb (leb (entryIn s b .low) (entryIn s b .high)) (follows before (entryIn s b)) in
-      let z = both-zero (headVerdict mark kind b) (pick t 0 12) e in
-      record { whole = head-inv mark kind b (8 * s) k (z .0); sound = content-true t (z .1) }
-
-  pub item-zero : (s : ℕ) (before : Option Entry) → bodyLength kind ≡ some (8 * s) → ItemAt s before → itemVerdict mark kind s before b ≡ 0
-  unfolding itemVerdict
-  item-zero s before k i = rw (head-whole mark kind b (8 * s) k (i .whole), i .sound)
-
-  -- a start
-  pub record StartAt (n limit : ℕ) : Type 0 where
-    pub whole : Whole mark kind (2 * n) b
-    pub within : allWithin limit (countsIn n b 3) ≡ true
-
-  pub start-inv : (n limit : ℕ) → bodyLength kind ≡ some (2 * n) → startVerdict mark kind n limit b ≡ 0 → StartAt n limit
-  unfolding startVerdict
-  start-inv n limit k e =
-      let z = both-zero (headVerdict mark kind b) (pick (allWithin limit (countsIn n b 3)) 0 12) e in
-      record { whole = head-inv mark kind b (2 * n) k (z .0); within = content-true (allWithin limit (countsIn n b 3)) (z .1) }
-
-  pub start-zero : (n limit : ℕ) → bodyLength kind ≡ some (2 * n) → StartAt n limit → startVerdict mark kind n limit b ≡ 0
-  unfolding startVerdict
-  start-zero n limit k i = rw (head-whole mark kind b (2 * n) k (i .whole), i .within)
-
   -- a whole record is the record of its body
   module _ (y : Bytes b) (n : ℕ) (w : Whole mark kind n b) where
     pub record-bytes : b ≡ recordOf mark kind (take n (drop 3 b)) ++ drop (n + 5) b
@@ -84,11 +46,13 @@ module _ (mark kind : ℕ) (b : List ℕ) where
         ∙ ap (λ (l : List ℕ). x ++ l) (append-assoc u v (drop (n + 5) b) ∙ ap (λ (l : List ℕ). u ++ l) last ∙ take-append-drop (n + 1) (drop 2 b))
         ∙ take-append-drop 2 b)
 
-  pub item-bytes : Bytes b → (s : ℕ) → 2 ≤ s → Whole mark kind (8 * s) b → b ≡ itemRecord mark kind (entryIn s b) ++ drop (8 * s + 5) b
+  pub item-bytes : Bytes b → (s : ℕ) → 2 ≤ s → Whole mark kind (8 * s) b → b ≡ itemRecord mark kind (entryIn kind s b) ++ drop (8 * s + 5) b
   item-bytes y s two w =
+      let ws = wordsIn s b 3 in
       record-bytes y (8 * s) w
       ∙ ap (λ (l : List ℕ). recordOf mark kind l ++ drop (8 * s + 5) b)
-      (sym (words-bytes b y s 3 (omega (arith, w .long))) ∙ ap wordBytes (sym (item-words s (wordsIn s b 3) two (length-words s b 3))))
+      (sym (words-bytes b y s 3 (omega (arith, w .long)))
+      ∙ ap wordBytes (sym (ap entryWords (says kind .forth (itemOf s ws)) ∙ item-words s ws two (length-words s b 3))))
 
   pub start-bytes : Bytes b → (n : ℕ) → Whole mark kind (2 * n) b → b ≡ startRecord mark kind (countsIn n b 3) ++ drop (2 * n + 5) b
   start-bytes y n w =
@@ -130,15 +94,17 @@ module _ (mark kind : ℕ) (body rest : List ℕ) where
             ∙ ap (λ (l : List ℕ). num2 l 0) (sym d) ∙ num2-drop laid (n + 3) 0 ∙ ap (num2 laid) z;
       }
 
-pub entry-back : (mark kind s : ℕ) (e : Entry) (rest : List ℕ) → 2 + length (e .value) ≡ s → entryIn s (itemRecord mark kind e ++ rest) ≡ e
+pub entry-back : (mark kind s : ℕ) (e : Entry) (rest : List ℕ) → 2 + length (e .value) ≡ s → entryIn kind s (itemRecord mark kind e ++ rest) ≡ e
 entry-back mark kind s e rest h =
-    let ws = e .low ∷ e .high ∷ e .value in
+    let d = saying kind e in
+    let ws = entryWords d in
     let r = be2 (checkOf mark (kind ∷ wordBytes ws)) ++ rest in
+    let i : 2 + length (d .value) ≡ s = omega (arith, same-saying kind e) in
     let k : s ≡ length ws = omega arith in
-    ap (itemOf s)
+    ap (λ (l : List ℕ). said kind (itemOf s l))
     (sym (words-drop s (itemRecord mark kind e ++ rest) 3 0) ∙ ap (λ (l : List ℕ). wordsIn s l 0) (body-laid mark kind (wordBytes ws) rest)
     ∙ ap (λ (n : ℕ). wordsIn n (wordBytes ws ++ r) 0) k ∙ words-back ws r)
-    ∙ words-item s e h
+    ∙ ap (said kind) (words-item s d i) ∙ says kind .back e
 
 pub counts-back-in : (mark kind : ℕ) (ns rest : List ℕ) → countsIn (length ns) (startRecord mark kind ns ++ rest) 3 ≡ ns
 counts-back-in mark kind ns rest =

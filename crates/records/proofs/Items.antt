@@ -1,23 +1,116 @@
--- An item record's words and entry, and the tests on two items.
-use mathlib.Core.Path.{_≡_, refl, sym, _∙_, ap}
+-- The counts of a start and the words of an item as the code carries them, and the tests on them.
+use mathlib.Core.Path.{_≡_, refl, sym, _∙_, ap, ap₂}
 use mathlib.Core.Bool.{Bool, true, false, not}
 use mathlib.Core.List.{List, [], _∷_}
-use mathlib.Core.Option.{Option, none, some}
-use Prim.Native.Nat.{ℕ, zero, suc, _-_, _≤_, _<_}
+use mathlib.Core.Option.{Option}
+use Prim.Native.Nat.{ℕ, zero, suc, _+_, _-_, _*_, _≤_, _<_}
 use native.Mathlib.Omega.{arith}
 use lib.Dec.{leb, eqb, ltb}
-use borrow.Author.Tests.{lt-ltb, le-ltb, lt-leb, le-leb, eq-eqb, ne-eqb}
-use lib.ListN.{take}
+use borrow.Author.Tests.{lt-ltb, le-ltb, le-leb, eq-eqb, ne-eqb}
+use lib.ListN.{length, take, drop}
+use lib.Seq.{take-all}
 use Rattle.entries.specs.Build.{andb, pick, sameWords}
 use Rattle.entries.specs.Entries.{Entry}
-use Rattle.blocks.specs.Blocks.{afterb}
-use Rattle.records.specs.Records.{entryIn, follows, headVerdict, itemVerdict, startVerdict}
-use Rattle.records.specs.Numbers.{num2, num8}
-use Rattle.records.specs.Steps.{itemHere, entryOf, itemRead, startRead, countsRead}
+use Rattle.blocks.specs.Blocks.{itemOf, afterb}
+use borrow.Rule.Slice.PartMut.{putMid}
+use Rattle.numbers.specs.Numbers.{Bytes, num2, num8, be2, wordsIn, wordBytes, countsIn, countBytes, over}
+use Rattle.numbers.proofs.Patch.{mid-over}
+use Rattle.numbers.proofs.Numbers.{words-bytes, counts-bytes, length-words}
+use Rattle.records.specs.Records.{allWithin, entryWords, entryIn, inOrder}
+use Rattle.records.specs.Reads.{countsOf, secondCount, startRead, itemHere, entryOf, itemRead}
+use Rattle.records.specs.Steps.{StartKind, itemBytes}
 use Rattle.records.specs.declared.Item.{Item}
 use Rattle.records.specs.declared.ItemRead.the-variants as item
 use Rattle.records.specs.declared.StartRead.the-variants as start
-use Rattle.records.specs.declared.CountsRead.the-variants as counts
+use Rattle.records.proofs.Said.{said-plain}
+
+-- the counts of a start, of which there are one or two
+pub counts-two : (k : ℕ) → 1 ≤ k → k ≤ 2 → (b : List ℕ) → countsOf k (num2 b 3) (secondCount k b) ≡ countsIn k b 3
+counts-two zero h l b = absurd (omega arith)
+counts-two (suc zero) h l b = refl
+counts-two (suc (suc zero)) h l b = refl
+counts-two (suc (suc (suc k))) h l b = absurd (omega arith)
+
+pub counts-length : (k n m : ℕ) → 1 ≤ k → k ≤ 2 → length (countBytes (countsOf k n m)) ≡ 2 * k
+counts-length zero n m h l = absurd (omega arith)
+counts-length (suc zero) n m h l = refl
+counts-length (suc (suc zero)) n m h l = refl
+counts-length (suc (suc (suc k))) n m h l = absurd (omega arith)
+
+pub counts-put : (k n m : ℕ) (b x : List ℕ) → k ≡ 1 → x ≡ over (be2 n) b → x ≡ over (countBytes (countsOf k n m)) b
+counts-put k n m b x e q = q ∙ rw e
+
+pub counts-put-too : (k n m : ℕ) (b x y : List ℕ) → k ≡ 2 → x ≡ over (be2 n) b → y ≡ over (be2 m) (take (length x - 2) (drop 2 x))
+    → putMid 2 (length x - 2) x y ≡ over (countBytes (countsOf k n m)) b
+counts-put-too k n m b x y e q w = mid-over (be2 n) (be2 m) b x y 2 refl q w ∙ rw e
+
+within-two : (k limit n : ℕ) (b : List ℕ) → 1 ≤ k → k ≤ 2 → andb (leb n limit) (leb (secondCount k b) limit) ≡ allWithin limit (countsOf k n (secondCount k b))
+within-two zero limit n b h l = absurd (omega arith)
+within-two (suc zero) limit n b h l = ap (andb (leb n limit)) (le-leb 0 limit (omega arith))
+within-two (suc (suc zero)) limit n b h l = ap (andb (leb n limit)) (sym (go (leb (num2 b 5) limit)))
+  where
+    go : (t : Bool) → andb t true ≡ t
+    go true = refl
+    go false = refl
+within-two (suc (suc (suc k))) limit n b h l = absurd (omega arith)
+
+module _ (k : ℕ) (one : 1 ≤ k) (two : k ≤ 2) (b : List ℕ) (n m : ℕ) (e : n ≡ num2 b 3) (f : m ≡ secondCount k b) where
+  counts-are : countsOf k n m ≡ countsIn k b 3
+  counts-are = ap₂ (countsOf k) e f ∙ counts-two k one two b
+
+  pub start-body : Bytes b → 2 * k + 5 ≤ length b → countBytes (countsOf k n m) ≡ take (2 * k) (drop 3 b)
+  start-body y l = ap countBytes counts-are ∙ counts-bytes b y k 3 (omega arith)
+
+  pub start-content : (limit : ℕ) → andb (leb n limit) (leb m limit) ≡ allWithin limit (countsIn k b 3)
+  start-content limit =
+      ap (λ (i : ℕ). andb (leb n limit) (leb i limit)) f ∙ within-two k limit n b one two
+      ∙ ap (allWithin limit) (ap (countsOf k n) (sym f) ∙ counts-are)
+
+-- the words of an item, from its entry
+pub item-words : (s : ℕ) (ws : List ℕ) → 2 ≤ s → length ws ≡ s → entryWords (itemOf s ws) ≡ ws
+item-words s [] two h = absurd (omega arith)
+item-words s (a ∷ []) two h = absurd (omega arith)
+item-words s (a ∷ b ∷ ws) two h = ap (λ (l : List ℕ). a ∷ b ∷ l) (take-all (s - 2) ws (omega arith))
+
+-- the words that the code carries are those of the record, and say its entry
+here-item : (s : ℕ) (b : List ℕ) → 2 ≤ s → s ≤ 4 → entryOf s (itemHere s b) ≡ itemOf s (wordsIn s b 3)
+here-item zero b h l = absurd (omega arith)
+here-item (suc zero) b h l = absurd (omega arith)
+here-item (suc (suc zero)) b h l = refl
+here-item (suc (suc (suc zero))) b h l = refl
+here-item (suc (suc (suc (suc zero)))) b h l = refl
+here-item (suc (suc (suc (suc (suc s))))) b h l = absurd (omega arith)
+
+pub here-entry : (kind s : ℕ) (b : List ℕ) → 2 ≤ s → s ≤ 4 → entryOf s (itemHere s b) ≡ entryIn kind s b
+here-entry kind s b h l = here-item s b h l ∙ sym (said-plain kind (itemOf s (wordsIn s b 3)))
+
+pub item-body : (s : ℕ) (b : List ℕ) (i : Item) → 2 ≤ s → s ≤ 4 → i ≡ itemHere s b → Bytes b → 8 * s + 5 ≤ length b → itemBytes s i ≡ take (8 * s) (drop 3 b)
+item-body s b i two four e y l =
+    ap (λ (v : Entry). wordBytes (entryWords v)) (ap (entryOf s) e ∙ here-item s b two four)
+    ∙ ap wordBytes (item-words s (wordsIn s b 3) two (length-words s b 3)) ∙ words-bytes b y s 3 (omega arith)
+
+pub item-content : (kind s : ℕ) (before : Option Entry) (b : List ℕ) (i : Item) → 2 ≤ s → s ≤ 4 → i ≡ itemHere s b
+    → inOrder before (entryOf s i) ≡ inOrder before (entryIn kind s b)
+item-content kind s before b i two four e = ap (inOrder before) (ap (entryOf s) e ∙ here-entry kind s b two four)
+
+pub item-made : (s : ℕ) (b : List ℕ) (l h v w : ℕ) → l ≡ num8 b 3 → h ≡ num8 b 11 → v ≡ pick (ltb 2 s) (num8 b 19) 0 → w ≡ pick (ltb 3 s) (num8 b 27) 0
+    → _≡_ {A = Item} (record { low = l; high = h; value = v; second = w }) (itemHere s b)
+item-made s b l h v w p q r t = rw (p, q, r, t)
+
+-- a record's answer by its verdict
+pub start-bad : (w v n m : ℕ) → w ≡ v → (w ≡ 0 → ⊥) → start.Bad w ≡ startRead v n m
+start-bad w zero n m e z = absurd (z e)
+start-bad w (suc v) n m e z = ap start.Bad e
+
+pub start-good : (w v n m n' m' : ℕ) → w ≡ v → w ≡ 0 → n ≡ n' → m ≡ m' → start.Good n m ≡ startRead v n' m'
+start-good w v n m n' m' e z p q = rw (sym e ∙ z) (ap₂ start.Good p q)
+
+pub item-bad : (w v : ℕ) (i : Item) → w ≡ v → (w ≡ 0 → ⊥) → item.Bad w ≡ itemRead v i
+item-bad w zero i e z = absurd (z e)
+item-bad w (suc v) i e z = ap item.Bad e
+
+pub item-good : (w v : ℕ) (i j : Item) → w ≡ v → w ≡ 0 → i ≡ j → item.Good i ≡ itemRead v j
+item-good w v i j e z p = rw (sym e ∙ z) (ap item.Good p)
 
 -- values of s - 2 words, one word after the other
 module _ (s v w x y : ℕ) where
@@ -51,85 +144,3 @@ module _ (d e : Entry) where
 
     pub touching : e .low - d .high ≤ 1 → (t : Bool) → sameWords (d .value) (e .value) ≡ t → not t ≡ afterb d e
     touching m t q = rw (lt-ltb (d .high) (e .low) h, eq-eqb (e .low) (suc (d .high)) (omega arith), q)
-
--- the words that the code carries say the record's entry
-pub here-entry : (s : ℕ) (b : List ℕ) → 2 ≤ s → s ≤ 4 → entryOf s (itemHere s b) ≡ entryIn s b
-here-entry zero b h l = absurd (omega arith)
-here-entry (suc zero) b h l = absurd (omega arith)
-here-entry (suc (suc zero)) b h l = refl
-here-entry (suc (suc (suc zero))) b h l = refl
-here-entry (suc (suc (suc (suc zero)))) b h l = refl
-here-entry (suc (suc (suc (suc (suc s))))) b h l = absurd (omega arith)
-
--- reading a record, by the verdict h on its head
-pub item-refused : (mark due s : ℕ) (before : Option Entry) (b : List ℕ) (h : ℕ) (i : Item) → h ≡ headVerdict mark due b → (h ≡ 0 → ⊥)
-    → item.Bad h ≡ itemRead (itemVerdict mark due s before b) i
-unfolding itemVerdict
-item-refused mark due s before b zero i e n = absurd (n refl)
-item-refused mark due s before b (suc v) i e n = rw (← e)
-
-module _ (mark due s : ℕ) (before : Option Entry) (b : List ℕ) (two : 2 ≤ s) (four : s ≤ 4)
-    (h : ℕ) (i : Item) (e : h ≡ headVerdict mark due b) (z : h ≡ 0) (j : i ≡ itemHere s b) where
-  content : (t : Bool) → andb (leb (i .low) (i .high)) (follows before (entryOf s i)) ≡ t
-      → itemRead (pick t 0 12) i ≡ itemRead (itemVerdict mark due s before b) (itemHere s b)
-  unfolding itemVerdict
-  content t q =
-      let k : headVerdict mark due b ≡ 0 = sym e ∙ z in
-      let p : entryOf s i ≡ entryIn s b = ap (entryOf s) j ∙ here-entry s b two four in
-      let r : andb (leb (entryIn s b .low) (entryIn s b .high)) (follows before (entryIn s b)) ≡ t =
-      ap (λ (x : Entry). andb (leb (x .low) (x .high)) (follows before x)) (sym p) ∙ q in
-      rw (k, r, j)
-
-  pub item-back : i .high < i .low → item.Bad 12 ≡ itemRead (itemVerdict mark due s before b) (itemHere s b)
-  item-back l = content false (rw (lt-leb (i .low) (i .high) l))
-
-  pub item-first : i .low ≤ i .high → before ≡ none → item.Good i ≡ itemRead (itemVerdict mark due s before b) (itemHere s b)
-  item-first l n = content true (rw (le-leb (i .low) (i .high) l, n))
-
-  pub item-next : i .low ≤ i .high → (d : Entry) → before ≡ some d → (t u : Bool) → t ≡ afterb d (entryOf s i) → t ≡ u
-      → itemRead (pick u 0 12) i ≡ itemRead (itemVerdict mark due s before b) (itemHere s b)
-  item-next l d n t u q w = content u (rw (le-leb (i .low) (i .high) l, n) (sym q ∙ w))
-
-pub item-made : (s : ℕ) (b : List ℕ) (l h v w : ℕ) → l ≡ num8 b 3 → h ≡ num8 b 11 → v ≡ pick (ltb 2 s) (num8 b 19) 0 → w ≡ pick (ltb 3 s) (num8 b 27) 0
-    → _≡_ {A = Item} (record { low = l; high = h; value = v; second = w }) (itemHere s b)
-item-made s b l h v w p q r t = rw (p, q, r, t)
-
-pub start-refused : (mark due limit : ℕ) (b : List ℕ) (h n : ℕ) → h ≡ headVerdict mark due b → (h ≡ 0 → ⊥)
-    → start.Bad h ≡ startRead (startVerdict mark due 1 limit b) n
-unfolding startVerdict
-start-refused mark due limit b zero n e z = absurd (z refl)
-start-refused mark due limit b (suc v) n e z = rw (← e)
-
-module _ (mark due limit : ℕ) (b : List ℕ) where
-  pub start-content : (h n : ℕ) → h ≡ headVerdict mark due b → h ≡ 0 → n ≡ num2 b 3 → (t : Bool) → leb n limit ≡ t
-      → startRead (pick t 0 12) n ≡ startRead (startVerdict mark due 1 limit b) (num2 b 3)
-  unfolding startVerdict
-  start-content h n e z j t q =
-      let k : headVerdict mark due b ≡ 0 = sym e ∙ z in
-      let r : leb (num2 b 3) limit ≡ t = ap (λ (x : ℕ). leb x limit) (sym j) ∙ q in
-      rw (k, r, j) (go t)
-    where
-      go : (t : Bool) → startRead (pick t 0 12) (num2 b 3) ≡ startRead (pick (andb t true) 0 12) (num2 b 3)
-      go true = refl
-      go false = refl
-
-pub counts-refused : (mark due limit : ℕ) (b : List ℕ) (h n m : ℕ) → h ≡ headVerdict mark due b → (h ≡ 0 → ⊥)
-    → counts.Bad h ≡ countsRead (startVerdict mark due 2 limit b) n m
-unfolding startVerdict
-counts-refused mark due limit b zero n m e z = absurd (z refl)
-counts-refused mark due limit b (suc v) n m e z = rw (← e)
-
-module _ (mark due limit : ℕ) (b : List ℕ) where
-  pub counts-content : (h n m : ℕ) → h ≡ headVerdict mark due b → h ≡ 0 → n ≡ num2 b 3 → m ≡ num2 b 5 → (t u : Bool) → leb n limit ≡ t → leb m limit ≡ u
-      → countsRead (pick (andb t u) 0 12) n m ≡ countsRead (startVerdict mark due 2 limit b) (num2 b 3) (num2 b 5)
-  unfolding startVerdict
-  counts-content h n m e z i j t u p q =
-      let k : headVerdict mark due b ≡ 0 = sym e ∙ z in
-      let r : leb (num2 b 3) limit ≡ t = ap (λ (x : ℕ). leb x limit) (sym i) ∙ p in
-      let s : leb (num2 b 5) limit ≡ u = ap (λ (x : ℕ). leb x limit) (sym j) ∙ q in
-      rw (k, r, s, i, j) (go t u)
-    where
-      go : (t u : Bool) → countsRead (pick (andb t u) 0 12) (num2 b 3) (num2 b 5) ≡ countsRead (pick (andb t (andb u true)) 0 12) (num2 b 3) (num2 b 5)
-      go true true = refl
-      go true false = refl
-      go false u = refl

@@ -1,11 +1,7 @@
-pub mod Patch
-pub mod Numbers
-pub mod Summing
 pub mod Table
-pub mod Items
+pub mod Said
 pub mod Heads
+pub mod Items
+pub mod Told
 pub mod Written
 pub mod Accepted
-pub mod Told
-pub mod Bounded
-pub mod Cases

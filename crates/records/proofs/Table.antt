@@ -8,7 +8,7 @@ use lib.Dec.{eqb, lit≤}
 use borrow.Author.Tests.{eqb-true, eqb-false, ne-eqb}
 use Rattle.entries.specs.Build.{pick}
 use Rattle.records.specs.Records.{bodyLength}
-use Rattle.records.specs.Steps.{bodyRead}
+use Rattle.records.specs.Reads.{bodyRead}
 use Rattle.records.specs.declared.Body.{Body}
 use Rattle.records.specs.declared.Body.the-variants.{Known, Unknown}
 
@@ -69,3 +69,6 @@ told-known (some m) r n e q = let k : m ≡ n = cc in ap some k
 pub told-unknown : (o : Option ℕ) (r : Body) → r ≡ bodyRead o → r ≡ Unknown → o ≡ none
 told-unknown none r e q = refl
 told-unknown (some m) r e q = absurd (let z : _≡_ {A = ℕ} 0 1 = cc in omega arith)
+
+pub fits-known : (o : Option ℕ) (n m l : ℕ) → o ≡ some n → o ≡ some m → n + 5 ≤ l → m + 5 ≤ l
+fits-known o n m l p q h = let k : n ≡ m = cc in omega arith

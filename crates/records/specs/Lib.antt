@@ -1,4 +1,3 @@
-pub mod Numbers
-pub mod Check
 pub mod Records
+pub mod Reads
 pub mod Steps

@@ -3,104 +3,116 @@ use Prim.Native.Nat.{ℕ, zero, suc, _+_, _-_, _*_, _<_, _≤_}
 use mathlib.Core.List.{List, [], _∷_, _++_}
 use mathlib.Core.Bool.{Bool}
 use mathlib.Core.Option.{Option, some}
-use mathlib.Core.Path.{_≡_, refl, sym, ap, ap₂, _∙_}
+use mathlib.Core.Path.{_≡_, refl, sym, subst, ap, ap₂, _∙_}
 use native.Mathlib.Omega.{arith}
 use lib.ListN.{length, take, drop, length-append, length-drop, length-take}
 use lib.Seq.{drop-drop, take-add}
 use borrow.Rule.Slice.PartMut.{putMid}
 use Rattle.entries.specs.Entries.{Entry}
-use Rattle.answers.specs.Answers.{Answer, refused, numberSays}
+use Rattle.answers.specs.Answers.{at}
+use Rattle.answers.specs.Steps.{FirstOf}
+use Rattle.answers.specs.declared.Finding.{Finding}
+use Rattle.answers.proofs.Turns.{stops, passes}
 use Rattle.blocks.specs.Blocks.{itemOf, itemsOf, wordsOf}
-use Rattle.records.specs.Numbers.{wordsIn, wordBytes, over, patch}
-use Rattle.records.specs.Records.{itemVerdict, entryIn, recordOf}
-use Rattle.records.specs.Steps.{ItemKind, itemHere, entryOf, previous, itemRead, itemNumber}
+use Rattle.numbers.specs.Numbers.{wordsIn, wordBytes, over, patch}
+use Rattle.numbers.proofs.Patch.{tail-part, lent-turn, patch-none}
+use Rattle.numbers.proofs.Numbers.{words-drop, length-words, length-bytes}
+use Rattle.records.specs.Records.{entryWords, inOrder, itemVerdict, entryIn, recordOf}
+use Rattle.records.specs.Reads.{itemHere, entryOf, previous, itemRead, itemNumber}
+use Rattle.records.specs.Steps.{ItemKind}
 use Rattle.records.specs.declared.Item.{Item}
 use Rattle.records.specs.declared.ItemRead.{ItemRead}
 use Rattle.records.specs.declared.ItemRead.the-variants as item
-use Rattle.records.proofs.Patch.{tail-part, lent-turn, patch-none}
-use Rattle.records.proofs.Numbers.{words-drop, length-words, length-bytes}
-use Rattle.records.proofs.Items.{here-entry}
-use Rattle.records.proofs.Accepted.{item-inv, item-words}
-use Rattle.runs.specs.Runs.{runOf, entriesIn, andThen, runVerdict}
-use Rattle.runs.specs.Steps.{formRead}
-use Rattle.runs.specs.declared.FormRead.the-variants as form
+use Rattle.records.proofs.Said.{said-plain, saying-plain}
+use Rattle.records.proofs.Heads.{record-inv, record-small}
+use Rattle.records.proofs.Items.{here-entry, item-words}
+use Rattle.runs.specs.Runs.{runOf, entriesIn, runRefusals}
 
 -- what a record's answer tells of its verdict
 told-good : (v : ℕ) (i j : Item) (r : ItemRead) → r ≡ itemRead v j → r ≡ item.Good i → (v ≡ 0) × (i ≡ j)
 told-good zero i j r e q = let k : i ≡ j = cc in (refl, k)
 told-good (suc v) i j r e q = absurd (let z : _≡_ {A = ℕ} 0 1 = cc in omega arith)
 
-told-bad : (v m p : ℕ) (j : Item) (r : ItemRead) → r ≡ itemRead v j → r ≡ item.Bad m → numberSays v p ≡ refused m p
-told-bad zero m p j r e q = absurd (let z : _≡_ {A = ℕ} 0 1 = cc in omega arith)
-told-bad (suc v) m p j r e q = let k : suc v ≡ m = cc in ap (λ (n : ℕ). refused n p) k
+told-bad : (v m : ℕ) (j : Item) (r : ItemRead) → r ≡ itemRead v j → r ≡ item.Bad m → (m ≡ v) × (v ≡ 0 → ⊥)
+told-bad zero m j r e q = absurd (let z : _≡_ {A = ℕ} 0 1 = cc in omega arith)
+told-bad (suc v) m j r e q = let k : m ≡ suc v = cc in (k, λ z. omega arith)
 
 -- judging: the record at p was read
 module _ (mark kind s p : ℕ) (b : List ℕ) (first : Bool) (before : Item) (r : ItemRead)
     (e : r ≡ itemRead (itemVerdict mark kind s (previous first s before) (take (length b - p) (drop p b))) (itemHere s (take (length b - p) (drop p b)))) where
-  e′ : r ≡ itemRead (itemVerdict mark kind s (previous first s before) (drop p b)) (itemHere s (drop p b))
+  abbrev due : ℕ
+  due = itemVerdict mark kind s (previous first s before) (drop p b)
+
+  e′ : r ≡ itemRead due (itemHere s (drop p b))
   e′ = e ∙ ap (λ (l : List ℕ). itemRead (itemVerdict mark kind s (previous first s before) l) (itemHere s l)) (tail-part p b)
 
-  pub judge-more : ItemKind kind s → (n : ℕ) (i : Item) → 0 < n → r ≡ item.Good i
-      → runVerdict mark kind s n p (previous first s before) (drop p b) ≡ runVerdict mark kind s (n - 1) (p + (8 * s + 5)) (some (entryOf s i)) (drop (p + (8 * s + 5)) b)
-  unfolding runVerdict
-  judge-more k zero i l q = absurd (omega arith)
-  judge-more k (suc n) i l q =
-      let t = told-good (itemVerdict mark kind s (previous first s before) (drop p b)) i (itemHere s (drop p b)) r e′ q in
+  pub judge-more : ItemKind kind s → (n : ℕ) (i : Item) → 0 < n → r ≡ item.Good i → (x : Finding)
+      → FirstOf (runRefusals mark kind s (n - 1) (p + (8 * s + 5)) (some (entryOf s i)) (drop (p + (8 * s + 5)) b)) x
+      → FirstOf (runRefusals mark kind s n p (previous first s before) (drop p b)) x
+  unfolding runRefusals
+  judge-more k zero i l q x f = absurd (omega arith)
+  judge-more k (suc n) i l q x f =
+      let t = told-good due i (itemHere s (drop p b)) r e′ q in
       let m : suc n - 1 ≡ n = omega arith in
-      let d : entryOf s i ≡ entryIn s (drop p b) = ap (entryOf s) (t .1) ∙ here-entry s (drop p b) (k .two) (k .four) in
-      rw (t .0, m, d, drop-drop (8 * s + 5) p b)
+      let d : entryOf s i ≡ entryIn kind s (drop p b) = ap (entryOf s) (t .1) ∙ here-entry kind s (drop p b) (k .two) (k .four) in
+      let w : runRefusals mark kind s (suc n - 1) (p + (8 * s + 5)) (some (entryOf s i)) (drop (p + (8 * s + 5)) b)
+      ≡ runRefusals mark kind s n (p + (8 * s + 5)) (some (entryIn kind s (drop p b))) (drop (8 * s + 5) (drop p b)) = rw (m, d, drop-drop (8 * s + 5) p b) in
+      passes due p (runRefusals mark kind s n (p + (8 * s + 5)) (some (entryIn kind s (drop p b))) (drop (8 * s + 5) (drop p b))) x (t .0)
+      (subst (λ (l : List Finding). FirstOf l x) w f)
 
   pub judge-bad : (n m x : ℕ) → 0 < n → r ≡ item.Bad m → x ≡ itemNumber r
-      → runVerdict mark kind s n p (previous first s before) (drop p b) ≡ refused x p
-  unfolding runVerdict
+      → FirstOf (runRefusals mark kind s n p (previous first s before) (drop p b)) (at p x) × (x ≡ 0 → ⊥)
+  unfolding runRefusals
   judge-bad zero m x l q w = absurd (omega arith)
   judge-bad (suc n) m x l q w =
-      ap (λ (a : Answer). andThen a (runVerdict mark kind s n (p + (8 * s + 5)) (some (entryIn s (drop p b))) (drop (8 * s + 5) (drop p b))))
-      (told-bad (itemVerdict mark kind s (previous first s before) (drop p b)) m p (itemHere s (drop p b)) r e′ q)
-      ∙ ap (λ (y : ℕ). refused y p) (sym (w ∙ ap itemNumber q))
+      let t = told-bad due m (itemHere s (drop p b)) r e′ q in
+      let k : x ≡ due = w ∙ ap itemNumber q ∙ t .0 in
+      let no : x ≡ 0 → ⊥ = λ z. t .1 (sym k ∙ z) in
+      (stops x due p (runRefusals mark kind s n (p + (8 * s + 5)) (some (entryIn kind s (drop p b))) (drop (8 * s + 5) (drop p b))) k
+      (record-small mark kind (drop p b) (inOrder (previous first s before) (entryIn kind s (drop p b)))) no, no)
 
   pub judge-fits : ItemKind kind s → (i : Item) → r ≡ item.Good i → p ≤ length b → p + (8 * s + 5) ≤ length b
   judge-fits k i q l =
-      let t = told-good (itemVerdict mark kind s (previous first s before) (drop p b)) i (itemHere s (drop p b)) r e′ q in
-      let w = item-inv mark kind (drop p b) s (previous first s before) (k .body) (t .0) .whole in
-      omega (arith, w .long, length-drop p b)
+      let t = told-good due i (itemHere s (drop p b)) r e′ q in
+      let w = record-inv mark kind (drop p b) (inOrder (previous first s before) (entryIn kind s (drop p b))) (8 * s) (k .body) (t .0) in
+      omega (arith, w .0 .long, length-drop p b)
 
-pub judge-end : (mark kind s n p : ℕ) (before : Option Entry) (b : List ℕ) (a : Answer) (q : ℕ) → n ≤ 0 → a ≡ runVerdict mark kind s n p before b → p ≡ q → form.Good p ≡ formRead a q
-unfolding runVerdict
-judge-end mark kind s zero p before b a q l e k = sym (ap (λ (x : Answer). formRead x q) e ∙ ap form.Good (sym k))
-judge-end mark kind s (suc n) p before b a q l e k = absurd (omega arith)
+pub judge-end : (mark kind s n p : ℕ) (before : Option Entry) (b : List ℕ) → n ≤ 0 → FirstOf (runRefusals mark kind s n p before b) (at p 0)
+unfolding runRefusals
+judge-end mark kind s zero p before b l = record { turn = λ lent x. refl; clear = λ z. tt; small = omega arith }
+judge-end mark kind s (suc n) p before b l = absurd (omega arith)
 
 -- filling
-module _ (s : ℕ) (b : List ℕ) (two : 2 ≤ s) where
-  words-more : (q n : ℕ) → 0 < n → wordsOf (entriesIn s n (drop q b)) ≡ wordsIn s (drop (q + 3) b) 0 ++ wordsOf (entriesIn s (n - 1) (drop (q + (8 * s + 5)) b))
+module _ (kind s : ℕ) (b : List ℕ) (two : 2 ≤ s) where
+  words-more : (q n : ℕ) → 0 < n → wordsOf (entriesIn kind s n (drop q b)) ≡ wordsIn s (drop (q + 3) b) 0 ++ wordsOf (entriesIn kind s (n - 1) (drop (q + (8 * s + 5)) b))
   unfolding entriesIn
   words-more q zero l = absurd (omega arith)
   words-more q (suc n) l =
       let m : suc n - 1 ≡ n = omega arith in
       let z : q + 3 + 0 ≡ q + 3 = omega arith in
       ap₂ _++_
-      (item-words s (wordsIn s (drop q b) 3) two (length-words s (drop q b) 3) ∙ words-drop s b q 3 ∙ ap (wordsIn s b) (sym z) ∙ sym (words-drop s b (q + 3) 0))
-      (ap₂ (λ (k : ℕ) (l : List ℕ). wordsOf (entriesIn s k l)) (sym m) (drop-drop (8 * s + 5) q b))
+      (ap entryWords (said-plain kind (itemOf s (wordsIn s (drop q b) 3))) ∙ item-words s (wordsIn s (drop q b) 3) two (length-words s (drop q b) 3) ∙ words-drop s b q 3 ∙ ap (wordsIn s b) (sym z) ∙ sym (words-drop s b (q + 3) 0))
+      (ap₂ (λ (k : ℕ) (l : List ℕ). wordsOf (entriesIn kind s k l)) (sym m) (drop-drop (8 * s + 5) q b))
 
   pub fill-turn : (out y whole : List ℕ) (w q n : ℕ) → 0 < n → w ≤ length out
-      → whole ≡ patch w (wordsOf (entriesIn s n (drop q b))) out
+      → whole ≡ patch w (wordsOf (entriesIn kind s n (drop q b))) out
       → y ≡ over (wordsIn s (take (length b - (q + 3)) (drop (q + 3) b)) 0) (take (length out - w) (drop w out))
-      → whole ≡ patch (w + s) (wordsOf (entriesIn s (n - 1) (drop (q + (8 * s + 5)) b))) (putMid w (length out - w) out y)
+      → whole ≡ patch (w + s) (wordsOf (entriesIn kind s (n - 1) (drop (q + (8 * s + 5)) b))) (putMid w (length out - w) out y)
   fill-turn out y whole w q n l h e m =
-      lent-turn (wordsIn s (drop (q + 3) b) 0) (wordsOf (entriesIn s (n - 1) (drop (q + (8 * s + 5)) b))) out y whole w s (length-words s (drop (q + 3) b) 0) h
+      lent-turn (wordsIn s (drop (q + 3) b) 0) (wordsOf (entriesIn kind s (n - 1) (drop (q + (8 * s + 5)) b))) out y whole w s (length-words s (drop (q + 3) b) 0) h
       (e ∙ ap (λ (v : List ℕ). patch w v out) (words-more q n l))
       (m ∙ ap (λ (v : List ℕ). over (wordsIn s v 0) (take (length out - w) (drop w out))) (tail-part (q + 3) b))
 
-pub fill-end : (s n w : ℕ) (b out : List ℕ) → n ≤ 0 → patch w (wordsOf (entriesIn s n b)) out ≡ out
+pub fill-end : (kind s n w : ℕ) (b out : List ℕ) → n ≤ 0 → patch w (wordsOf (entriesIn kind s n b)) out ≡ out
 unfolding entriesIn
-fill-end s zero w b out l = patch-none w out
-fill-end s (suc n) w b out l = absurd (omega arith)
+fill-end kind s zero w b out l = patch-none w out
+fill-end kind s (suc n) w b out l = absurd (omega arith)
 
 -- writing
 pub length-record : (mark kind : ℕ) (body : List ℕ) → length (recordOf mark kind body) ≡ length body + 5
 length-record mark kind body = simp length-append (omega arith)
 
-item-take : (s : ℕ) (l : List ℕ) → 2 ≤ s → s ≤ length l → (itemOf s l) .low ∷ (itemOf s l) .high ∷ (itemOf s l) .value ≡ take s l
+item-take : (s : ℕ) (l : List ℕ) → 2 ≤ s → s ≤ length l → entryWords (itemOf s l) ≡ take s l
 item-take s [] two h = absurd (omega arith)
 item-take s (x ∷ []) two h = absurd (omega arith)
 item-take s (x ∷ y ∷ l) two h = let k : s ≡ 2 + (s - 2) = omega arith in sym (ap (λ (m : ℕ). take m (x ∷ y ∷ l)) k ∙ take-add 2 (s - 2) (x ∷ y ∷ l))
@@ -113,7 +125,7 @@ module _ (mark kind s : ℕ) (ws : List ℕ) (two : 2 ≤ s) where
   run-more w (suc n) l h =
       let m : suc n - 1 ≡ n = omega arith in
       ap₂ _++_
-      (ap (λ (v : List ℕ). recordOf mark kind (wordBytes v)) (item-take s (drop w ws) two (omega (arith, length-drop w ws))))
+      (ap (λ (v : List ℕ). recordOf mark kind (wordBytes v)) (ap entryWords (saying-plain kind (itemOf s (drop w ws))) ∙ item-take s (drop w ws) two (omega (arith, length-drop w ws))))
       (ap₂ (λ (k : ℕ) (l : List ℕ). runOf mark kind (itemsOf s k l)) (sym m) (drop-drop s w ws))
 
   pub write-turn : (b y whole : List ℕ) (w q n : ℕ) → 0 < n → w + s ≤ length ws → q ≤ length b

@@ -1,10 +1,12 @@
--- A run of item records of one kind, s words an item: its bytes, its entries, and the verdict on reading it.
+-- A run of item records of one kind, s words an item, and several runs one behind the other: their bytes, their entries, and the
+-- refusals of reading them.
 use Prim.Native.Nat.{ℕ, zero, suc, _+_, _*_}
-use mathlib.Core.Option.{Option, some}
+use mathlib.Core.Option.{Option, none, some}
 use mathlib.Core.List.{List, [], _∷_, _++_}
-use lib.ListN.{drop}
+use lib.ListN.{length, drop}
 use Rattle.entries.specs.Entries.{Entry}
-use Rattle.answers.specs.Answers.{Answer, given, refused, numberSays}
+use Rattle.answers.specs.Answers.{at}
+use Rattle.answers.specs.declared.Finding.{Finding}
 use Rattle.records.specs.Records.{itemRecord, itemVerdict, entryIn}
 
 -- the records of the entries, one after the other
@@ -13,18 +15,40 @@ runOf mark kind [] = []
 runOf mark kind (e ∷ es) = itemRecord mark kind e ++ runOf mark kind es
 
 -- the entries in n records
-unfoldable pub entriesIn : ℕ → ℕ → List ℕ → List Entry
-entriesIn s zero b = []
-entriesIn s (suc n) b = entryIn s b ∷ entriesIn s n (drop (8 * s + 5) b)
-
--- the first refusal of two answers
-abbrev pub andThen : Answer → Answer → Answer
-andThen (given xs) a = a
-andThen (refused v p) a = refused v p
+unfoldable pub entriesIn : ℕ → ℕ → ℕ → List ℕ → List Entry
+entriesIn kind s zero b = []
+entriesIn kind s (suc n) b = entryIn kind s b ∷ entriesIn kind s n (drop (8 * s + 5) b)
 
 -- n records are due at place p, where the bytes b are left: «For each record in turn», with its place
-unfoldable pub runVerdict : ℕ → ℕ → ℕ → ℕ → ℕ → Option Entry → List ℕ → Answer
-runVerdict mark kind s zero p before b = given []
-runVerdict mark kind s (suc n) p before b =
-    andThen (numberSays (itemVerdict mark kind s before b) p)
-    (runVerdict mark kind s n (p + (8 * s + 5)) (some (entryIn s b)) (drop (8 * s + 5) b))
+unfoldable pub runRefusals : ℕ → ℕ → ℕ → ℕ → ℕ → Option Entry → List ℕ → List Finding
+runRefusals mark kind s zero p before b = []
+runRefusals mark kind s (suc n) p before b =
+    at p (itemVerdict mark kind s before b) ∷ runRefusals mark kind s n (p + (8 * s + 5)) (some (entryIn kind s b)) (drop (8 * s + 5) b)
+
+-- the sum of counts, and the number of elements of each list
+abbrev pub total : List ℕ → ℕ
+total [] = 0
+total (n ∷ ns) = n + total ns
+
+abbrev pub lengths : {A : Type 0} → List (List A) → List ℕ
+lengths [] = []
+lengths (x ∷ xs) = length x ∷ lengths xs
+
+-- a run of each kind
+unfoldable pub runsOf : ℕ → List ℕ → List (List Entry) → List ℕ
+runsOf mark [] runs = []
+runsOf mark (kind ∷ kinds) [] = []
+runsOf mark (kind ∷ kinds) (es ∷ runs) = runOf mark kind es ++ runsOf mark kinds runs
+
+-- the entries of a run of each kind, by their counts
+unfoldable pub runsIn : ℕ → List ℕ → List ℕ → List ℕ → List (List Entry)
+runsIn s [] counts b = []
+runsIn s (kind ∷ kinds) [] b = []
+runsIn s (kind ∷ kinds) (n ∷ counts) b = entriesIn kind s n b ∷ runsIn s kinds counts (drop ((8 * s + 5) * n) b)
+
+-- each run is judged from its own first record
+unfoldable pub runsRefusals : ℕ → ℕ → ℕ → List ℕ → List ℕ → List ℕ → List Finding
+runsRefusals mark s p [] counts b = []
+runsRefusals mark s p (kind ∷ kinds) [] b = []
+runsRefusals mark s p (kind ∷ kinds) (n ∷ counts) b =
+    runRefusals mark kind s n p none b ++ runsRefusals mark s (p + (8 * s + 5) * n) kinds counts (drop ((8 * s + 5) * n) b)

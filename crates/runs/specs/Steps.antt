@@ -1,23 +1,19 @@
 -- What the steps of the code promise each other. No public promise names these.
 use Prim.Native.Nat.{ℕ, _+_, _*_, _≤_}
+use mathlib.Core.Path.{_≡_}
+use mathlib.Core.Option.{none}
 use mathlib.Core.List.{List}
-use lib.ListN.{length}
-use Rattle.answers.specs.Answers.{Answer, given, refused}
-use Rattle.answers.specs.Says.{judgedOf}
-use Rattle.answers.specs.declared.Judged.{Judged}
-use Rattle.answers.specs.declared.Judged.the-variants as judged
-use Rattle.runs.specs.declared.FormRead.{FormRead}
-use Rattle.runs.specs.declared.FormRead.the-variants as form
+use lib.ListN.{length, drop}
+use Rattle.entries.specs.Entries.{Sound}
+use Rattle.answers.specs.declared.Finding.{Finding}
+use Rattle.answers.specs.Steps.{FirstOf}
+use Rattle.runs.specs.Runs.{entriesIn, runRefusals}
 
--- a verdict as the code answers it, with n where it is good
-abbrev pub formRead : Answer → ℕ → FormRead
-formRead (given xs) n = form.Good n
-formRead (refused v p) n = form.Refused v p
-
--- the answer of a call whose bytes were refused
-abbrev pub judgedForm : FormRead → Judged
-judgedForm (form.Good n) = judged.Accepted
-judgedForm (form.Refused v p) = judgedOf v p
+-- a run judged: its first refusal, or 0 and the place behind it
+pub record RunJudged (mark kind s n from : ℕ) (b : List ℕ) (r : Finding) : Type 0 where
+  pub first : FirstOf (runRefusals mark kind s n from none (drop from b)) r
+  pub behind : r .number ≡ 0 → r .place ≡ from + (8 * s + 5) * n
+  pub within : r .number ≡ 0 → r .place ≤ length b
 
 -- n records and their n items have the room
 pub record Fills (s n : ℕ) (b out : List ℕ) : Type 0 where

@@ -1,28 +1,21 @@
 // Runs of item records of one kind, at any place of the bytes: judged, stored into a block, written.
 ghost use mathlib.Core.Path.{_≡_};
-ghost use mathlib.Core.Option.{none};
 ghost use mathlib.Core.List.{[], _∷_};
 ghost use Prim.Native.Nat.{_+_, _*_, _≤_};
 ghost use lib.ListN.{length, drop};
 ghost use Rattle.blocks.specs.Blocks.{itemsOf, wordsOf, blockOf};
-ghost use Rattle.records.specs.Numbers.{over};
+ghost use Rattle.numbers.specs.Numbers.{over};
 ghost use Rattle.records.specs.Steps.{ItemKind};
-ghost use Rattle.runs.specs.Runs.{runOf, entriesIn, runVerdict};
-ghost use Rattle.runs.specs.Steps.{formRead, judgedForm, Fills};
-use answers::Judged;
+ghost use Rattle.runs.specs.Runs.{runOf, entriesIn};
+ghost use Rattle.runs.specs.Steps.{RunJudged, Fills};
+use answers::Finding;
 use records::Item;
 use records::ItemRead;
 
-// What judging bytes answers: a count or a place, or a refusal with its place.
-pub enum FormRead {
-    Good(usize),
-    Refused(u8, usize),
-}
-
-// The verdict on the n item records from place `from` on; if all are good, the place behind them.
-pub fn judge_items(bytes: &[u8], from: usize, mark: u16, kind: u8, s: usize, n: usize) -> FormRead
+// The verdict on the n item records from place `from` on: the first refusal, or number 0 and the place behind them.
+pub fn judge_run(bytes: &[u8], from: usize, mark: u16, kind: u8, s: usize, n: usize) -> Finding
     requires { ⌜ ItemKind kind s × (from ≤ length (now bytes)) ⌝ }
-    ensures { λ r. ⌜ r ≡ formRead (runVerdict mark kind s n from none (drop from (now (bytes .entry)))) (from + (8 * s + 5) * n) ⌝ }
+    ensures { λ r. ⌜ RunJudged mark kind s n from (now (bytes .entry)) r ⌝ }
 {
     let mut p = from;
     let mut left = n;
@@ -36,26 +29,32 @@ pub fn judge_items(bytes: &[u8], from: usize, mark: u16, kind: u8, s: usize, n: 
     while 0 < left {
         let a = records::read_item(&bytes[p..], mark, kind, s, first, before);
         let ItemRead::Good(item) = a else {
-            return FormRead::Refused(records::item_number(a), p);
+            return Finding {
+                number: records::item_number(a),
+                place: p,
+            };
         };
         first = false;
         before = item;
         p += 8 * s + 5;
         left -= 1;
     }
-    FormRead::Good(p)
+    Finding {
+        number: 0,
+        place: p,
+    }
 }
 
 // Fills the front of out with the words of the n item records at the front of the bytes.
-fn fill_items(bytes: &[u8], s: usize, n: usize, out: &mut [u64])
+fn fill_run(bytes: &[u8], kind: u8, s: usize, n: usize, out: &mut [u64])
     requires { ⌜ Fills s n (now bytes) (now out) ⌝ }
-    ensures { λ _. ⌜ now (out .exit) ≡ over (wordsOf (entriesIn s n (now (bytes .entry)))) (now (out .entry)) ⌝ }
+    ensures { λ _. ⌜ now (out .exit) ≡ over (wordsOf (entriesIn kind s n (now (bytes .entry)))) (now (out .entry)) ⌝ }
 {
     let mut left = n;
     let mut q: usize = 0;
     let mut w: usize = 0;
     while 0 < left {
-        records::get_words(&bytes[q + 3..], s, &mut out[w..]);
+        numbers::get_words(&bytes[q + 3..], s, &mut out[w..]);
         q += 8 * s + 5;
         w += s;
         left -= 1;
@@ -63,7 +62,7 @@ fn fill_items(bytes: &[u8], s: usize, n: usize, out: &mut [u64])
 }
 
 // Writes the n items whose words begin at the front of words as item records, at the front of the bytes.
-pub fn write_items(words: &[u64], s: usize, n: usize, mark: u16, kind: u8, bytes: &mut [u8])
+pub fn write_run(words: &[u64], s: usize, n: usize, mark: u16, kind: u8, bytes: &mut [u8])
     requires { ⌜ Fills s n (now bytes) (now words) ⌝ }
     ensures { λ _. ⌜ now (bytes .exit) ≡ over (runOf mark kind (itemsOf s n (now (words .entry)))) (now (bytes .entry)) ⌝ }
 {
@@ -87,21 +86,11 @@ fn put_count(out: &mut [u64], n: u64)
 }
 
 // Makes out the block of the n items whose records begin at place `from` and were judged good.
-pub fn store(bytes: &[u8], from: usize, s: usize, n: usize, out: &mut [u64])
+pub fn store(bytes: &[u8], from: usize, kind: u8, s: usize, n: usize, out: &mut [u64])
     requires { ⌜ (from ≤ length (now bytes)) × (1 ≤ length (now out)) × Fills s n (drop from (now bytes)) (drop 1 (now out)) ⌝ }
-    ensures { λ _. ⌜ now (out .exit) ≡ blockOf (length (now (out .entry))) (entriesIn s n (drop from (now (bytes .entry)))) ⌝ }
+    ensures { λ _. ⌜ now (out .exit) ≡ blockOf (length (now (out .entry))) (entriesIn kind s n (drop from (now (bytes .entry)))) ⌝ }
 {
     put_count(out, blocks::narrow(n));
-    fill_items(&bytes[from..], s, n, &mut out[1..]);
+    fill_run(&bytes[from..], kind, s, n, &mut out[1..]);
     blocks::clear(out, 1 + s * n);
-}
-
-// The answer of a call whose bytes were refused.
-pub fn judged_form(v: FormRead) -> Judged
-    ensures { λ r. ⌜ r ≡ judgedForm v ⌝ }
-{
-    match v {
-        FormRead::Good(_) => Judged::Accepted,
-        FormRead::Refused(number, place) => answers::judged_of(number, place),
-    }
 }

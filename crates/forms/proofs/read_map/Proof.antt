@@ -1,13 +1,14 @@
-use Rattle.forms.proofs.Whole.{map-kinds}
+use Rattle.verdicts.proofs.Whole.{map-kind}
+use native.Mathlib.Omega.{arith}
 use borrow.Author.Needs.{needs}
 use Rattle.forms.proofs.read_map.Statement.{statement}
 use Rattle.forms.proofs.read_map.Tie as tie
-use Rattle.forms.proofs.read_map.Reads as reads
-use Rattle.forms.proofs.read_map.Lts as lts
-use Rattle.forms.proofs.read_form.Reads as read-form-reads
+
+slice-aggregate-read-form : tie.Need-slice-aggregate-read-form
+slice-aggregate-read-form c = search needs
 
 read-form-requires : tie.Need-read-form-requires
-read-form-requires c κs = map-kinds
+read-form-requires c κs = map-kind
 
 same-length : tie.Need-same-length
 same-length c = search needs
@@ -16,4 +17,5 @@ returns : tie.Need-returns
 returns c = search needs
 
 pub read-map-spec : {M : Type 1} → statement M
-read-map-spec = tie.close (tie.spec read-form-requires same-length returns)
+read-map-spec =
+    tie.close (tie.spec slice-aggregate-read-form read-form-requires same-length returns)

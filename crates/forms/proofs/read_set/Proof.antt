@@ -1,13 +1,14 @@
-use Rattle.forms.proofs.Whole.{set-kinds}
+use Rattle.verdicts.proofs.Whole.{set-kind}
+use native.Mathlib.Omega.{arith}
 use borrow.Author.Needs.{needs}
 use Rattle.forms.proofs.read_set.Statement.{statement}
 use Rattle.forms.proofs.read_set.Tie as tie
-use Rattle.forms.proofs.read_set.Reads as reads
-use Rattle.forms.proofs.read_set.Lts as lts
-use Rattle.forms.proofs.read_form.Reads as read-form-reads
+
+slice-aggregate-read-form : tie.Need-slice-aggregate-read-form
+slice-aggregate-read-form c = search needs
 
 read-form-requires : tie.Need-read-form-requires
-read-form-requires c κs = set-kinds
+read-form-requires c κs = set-kind
 
 same-length : tie.Need-same-length
 same-length c = search needs
@@ -16,4 +17,5 @@ returns : tie.Need-returns
 returns c = search needs
 
 pub read-set-spec : {M : Type 1} → statement M
-read-set-spec = tie.close (tie.spec read-form-requires same-length returns)
+read-set-spec =
+    tie.close (tie.spec slice-aggregate-read-form read-form-requires same-length returns)

@@ -1,13 +1,11 @@
-use Rattle.forms.proofs.Whole.{map-kinds}
+use Rattle.verdicts.proofs.Whole.{map-kind}
+use native.Mathlib.Omega.{arith}
 use borrow.Author.Needs.{needs}
 use Rattle.forms.proofs.write_map.Statement.{statement}
 use Rattle.forms.proofs.write_map.Tie as tie
-use Rattle.forms.proofs.write_map.Reads as reads
-use Rattle.forms.proofs.write_map.Lts as lts
-use Rattle.forms.proofs.write_form.Reads as write-form-reads
 
 write-form-requires : tie.Need-write-form-requires
-write-form-requires c κs = map-kinds
+write-form-requires c κs = map-kind
 
 same-length : tie.Need-same-length
 same-length c = search needs

@@ -3,10 +3,6 @@ use lib.Dec.{eqb}
 use borrow.Author.Needs.{needs}
 use Rattle.records.proofs.is_told.Statement.{statement}
 use Rattle.records.proofs.is_told.Tie as tie
-use Rattle.records.proofs.is_told.Reads as reads
-use Rattle.records.proofs.is_told.Lts as lts
-use Rattle.records.proofs.check_from.Reads as check-from-reads
-use Rattle.records.proofs.get2.Reads as get2-reads
 
 check-from-requires : tie.Need-check-from-requires
 check-from-requires c κs = search needs

@@ -2,10 +2,6 @@ use Rattle.records.proofs.Items.{item-made}
 use borrow.Author.Needs.{needs}
 use Rattle.records.proofs.item_here.Statement.{statement}
 use Rattle.records.proofs.item_here.Tie as tie
-use Rattle.records.proofs.item_here.Reads as reads
-use Rattle.records.proofs.item_here.Lts as lts
-use Rattle.records.proofs.get8.Reads as get8-reads
-use Rattle.records.proofs.value_word.Reads as value-word-reads
 
 get8-requires : tie.Need-get8-requires
 get8-requires c κs = search needs

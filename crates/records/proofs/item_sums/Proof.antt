@@ -3,10 +3,6 @@ use native.Mathlib.Omega.{arith}
 use borrow.Author.Needs.{needs}
 use Rattle.records.proofs.item_sums.Statement.{statement}
 use Rattle.records.proofs.item_sums.Tie as tie
-use Rattle.records.proofs.item_sums.Reads as reads
-use Rattle.records.proofs.item_sums.Lts as lts
-use Rattle.records.proofs.sum8.Reads as sum8-reads
-use Rattle.records.proofs.sums_from.Reads as sums-from-reads
 
 sums-from-requires : tie.Need-sums-from-requires
 sums-from-requires c κs = search needs

@@ -1,14 +1,11 @@
 use mathlib.Core.Path.{sym, _∙_}
 use mathlib.Core.Bool.{true, false}
-use Rattle.records.specs.Steps.{entryOf}
+use Rattle.records.specs.Reads.{entryOf}
 use Rattle.records.proofs.Items.{overlaps, apart, touching}
 use native.Mathlib.Omega.{arith}
 use borrow.Author.Needs.{needs}
 use Rattle.records.proofs.may_follow.Statement.{statement}
 use Rattle.records.proofs.may_follow.Tie as tie
-use Rattle.records.proofs.may_follow.Reads as reads
-use Rattle.records.proofs.may_follow.Lts as lts
-use Rattle.records.proofs.same_value.Reads as same-value-reads
 
 returns : tie.Need-returns
 returns c = let a = c .before .before .before .args in overlaps (entryOf (a .s) (a .before)) (entryOf (a .s) (a .item)) (omega arith)

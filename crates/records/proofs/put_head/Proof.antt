@@ -1,16 +1,11 @@
 use Prim.Native.Nat.{ℕ}
 use mathlib.Core.Path.{refl, _∙_, ap}
 use mathlib.Core.List.{[], _∷_}
-use Rattle.records.specs.Numbers.{be2, over}
-use Rattle.records.proofs.Patch.{mid-over}
+use Rattle.numbers.specs.Numbers.{be2, over}
+use Rattle.numbers.proofs.Patch.{mid-over}
 use borrow.Author.Needs.{needs}
 use Rattle.records.proofs.put_head.Statement.{statement}
 use Rattle.records.proofs.put_head.Tie as tie
-use Rattle.records.proofs.put_head.Reads as reads
-use Rattle.records.proofs.put_head.Lts as lts
-use Rattle.records.proofs.put2.Reads as put2-reads
-use Rattle.records.proofs.put_byte.Reads as put-byte-reads
-use Rattle.records.proofs.wide2.Reads as wide2-reads
 
 wide2-requires : tie.Need-wide2-requires
 wide2-requires c κs = search needs

@@ -1,19 +1,16 @@
+use mathlib.Core.Path.{_≡_, refl, sym}
+use Prim.Native.Nat.{ℕ}
 use mathlib.Core.Path.{_∙_}
 use mathlib.Core.Option.{none, some}
-use Rattle.records.proofs.Table.{body-small, told-known, told-unknown}
-use Rattle.records.proofs.Heads.{front-short, front-mark, front-kind, front-body, length-short, length-good}
+use Rattle.records.proofs.Table.{body-small, told-known, told-unknown, fits-known}
+use Rattle.records.proofs.Heads.{front-short, front-mark, front-kind, front-body, length-short}
 use native.Mathlib.Omega.{arith}
 use borrow.Author.Needs.{needs}
 use Rattle.records.proofs.read_front.Statement.{statement}
 use Rattle.records.proofs.read_front.Tie as tie
-use Rattle.records.proofs.read_front.Reads as reads
-use Rattle.records.proofs.read_front.Lts as lts
-use Rattle.records.proofs.body_length.Reads as body-length-reads
-use Rattle.records.proofs.get2.Reads as get2-reads
-use Rattle.records.proofs.wide2.Reads as wide2-reads
 
 returns : tie.Need-returns
-returns c = front-short _ _ _ (omega arith)
+returns c = record { refused = λ n t. front-short _ _ _ t (omega arith); good = λ z. absurd (omega arith) }
 
 get2-requires : tie.Need-get2-requires
 get2-requires c κs = search needs
@@ -22,13 +19,19 @@ wide2-requires : tie.Need-wide2-requires
 wide2-requires c κs = search needs
 
 returns-2 : tie.Need-returns-2
-returns-2 c = front-mark _ _ _ (omega arith) _ _ (c .before .before .get2 .ensures .0) (c .before .wide2 .ensures .0) (c .if2 .taken)
+returns-2 c = record {
+  refused = λ n t. front-mark _ _ _ t (omega arith) _ _ (c .before .before .get2 .ensures .0) (c .before .wide2 .ensures .0) (c .if2 .taken);
+  good = λ z. absurd (omega arith);
+}
 
 shared-slice-read-if3 : tie.Need-shared-slice-read-if3
 shared-slice-read-if3 c = search needs
 
 returns-3 : tie.Need-returns-3
-returns-3 c = front-kind _ _ _ (omega arith) _ _ (c .before .before .before .before .get2 .ensures .0) (c .before .before .before .wide2 .ensures .0) (c .before .before .if2 .left) (c .if3 .taken)
+returns-3 c = record {
+  refused = λ n t. front-kind _ _ _ t (omega arith) _ _ (c .before .before .before .before .get2 .ensures .0) (c .before .before .before .wide2 .ensures .0) (c .before .before .if2 .left) (c .if3 .taken);
+  good = λ z. absurd (omega arith);
+}
 
 body-length-requires : tie.Need-body-length-requires
 body-length-requires c κs = search needs
@@ -40,20 +43,41 @@ enum-told : tie.Need-enum-told
 enum-told c = search needs
 
 returns-4 : tie.Need-returns-4
-returns-4 c = front-body _ _ _ (omega arith) _ _ (c .before .before .before .before .before .before .before .get2 .ensures .0) (c .before .before .before .before .before .before .wide2 .ensures .0) (c .before .before .before .before .before .if2 .left) (omega arith) none (told-unknown _ _ (c .before .before .body-length .ensures) (c .enum-told .given .1))
+returns-4 c =
+    let g = c .before .before .before .before .before .before .before in
+    record {
+      refused = λ n t. front-body _ _ _ t (omega arith) _ _ (g .get2 .ensures .0) (c .before .before .before .before .before .before .wide2 .ensures .0) (c .before .before .before .before .before .if2 .left) (omega arith) none
+          (told-unknown _ _ (c .before .before .body-length .ensures) (c .enum-told .given .1));
+      good = λ z. absurd (omega arith);
+    }
 
 add-if4 : tie.Need-add-if4
 add-if4 c = omega (arith, body-small _ _ (told-known _ _ _ (c .before .before .before .body-length .ensures) (c .before .b .given .1)))
 
 returns-5 : tie.Need-returns-5
-returns-5 c = let a = c .before .before .before .before .before .before .before .before .before .before .before .before .args in
+returns-5 c =
+    let g = c .before .before .before .before .before .before .before .before .before in
+    let a = g .before .before .before .args in
     let k = told-known _ _ _ (c .before .before .before .before .body-length .ensures) (c .before .before .b .given .1) in
-    length-short (a .mark) (a .due) (a .bytes .now) _ (c .if4 .taken) ∙ front-body (a .mark) (a .due) (a .bytes .now) (omega arith) _ _ (c .before .before .before .before .before .before .before .before .before .get2 .ensures .0) (c .before .before .before .before .before .before .before .before .wide2 .ensures .0) (c .before .before .before .before .before .before .before .if2 .left) (omega arith) (some _) k
+    record {
+      refused = λ n t. length-short (a .mark) (a .due) (a .bytes .now) t _ (c .if4 .taken)
+          ∙ front-body (a .mark) (a .due) (a .bytes .now) t (omega arith) _ _ (g .get2 .ensures .0) (c .before .before .before .before .before .before .before .before .wide2 .ensures .0) (c .before .before .before .before .before .before .before .if2 .left) (omega arith) (some _) k;
+      good = λ z. absurd (omega arith);
+    }
 
 returns-6 : tie.Need-returns-6
-returns-6 c = let a = c .before .before .before .before .before .before .before .before .before .before .before .before .args in
+returns-6 c =
+    let g = c .before .before .before .before .before .before .before .before .before in
+    let a = g .before .before .before .args in
     let k = told-known _ _ _ (c .before .before .before .before .body-length .ensures) (c .before .before .b .given .1) in
-    length-good (a .mark) (a .due) (a .bytes .now) _ (c .if4 .left) ∙ front-body (a .mark) (a .due) (a .bytes .now) (omega arith) _ _ (c .before .before .before .before .before .before .before .before .before .get2 .ensures .0) (c .before .before .before .before .before .before .before .before .wide2 .ensures .0) (c .before .before .before .before .before .before .before .if2 .left) (omega arith) (some _) k
+    record {
+      refused = λ n t. absurd (n refl);
+      good = λ z. record {
+        marked = sym (g .get2 .ensures .0) ∙ c .before .before .before .before .before .before .before .if2 .left ∙ c .before .before .before .before .before .before .before .before .wide2 .ensures .0;
+        is-due = omega arith;
+        long = λ n q. fits-known _ _ _ _ k q (c .if4 .left);
+      };
+    }
 
 pub read-front-spec : {M : Type 1} → statement M
 read-front-spec =

@@ -1,53 +1,83 @@
 use Prim.Native.Nat.{ℕ}
-use mathlib.Core.List.{[], _∷_}
-use mathlib.Core.Path.{refl, ap, _∙_}
-use mathlib.Core.Bool.{true, false}
-use borrow.Author.Tests.{le-leb, lt-leb}
-use Rattle.records.proofs.Heads.{front-refused, front-fits}
-use Rattle.records.proofs.Items.{start-refused, start-content}
-use Rattle.records.proofs.Told.{sums-count, start-told}
-use native.Mathlib.Omega.{arith}
+use mathlib.Core.Path.{_∙_, ap₂}
+use lib.Dec.{leb}
+use Rattle.entries.specs.Build.{andb}
+use Rattle.records.proofs.Items.{start-bad, start-good}
+use Rattle.records.proofs.Told.{start-judged}
 use borrow.Author.Needs.{needs}
+use native.Mathlib.Omega.{arith}
 use Rattle.records.proofs.read_start.Statement.{statement}
 use Rattle.records.proofs.read_start.Tie as tie
-use Rattle.records.proofs.read_start.Reads as reads
-use Rattle.records.proofs.read_start.Lts as lts
-use Rattle.blocks.proofs.wide.Reads as wide-reads
-use Rattle.records.proofs.get2.Reads as get2-reads
-use Rattle.records.proofs.is_told.Reads as is-told-reads
-use Rattle.records.proofs.read_front.Reads as read-front-reads
-use Rattle.records.proofs.sum2.Reads as sum2-reads
-use Rattle.records.proofs.sums_from.Reads as sums-from-reads
 
 read-front-requires : tie.Need-read-front-requires
 read-front-requires c κs = search needs
 
 returns : tie.Need-returns
-returns c = start-refused _ _ _ _ _ _ (front-refused _ _ _ 2 (c .before .before .before .pre) _ (c .before .read-front .ensures) (c .if1 .taken)) (c .if1 .taken)
+returns c =
+    let f = c .before .read-front .ensures in
+    start-bad _ _ _ _ (f .refused (c .if1 .taken) _) (c .if1 .taken)
 
 get2-requires : tie.Need-get2-requires
-get2-requires c κs = omega (arith, front-fits _ _ _ 2 (c .before .before .before .pre) _ (c .before .read-front .ensures) (c .if1 .left))
+get2-requires c κs =
+    let p = c .before .before .before .pre in
+    omega (arith, c .before .read-front .ensures .good (c .if1 .left) .long _ (p .body))
 
-sums-from-requires : tie.Need-sums-from-requires
-sums-from-requires c κs = search needs
+second-count-requires : tie.Need-second-count-requires
+second-count-requires c κs =
+    let p = c .before .before .before .before .pre in
+    omega (arith, c .before .before .read-front .ensures .good (c .before .if1 .left) .long _ (p .body))
 
-sum2-requires : tie.Need-sum2-requires
-sum2-requires c κs = search needs
+mul-is-told : tie.Need-mul-is-told
+mul-is-told c = search needs
+
+add-is-told : tie.Need-add-is-told
+add-is-told c = search needs
+
+start-sums-requires : tie.Need-start-sums-requires
+start-sums-requires c κs = search needs
 
 is-told-requires : tie.Need-is-told-requires
-is-told-requires c κs = omega (arith, front-fits _ _ _ 2 (c .before .before .before .before .before .before .pre) _ (c .before .before .before .before .read-front .ensures) (c .before .before .before .if1 .left))
-
-returns-2 : tie.Need-returns-2
-returns-2 c = start-refused _ _ _ _ 11 _ (start-told _ _ _ _ (c .before .before .before .before .before .before .read-front .ensures) (c .before .before .before .before .before .if1 .left) (λ i. c .before .before .before .before .before .before .before .shared-slice-known .given i .fits) 1 (c .before .before .before .before .before .before .before .before .pre) _ _ (ap (λ (n : ℕ). n ∷ []) (c .before .before .before .before .get2 .ensures .0)) (sums-count _ _ _ _ _ (c .before .before .before .sums-from .ensures) (c .before .before .sum2 .ensures)) _ true (c .before .is-told .ensures) (c .if2 .taken)) (λ z. omega arith)
+is-told-requires c κs =
+    let f = c .before .before .before .before in
+    omega (arith, f .read-front .ensures .good (c .before .before .before .if1 .left) .long _ (f .before .before .pre .body))
 
 wide-requires : tie.Need-wide-requires
 wide-requires c κs = search needs
 
-returns-3 : tie.Need-returns-3
-returns-3 c = start-content _ _ _ _ 0 _ (start-told _ _ _ _ (c .before .before .before .before .before .before .before .before .read-front .ensures) (c .before .before .before .before .before .before .before .if1 .left) (λ i. c .before .before .before .before .before .before .before .before .before .shared-slice-known .given i .fits) 1 (c .before .before .before .before .before .before .before .before .before .before .pre) _ _ (ap (λ (n : ℕ). n ∷ []) (c .before .before .before .before .before .before .get2 .ensures .0)) (sums-count _ _ _ _ _ (c .before .before .before .before .before .sums-from .ensures) (c .before .before .before .before .sum2 .ensures)) _ false (c .before .before .before .is-told .ensures) (c .before .before .if2 .left)) refl (c .before .wide .ensures ∙ c .before .before .before .before .before .before .get2 .ensures .0) true (le-leb _ _ (c .if3 .taken))
+wide-requires-2 : tie.Need-wide-requires-2
+wide-requires-2 c κs = search needs
 
-returns-4 : tie.Need-returns-4
-returns-4 c = start-content _ _ _ _ 0 _ (start-told _ _ _ _ (c .before .before .before .before .before .before .before .before .read-front .ensures) (c .before .before .before .before .before .before .before .if1 .left) (λ i. c .before .before .before .before .before .before .before .before .before .shared-slice-known .given i .fits) 1 (c .before .before .before .before .before .before .before .before .before .before .pre) _ _ (ap (λ (n : ℕ). n ∷ []) (c .before .before .before .before .before .before .get2 .ensures .0)) (sums-count _ _ _ _ _ (c .before .before .before .before .before .sums-from .ensures) (c .before .before .before .before .sum2 .ensures)) _ false (c .before .before .before .is-told .ensures) (c .before .before .if2 .left)) refl (c .before .wide .ensures ∙ c .before .before .before .before .before .before .get2 .ensures .0) false (lt-leb _ _ (c .if3 .left))
+within-requires : tie.Need-within-requires
+within-requires c κs = search needs
+
+rest-verdict-requires : tie.Need-rest-verdict-requires
+rest-verdict-requires c κs = search needs
+
+returns-2 : tie.Need-returns-2
+returns-2 c =
+    let w = c .before .before .before .before in
+    let s = w .before .before .before .before in
+    let f = s .before .before in
+    let a = f .before .before .args in
+    start-bad _ _ _ _
+    (start-judged _ _ _ (f .read-front .ensures .good (s .before .if1 .left)) (λ j. f .before .shared-slice-known .given j .fits) _ _ _ _
+    (c .before .rest-verdict .ensures) (a .k) (a .limit) _ _ (f .before .before .pre) (s .get2 .ensures .0) (w .before .before .before .second-count .ensures .0)
+    (w .before .before .start-sums .ensures) (w .before .is-told .ensures)
+    (c .before .before .within .ensures ∙ ap₂ (λ (x y : ℕ). andb (leb x (a .limit)) (leb y (a .limit))) (w .wide .ensures) (c .before .before .before .wide2 .ensures)))
+    (c .if2 .taken)
+
+returns-3 : tie.Need-returns-3
+returns-3 c =
+    let w = c .before .before .before .before in
+    let s = w .before .before .before .before in
+    let f = s .before .before in
+    let a = f .before .before .args in
+    start-good _ _ _ _ _ _
+    (start-judged _ _ _ (f .read-front .ensures .good (s .before .if1 .left)) (λ j. f .before .shared-slice-known .given j .fits) _ _ _ _
+    (c .before .rest-verdict .ensures) (a .k) (a .limit) _ _ (f .before .before .pre) (s .get2 .ensures .0) (w .before .before .before .second-count .ensures .0)
+    (w .before .before .start-sums .ensures) (w .before .is-told .ensures)
+    (c .before .before .within .ensures ∙ ap₂ (λ (x y : ℕ). andb (leb x (a .limit)) (leb y (a .limit))) (w .wide .ensures) (c .before .before .before .wide2 .ensures)))
+    (c .if2 .left) (w .wide .ensures ∙ s .get2 .ensures .0) (c .before .before .before .wide2 .ensures ∙ w .before .before .before .second-count .ensures .0)
 
 pub read-start-spec : {M : Type 1} → statement M
 read-start-spec =
@@ -56,10 +86,14 @@ read-start-spec =
     read-front-requires
     returns
     get2-requires
-    sums-from-requires
-    sum2-requires
+    second-count-requires
+    mul-is-told
+    add-is-told
+    start-sums-requires
     is-told-requires
-    returns-2
     wide-requires
-    returns-3
-    returns-4)
+    wide-requires-2
+    within-requires
+    rest-verdict-requires
+    returns-2
+    returns-3)

@@ -2,8 +2,6 @@ use Rattle.records.proofs.Items.{same-none, same-differ, same-one, same
 use native.Mathlib.Omega.{arith}
 use Rattle.records.proofs.same_value.Statement.{statement}
 use Rattle.records.proofs.same_value.Tie as tie
-use Rattle.records.proofs.same_value.Reads as reads
-use Rattle.records.proofs.same_value.Lts as lts
 
 returns : tie.Need-returns
 returns c = same-none _ _ _ _ _ (c .if1 .taken)

@@ -3,9 +3,6 @@ use borrow.Author.Tests.{lt-ltb, le-ltb}
 use borrow.Author.Needs.{needs}
 use Rattle.records.proofs.value_word.Statement.{statement}
 use Rattle.records.proofs.value_word.Tie as tie
-use Rattle.records.proofs.value_word.Reads as reads
-use Rattle.records.proofs.value_word.Lts as lts
-use Rattle.records.proofs.get8.Reads as get8-reads
 
 mul-get8 : tie.Need-mul-get8
 mul-get8 c = search needs

@@ -1,17 +1,11 @@
 use Prim.Native.Nat.{ℕ, _+_}
 use mathlib.Core.Path.{_∙_, ap}
-use Rattle.records.specs.Numbers.{wordBytes}
-use Rattle.records.proofs.Numbers.{length-bytes}
+use Rattle.numbers.specs.Numbers.{wordBytes}
+use Rattle.numbers.proofs.Numbers.{length-bytes}
 use Rattle.records.proofs.Written.{record-written}
 use borrow.Author.Needs.{needs}
 use Rattle.records.proofs.write_item.Statement.{statement}
 use Rattle.records.proofs.write_item.Tie as tie
-use Rattle.records.proofs.write_item.Reads as reads
-use Rattle.records.proofs.write_item.Lts as lts
-use Rattle.records.proofs.check_from.Reads as check-from-reads
-use Rattle.records.proofs.put2.Reads as put2-reads
-use Rattle.records.proofs.put_head.Reads as put-head-reads
-use Rattle.records.proofs.put_words.Reads as put-words-reads
 
 put-head-requires : tie.Need-put-head-requires
 put-head-requires c κs = search needs
@@ -53,7 +47,7 @@ same-length : tie.Need-same-length
 same-length c = search needs
 
 returns : tie.Need-returns
-returns c = let a = c .before .before .before .before .before .before .before .before .before .before .before .before .before .before .before .args in record-written (a .mark) (a .kind) _ _ (wordBytes (a .words .now)) (a .bytes .now) _ _ _ (ap (λ (n : ℕ). n + 3) (length-bytes (a .words .now))) (c .before .before .before .before .before .before .before .before .before .before .before .put-head .ensures) (c .before .before .before .before .before .before .before .put-words .ensures .0) (c .before .before .before .check-from .ensures .0 ∙ c .before .before .before .before .before .before .before .put-words .ensures .1) (c .before .before .put2 .ensures)
+returns c = let a = c .before .before .before .before .before .before .before .before .before .before .before .before .before .before .before .args in record-written (a .mark) (a .kind) _ _ (wordBytes (a .words .now)) (a .bytes .now) _ _ _ (ap (λ (n : ℕ). n + 3) (length-bytes (a .words .now))) (c .before .before .before .before .before .before .before .before .before .before .before .put-head .ensures) (c .before .before .before .before .before .before .before .put-words .ensures .bytes) (c .before .before .before .check-from .ensures .0 ∙ c .before .before .before .before .before .before .before .put-words .ensures .sums) (c .before .before .put2 .ensures)
 
 pub write-item-spec : {M : Type 1} → statement M
 write-item-spec =

@@ -3,8 +3,6 @@ use lib.Seq.{sets-eq}
 use borrow.Author.Needs.{needs}
 use Rattle.runs.proofs.put_count.Statement.{statement}
 use Rattle.runs.proofs.put_count.Tie as tie
-use Rattle.runs.proofs.put_count.Reads as reads
-use Rattle.runs.proofs.put_count.Lts as lts
 
 slice-write-out : tie.Need-slice-write-out
 slice-write-out c = search needs

@@ -1,3 +1,0 @@
-pub mod Bulletins
-pub mod Calls
-pub mod Steps

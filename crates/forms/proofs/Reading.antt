@@ -1,0 +1,160 @@
+-- The answers of reading, judging and asking, from the tests of the code.
+use Prim.Native.Nat.{ℕ, zero, suc, _+_, _-_, _*_, _<_, _≤_}
+use mathlib.Core.List.{List, [], _∷_, _++_}
+use mathlib.Core.Bool.{Bool, true, false}
+use mathlib.Core.Path.{_≡_, refl, sym, subst, ap, ap₂, _∙_}
+use native.Mathlib.Omega.{arith}
+use lib.Dec.{ltb, eqb}
+use lib.ListN.{length, take, drop, length-drop}
+use borrow.Author.Tests.{ltb-false, eqb-false}
+use Rattle.entries.specs.Entries.{Entry}
+use Rattle.entries.specs.Sets.{member}
+use Rattle.answers.specs.Answers.{Answer, given, refused, Outcome, outcome, truth, judged, inTurn, applies}
+use Rattle.answers.specs.Steps.{Clear, FirstOf}
+use Rattle.answers.specs.Says.{judgedSays, judgedOf}
+use Rattle.answers.specs.declared.Finding.{Finding}
+use Rattle.answers.specs.declared.Judged.{Judged}
+use Rattle.answers.specs.declared.Judged.the-variants as answer
+use Rattle.answers.proofs.Turns.{stops-in, passes-in, refused-by, given-by, applies-clear}
+use Rattle.blocks.specs.Blocks.{capacity, blockOf}
+use Rattle.blocks.specs.declared.Layout.{Layout}
+use Rattle.blocks.proofs.Judging.{room-words}
+use Rattle.numbers.specs.Numbers.{Bytes, num2}
+use Rattle.records.specs.Reads.{secondCount}
+use Rattle.records.proofs.Items.{counts-two}
+use Rattle.runs.specs.Runs.{entriesIn, lengths}
+use Rattle.verdicts.specs.declared.Form.{Form}
+use Rattle.verdicts.specs.Forms.{ofSet, startSize, sizeOf, formCounts, formEntries, formRefusals, outRefusals}
+use Rattle.forms.specs.Calls.{storedIn, readCall, judgeCall, oneNumber, firstOf, memberOfFormCall}
+use Rattle.forms.specs.Steps.{Stored, Stores}
+use Rattle.verdicts.specs.Steps.{Shape, lone, pair, FormKind, eachOf, itemSize, secondAt, runsHere}
+use Rattle.verdicts.proofs.Whole.{set-kind, start-long, counted}
+use Rattle.forms.proofs.Forms.{accepted-size}
+use Rattle.verdicts.proofs.Two.{entries-here, size-here}
+
+-- refused with the first refusal
+pub refused-first : (fs : List Finding) (r : Finding) → FirstOf fs r → (r .number ≡ 0 → ⊥) → (lent : List (List ℕ)) (next : Outcome)
+    → outcome (refused (r .number) (r .place)) lent ≡ inTurn fs lent next
+refused-first fs r f nz lent next = go (r .number) nz ∙ f .turn lent next
+  where
+    go : (v : ℕ) → (v ≡ 0 → ⊥) → outcome (refused v (r .place)) lent ≡ judged v (r .place) lent next
+    go zero nz = absurd (nz refl)
+    go (suc v) nz = refl
+
+each-length : (r : ℕ) (l : Layout) (x y : List ℕ) → Shape r l → take r (length x ∷ length y ∷ []) ≡ lengths (take r (x ∷ y ∷ []))
+each-length r l x y lone = refl
+each-length r l x y pair = refl
+
+-- a block that has words, and room for n items
+record Roomy (layout : Layout) (l n : ℕ) : Type 0 where
+  some : 0 < l
+  fits : n ≤ capacity layout l
+
+roomy : (layout : Layout) (l n : ℕ) → applies (eqb l 0) 1 ≡ 0 → applies (ltb (capacity layout l) n) 5 ≡ 0 → Roomy layout l n
+roomy layout l n c d =
+    let z = eqb-false l 0 (applies-clear (eqb l 0) 0 c) in
+    record { some = omega arith; fits = ltb-false (capacity layout l) n (applies-clear (ltb (capacity layout l) n) 4 d) }
+
+each-roomy : (layout : Layout) (r i j n m : ℕ) → Shape r layout → Clear (outRefusals layout (take r (i ∷ j ∷ [])) (take r (n ∷ m ∷ [])))
+    → Roomy layout i n × ((r ≡ 1 → ⊥) → Roomy layout j m)
+each-roomy layout r i j n m lone c = (roomy layout i n (c .0) (c .1 .0), λ nz. absurd (nz refl))
+each-roomy layout r i j n m pair c = (roomy layout i n (c .0) (c .1 .1 .0), λ nz. roomy layout j m (c .1 .0) (c .1 .1 .1 .0))
+
+module _ (f : Form) (k : FormKind f) (b x y : List ℕ) (v : Finding) (fv : FirstOf (formRefusals f b) v) where
+  abbrev outs : List (List ℕ)
+  outs = eachOf f x y
+
+  abbrev O : List Finding
+  O = outRefusals (f .layout) (lengths outs) (lengths (formEntries f b))
+
+  abbrev next : Outcome
+  next = outcome (given []) (storedIn outs (formEntries f b))
+
+  pub bytes-refused : (v .number ≡ 0 → ⊥) → (r : Judged) → r ≡ judgedOf (v .number) (v .place) → outcome (judgedSays r) outs ≡ readCall f b outs
+  unfolding readCall
+  bytes-refused nz r e = refused-by (formRefusals f b ++ O) v (stops-in (formRefusals f b) O v fv nz) outs next r nz e
+
+  module _ (zv : v .number ≡ 0) where
+    pub counts-long : startSize f ≤ length b
+    counts-long = start-long f k b (fv .clear zv)
+
+    module _ (n m : ℕ) (en : n ≡ num2 b 3) (em : m ≡ secondCount (f .runs) b) (u : Finding)
+        (fu : FirstOf (outRefusals (f .layout) (eachOf f (length x) (length y)) (eachOf f n m)) u) where
+      counts-are : eachOf f n m ≡ lengths (formEntries f b)
+      counts-are = ap₂ (eachOf f) en em ∙ counts-two (f .runs) (k .start .one) (k .start .two) b ∙ sym (counted f k b)
+
+      all-passed : FirstOf (formRefusals f b ++ O) u
+      all-passed =
+          passes-in (formRefusals f b) O v u fv zv
+          (subst (λ (l : List Finding). FirstOf l u) (ap₂ (outRefusals (f .layout)) (each-length (f .runs) (f .layout) x y (k .shape)) counts-are) fu)
+
+      pub outs-refused : (u .number ≡ 0 → ⊥) → (r : Judged) → r ≡ judgedOf (u .number) (u .place) → outcome (judgedSays r) outs ≡ readCall f b outs
+      unfolding readCall
+      outs-refused nz r e = refused-by (formRefusals f b ++ O) u all-passed outs next r nz e
+
+      module _ (zu : u .number ≡ 0) where
+        pub to-store : Bytes b → Stores f n m b x y
+        to-store w =
+            let r = each-roomy (f .layout) (f .runs) (length x) (length y) n m (k .shape) (fu .clear zu) in
+            let l : length b ≡ secondAt f n + itemSize f * m =
+            accepted-size f k b w (fv .clear zv) ∙ ap (sizeOf f) (counted f k b) ∙ size-here f k b
+            ∙ ap₂ (λ (i j : ℕ). secondAt f i + itemSize f * j) (sym en) (sym em) in
+            record {
+              first = stored x n (startSize f) (r .0) (omega arith) (omega (arith, length-drop (startSize f) b));
+              second = λ nz. stored y m (secondAt f n) (r .1 nz) (omega arith) (omega (arith, length-drop (secondAt f n) b));
+              shape = k .shape;
+            }
+          where
+            stored : (z : List ℕ) (i p : ℕ) → Roomy (f .layout) (length z) i → p ≤ length b → itemSize f * i ≤ length (drop p b) → Stored (f .layout .width) i p b z
+            stored z i p r h l = record {
+              there = h;
+              some = r .some;
+              fills = record {
+                two = k .first .two;
+                four = k .first .four;
+                held = l;
+                room = omega (arith, room-words (f .layout) (length z) i (r .some) (r .fits), length-drop 1 z);
+              };
+            }
+
+        pub read-good : (x' y' : List ℕ) → eachOf f x' y' ≡ storedIn outs (runsHere f n m b) → outcome (judgedSays answer.Accepted) (eachOf f x' y') ≡ readCall f b outs
+        unfolding readCall
+        read-good x' y' q =
+            given-by (formRefusals f b ++ O) u all-passed outs next (outcome (given []) (eachOf f x' y')) zu
+            (ap (outcome (given [])) (q ∙ ap (storedIn outs) (ap₂ (λ (i j : ℕ). runsHere f i j b) en em ∙ sym (entries-here f k b))))
+
+-- the outputs that were filled
+pub one-stored : (r : ℕ) (x y x' y' : List ℕ) (es fs : List Entry) → r ≡ 1 → x' ≡ blockOf (length x) es
+    → take r (x' ∷ y' ∷ []) ≡ storedIn (take r (x ∷ y ∷ [])) (take r (es ∷ fs ∷ []))
+one-stored r x y x' y' es fs e p = rw (e, p)
+
+pub two-stored : (r : ℕ) (x y x' y' : List ℕ) (es fs : List Entry) → r ≡ 2 → x' ≡ blockOf (length x) es → y' ≡ blockOf (length y) fs
+    → take r (x' ∷ y' ∷ []) ≡ storedIn (take r (x ∷ y ∷ [])) (take r (es ∷ fs ∷ []))
+two-stored r x y x' y' es fs e p q = rw (e, p, q)
+
+-- judging and asking, of a set
+module _ (b : List ℕ) (v : Finding) (fv : FirstOf (formRefusals ofSet b) v) where
+  pub judge-refused : (v .number ≡ 0 → ⊥) → outcome (refused (v .number) (v .place)) [] ≡ judgeCall ofSet b
+  unfolding judgeCall
+  judge-refused nz = refused-first (formRefusals ofSet b) v fv nz [] (outcome (given (formCounts ofSet b)) [])
+
+  pub judge-good : v .number ≡ 0 → (n : ℕ) → n ≡ num2 b 3 → outcome (given (n ∷ [])) [] ≡ judgeCall ofSet b
+  unfolding judgeCall
+  judge-good z n e =
+      given-by (formRefusals ofSet b) v fv [] (outcome (given (formCounts ofSet b)) []) (outcome (given (n ∷ [])) []) z (ap (λ (i : ℕ). outcome (given (i ∷ [])) []) e)
+
+  pub member-refused : (x : ℕ) → (v .number ≡ 0 → ⊥) → 16 + v .number ≡ memberOfFormCall b x
+  unfolding memberOfFormCall
+  member-refused x nz = ap oneNumber (refused-first (formRefusals ofSet b) v fv nz [] (outcome (truth (member (firstOf (formEntries ofSet b)) x)) []))
+
+  pub member-held : Bytes b → v .number ≡ 0 → (n : ℕ) → n ≡ num2 b 3 → 7 + 21 * n ≤ length b
+  member-held y z n e = omega (arith, accepted-size ofSet set-kind b y (fv .clear z), ap (sizeOf ofSet) (counted ofSet set-kind b))
+
+  pub member-told : v .number ≡ 0 → (n : ℕ) → n ≡ num2 b 3 → (x : ℕ) (t : Bool) → t ≡ member (entriesIn 0x10 2 n (drop 7 b)) x
+      → oneNumber (outcome (truth t) []) ≡ memberOfFormCall b x
+  unfolding memberOfFormCall
+  member-told z n e x t m =
+      ap oneNumber
+      (given-by (formRefusals ofSet b) v fv [] (outcome (truth (member (firstOf (formEntries ofSet b)) x)) []) (outcome (truth t) []) z
+      (ap (λ (u : Bool). outcome (truth u) [])
+      (m ∙ ap (λ (i : ℕ). member (entriesIn 0x10 2 i (drop 7 b)) x) e ∙ ap (λ (r : List (List Entry)). member (firstOf r) x) (sym (entries-here ofSet set-kind b)))))

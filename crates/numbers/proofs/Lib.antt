@@ -1,0 +1,4 @@
+pub mod Patch
+pub mod Numbers
+pub mod Summing
+pub mod Cases

@@ -1,0 +1,4 @@
+pub mod Whole
+pub mod Two
+pub mod Rooms
+pub mod Walking

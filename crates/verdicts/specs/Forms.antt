@@ -1,0 +1,101 @@
+-- A form is a value: the mark of its records, the kind of its start, the kind of the items of each run, and the layout of the blocks
+-- that hold a run. Here are the three of 01, the bytes of a form, what bytes say that are one, and the refusals of reading them.
+use Prim.Native.Nat.{ℕ, suc, _+_, _*_}
+use mathlib.Core.Bool.{Bool, false}
+use mathlib.Core.List.{List, [], _∷_, _++_}
+use lib.Dec.{ltb}
+use lib.ListN.{length, take, drop}
+use Rattle.entries.specs.Entries.{Entry}
+use Rattle.entries.specs.Bulletins.{shareb}
+use Rattle.answers.specs.Answers.{at, applies}
+use Rattle.answers.specs.declared.Finding.{Finding}
+use Rattle.blocks.specs.Blocks.{setLayout, mapLayout, capacity}
+use Rattle.blocks.specs.Calls.{output}
+use Rattle.blocks.specs.declared.Layout.{Layout}
+use Rattle.numbers.specs.Numbers.{countsIn}
+use Rattle.records.specs.Records.{startRecord, startVerdict}
+use Rattle.verdicts.specs.declared.Form.{Form}
+use Rattle.runs.specs.Runs.{total, lengths, runsOf, runsIn, runsRefusals}
+
+-- «the mark C5 3A»
+abbrev pub formMark : ℕ
+formMark = 0xC53A
+
+-- «0x01 | start of a set», «0x10 | range of a set»
+abbrev pub ofSet : Form
+ofSet = record { mark = formMark; start = 0x01; first = 0x10; second = 0x10; runs = 1; layout = setLayout }
+
+-- «0x02 | start of a map», «0x11 | entry of a map»
+abbrev pub ofMap : Form
+ofMap = record { mark = formMark; start = 0x02; first = 0x11; second = 0x11; runs = 1; layout = mapLayout }
+
+-- «0x03 | .. start of a bulletin», «0x12, 0x13 | released range, withdrawn range»
+abbrev pub ofBulletin : Form
+ofBulletin = record { mark = formMark; start = 0x03; first = 0x12; second = 0x13; runs = 2; layout = setLayout }
+
+-- the kinds of the items, a run each
+abbrev pub kindsOf : Form → List ℕ
+kindsOf f = take (f .runs) (f .first ∷ f .second ∷ [])
+
+-- «A set is its start and then n range records; a map likewise; a bulletin is its start, all released, all withdrawn.»
+unfoldable pub formOf : Form → List (List Entry) → List ℕ
+formOf f runs = startRecord (f .mark) (f .start) (lengths runs) ++ runsOf (f .mark) (kindsOf f) runs
+
+abbrev pub setForm : List Entry → List ℕ
+setForm es = formOf ofSet (es ∷ [])
+
+abbrev pub mapForm : List Entry → List ℕ
+mapForm es = formOf ofMap (es ∷ [])
+
+abbrev pub bulletinForm : List Entry → List Entry → List ℕ
+bulletinForm released withdrawn = formOf ofBulletin (released ∷ withdrawn ∷ [])
+
+-- the length of a start record, and of a form with these counts: «Sizes: set 7+21n, map 7+29n, bulletin 9+21(r+w).»
+abbrev pub startSize : Form → ℕ
+startSize f = 2 * f .runs + 5
+
+abbrev pub sizeOf : Form → List ℕ → ℕ
+sizeOf f counts = startSize f + (8 * f .layout .width + 5) * total counts
+
+-- the counts in the start of a form, and the entries of its runs
+abbrev pub formCounts : Form → List ℕ → List ℕ
+formCounts f b = countsIn (f .runs) b 3
+
+unfoldable pub formEntries : Form → List ℕ → List (List Entry)
+formEntries f b = runsIn (f .layout .width) (kindsOf f) (formCounts f b) (drop (startSize f) b)
+
+-- «a bulletin's two sets share a number»
+abbrev pub sharing : List (List Entry) → Bool
+sharing [] = false
+sharing (es ∷ []) = false
+sharing (es ∷ fs ∷ runs) = shareb es fs
+
+-- «14 Overlap: .. | 0»
+abbrev pub overlap : List (List Entry) → Finding
+overlap runs = at 0 (applies (sharing runs) 14)
+
+-- «13 Trailing: bytes follow the last record | first of them»: the last record ends at place p
+abbrev pub trailing : ℕ → List ℕ → Finding
+trailing p b = at p (applies (ltb p (length b)) 13)
+
+-- «Reading is asked for a set, a map or a bulletin, over the whole slice. For each record in turn: ..»: the start at place 0, then the
+-- items. «After the last record: 13, then 14»
+unfoldable pub formRefusals : Form → List ℕ → List Finding
+formRefusals f b =
+    at 0 (startVerdict (f .mark) (f .start) (f .runs) (f .layout .limit) b)
+    ∷ (runsRefusals (f .mark) (f .layout .width) (startSize f) (kindsOf f) (formCounts f b) (drop (startSize f) b)
+    ++ (trailing (sizeOf f (formCounts f b)) b ∷ overlap (formEntries f b) ∷ []))
+
+-- «then 1 for each output block, then 5 for each»: the lengths of the blocks from a position on, and the counts of what they are to hold
+abbrev pub noBlocks : ℕ → List ℕ → List Finding
+noBlocks position [] = []
+noBlocks position (l ∷ ls) = output position l ∷ noBlocks (suc position) ls
+
+abbrev pub noRooms : Layout → ℕ → List ℕ → List ℕ → List Finding
+noRooms layout position [] counts = []
+noRooms layout position (l ∷ ls) [] = []
+noRooms layout position (l ∷ ls) (n ∷ counts) =
+    at position (applies (ltb (capacity layout l) n) 5) ∷ noRooms layout (suc position) ls counts
+
+abbrev pub outRefusals : Layout → List ℕ → List ℕ → List Finding
+outRefusals layout ls counts = noBlocks 0 ls ++ noRooms layout 0 ls counts
