@@ -71,7 +71,7 @@ sed '/^define noundef ptr @wimblorque_/,/^}/ {
     s/^define noundef ptr \(@[a-z_]*\)(ptr noundef %a0/define void \1(ptr noundef sret([48 x i8]) align 8 %a0/
     s/^  ret ptr %a0$/  ret void/
 }' build/host_plain.ll >build/host.ll
-returned=$(grep -c '^wimblorque_answer wimblorque_' include/wimblorque.h)
+returned=$(grep -c '^WIMBLORQUE_MUST_USE wimblorque_answer wimblorque_' include/wimblorque.h)
 [ "$(grep -c '^define void @wimblorque_.* sret(' build/host.ll)" = "$returned" ] || {
     echo "native.sh: the module's functions do not return their answers as they did" >&2
     exit 1

@@ -34,7 +34,7 @@ def header_calls():
     """The calls that the header declares, in its order."""
     header = os.path.join(os.path.dirname(os.path.abspath(__file__)), "../../include/wimblorque.h")
     with open(header, encoding="ascii") as text:
-        return re.findall(r"^\w+ wimblorque_(\w+)\(", text.read(), re.MULTILINE)
+        return re.findall(r"^WIMBLORQUE_MUST_USE \w+ wimblorque_(\w+)\(", text.read(), re.MULTILINE)
 
 
 def jobs(cases):
