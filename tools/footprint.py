@@ -7,9 +7,9 @@
 
 The code is the archive's (x86-64) and the object's (Arm). The stack is read from the same code as text, which the kit's compiler gives
 for the module by the same words as an object, whose code must be the archive's, byte for byte. Every way through a function is followed, with what each
-instruction does to the stack pointer; a call adds what the called function takes, and on x86-64 its return address. Counted is all
-that a call puts on the stack, from its own return address on, without the arguments that its caller put there and without what the
-host's own memset takes. A call's code is its own and that of every function it can reach, which is what a linker with --gc-sections
+instruction does to the stack pointer and what it uses below it (on x86-64 a function that calls nothing may use 128 bytes there, the red
+zone); a call adds what the called function takes, and on x86-64 its return address. Counted is all that a call puts on the stack, from
+its own return address on, without the arguments that its caller put there and without what the host's own memset takes. A call's code is its own and that of every function it can reach, which is what a linker with --gc-sections
 keeps.
 """
 
@@ -26,7 +26,7 @@ NEEDED = ["memset"]
 # No more than this, in bytes: near what is measured, so that growth is noticed.
 MOST_CODE = {"x86_64": 27500, "aarch64": 26000}
 MOST_CONSTANTS = {"x86_64": 600, "aarch64": 450}
-MOST_STACK = {"x86_64": 512, "aarch64": 512}
+MOST_STACK = {"x86_64": 640, "aarch64": 512}
 # The calls of README.md's table.
 SHOWN = ["member", "set_member", "set_insert", "set_union", "map_site_over_factory", "set_reserve_best", "bulletin_apply", "set_read"]
 
@@ -109,6 +109,12 @@ def moved(machine, words):
     sys.exit(f"footprint: what does this do to the stack? {' '.join(words)}")
 
 
+def below(machine, words):
+    """How far below the stack pointer an instruction reads or writes."""
+    found = re.findall(r"-(\d+)\(%rsp" if machine == "x86_64" else r"\[sp, #-(\d+)\](?!!)", " ".join(words))
+    return max(map(int, found), default=0)
+
+
 def functions(machine, text):
     """Name to the lines of each function: instructions as words, and labels as strings."""
     comment = "#" if machine == "x86_64" else "//"
@@ -179,10 +185,10 @@ def measured(machine, text):
             most, reached = 0, {name}
             for i, depth in depths(machine, bodies[name]).items():
                 words = bodies[name][i]
-                most = max(most, depth + max(0, moved(machine, words)))
+                most = max(most, depth + max(0, moved(machine, words)), depth + below(machine, words))
                 if callee(words):
-                    more, below = measure(callee(words), (*path, name))
-                    most, reached = max(most, depth + more), reached | below
+                    more, others = measure(callee(words), (*path, name))
+                    most, reached = max(most, depth + more), reached | others
             done[name] = (RETURN_ADDRESS[machine] + most, reached)
         return done[name]
 
