@@ -41,7 +41,8 @@ def only(pattern, text):
 
 def sizes_due():
     """Each number that numbers.c writes, from the definitions and laws."""
-    blocks, records, laws = text_of("crates/blocks/specs/*.antt"), text_of("crates/records/specs/*.antt"), text_of("crates/demands/proofs/*.antt")
+    blocks, records = text_of("crates/blocks/specs/*.antt"), text_of("crates/records/specs/*.antt")
+    laws = text_of("crates/demands/proofs/*.antt")
     (ranges,), (entries,) = only(r"^setLimit = (\d+)$", blocks), only(r"^mapLimit = (\d+)$", blocks)
     if "\ncapacity s limit L = min ((L - 1) / s) limit\n" not in blocks:
         sys.exit("numbers.py: capacity is no longer defined as the header says")
@@ -89,8 +90,8 @@ def check_words(written):
     said = {int(status): (name, sentence) for status, name, sentence in re.findall(r"^(\d+) (\w+): (.*)$", written, re.M)}
     names = {status: name for status, (name, _) in said.items() if name != "Unknown"}
     expect("the names of the refusals", names, due)
-    constants = re.findall(r"WIMBLORQUE_(\w+) = 16 \+ (\d+)\b", text_of("include/wimblorque.h"))
-    expect("the header's constants", {int(n): name for name, n in constants}, {n: re.sub(r"(?<=.)(?=[A-Z])", "_", name).upper() for n, name in numbers.items()})
+    constants = {int(n): name for name, n in re.findall(r"WIMBLORQUE_(\w+) = 16 \+ (\d+)\b", text_of("include/wimblorque.h"))}
+    expect("the header's constants", constants, {n: re.sub(r"(?<=.)(?=[A-Z])", "_", name).upper() for n, name in numbers.items()})
     sentences = [sentence for status, (_, sentence) in said.items() if status in due]
     expect("different sentences", len(set(sentences)), len(due))
     for sentence in sentences:
