@@ -5,11 +5,12 @@
     tools/footprint.py --readme    writes the table of README.md anew
     tools/footprint.py --check     fails if one of the bounds below is passed
 
-The code is the archive's (x86-64) and the object's (Arm). The stack is read from the same code as text, which the kit's compiler gives
-for the module by the same words as an object, whose code must be the archive's, byte for byte. Every way through a function is followed, with what each
-instruction does to the stack pointer and what it uses below it (on x86-64 a function that calls nothing may use 128 bytes there, the red
-zone); a call adds what the called function takes, and on x86-64 its return address. Counted is all that a call puts on the stack, from
-its own return address on, without the arguments that its caller put there and without what the host's own memset takes. A call's code is its own and that of every function it can reach, which is what a linker with --gc-sections
+The code is the archive's (x86-64) and the object's (Arm). The stack is read from the same code as text, which the kit's compiler
+gives for the module by the same words as an object, whose code must be the archive's, byte for byte. Every way through a function
+is followed, with what each instruction does to the stack pointer and what it uses below it (on x86-64 a function that calls nothing
+may use 128 bytes there, the red zone); a call adds what the called function takes, and on x86-64 its return address. Counted is all
+that a call puts on the stack, from its own return address on, without the arguments that its caller put there and without what the
+host's own memset takes. A call's code is its own and that of every function it can reach, which is what a linker with --gc-sections
 keeps.
 """
 
