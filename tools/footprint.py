@@ -94,6 +94,9 @@ def moved(machine, words):
         m = re.fullmatch(r"(addq|subq) \$(-?\d+), %rsp", " ".join(words))
         if m:
             return int(m.group(2)) * (1 if m.group(1) == "subq" else -1)
+        m = re.fullmatch(r"leaq (-?\d+)\(%rsp\), %rsp", " ".join(words))
+        if m:
+            return -int(m.group(1))
     else:
         line = " ".join(words)
         m = re.search(r"\[sp, #-(\d+)\]!", line)
@@ -139,32 +142,34 @@ ENDS = {"retq", "ret", "ud2", "brk", "jmp", "jmpq", "b", "br"}
 CALLS = {"callq", "bl"}
 
 
+def targets(words, lines, labels):
+    """The labels that an instruction may jump to. A jump by a table may go to any label that no instruction names."""
+    if words[0] in ("jmpq", "br"):
+        named = {word.rstrip(",") for line in lines if not isinstance(line, str) for word in line[1:]}
+        return [label for label in labels if label not in named]
+    return [word.rstrip(",") for word in words[1:] if word.rstrip(",") in labels]
+
+
 def depths(machine, lines):
     """Each instruction that can be reached, with the stack's length before it: every way through the function is followed."""
     labels = {line: i for i, line in enumerate(lines) if isinstance(line, str)}
     before, todo = {}, [(0, 0)]
     while todo:
         i, depth = todo.pop()
-        while i < len(lines):
-            if isinstance(lines[i], str):
-                i += 1
-                continue
-            if i in before:
-                if before[i] != depth:
-                    sys.exit("footprint: two ways with another length of the stack meet")
-                break
-            before[i] = depth
-            words = lines[i]
-            depth += moved(machine, words)
-            targets = [word.rstrip(",") for word in words[1:] if word.rstrip(",") in labels]
-            if words[0] in ("jmpq", "br"):  # by a table: to any label of the function that only the table names
-                named = {word.rstrip(",") for line in lines if not isinstance(line, str) for word in line[1:]}
-                targets = [label for label in labels if label not in named]
-            todo += [(labels[target], depth) for target in targets]
-            if words[0] in ENDS:
-                break
-            i += 1
-    return before
+        if i >= len(lines) or before.get(i) == depth:
+            continue
+        if i in before:
+            sys.exit("footprint: two ways with another length of the stack meet")
+        before[i] = depth
+        words = lines[i]
+        if isinstance(words, str):
+            todo.append((i + 1, depth))
+            continue
+        depth += moved(machine, words)
+        todo += [(labels[target], depth) for target in targets(words, lines, labels)]
+        if words[0] not in ENDS:
+            todo.append((i + 1, depth))
+    return {i: depth for i, depth in before.items() if not isinstance(lines[i], str)}
 
 
 def measured(machine, text):
@@ -260,26 +265,35 @@ def faults(found):
             yield f"{machine}: needs {f['needs']}, not {NEEDED}"
 
 
+def write_readme(found):
+    """Puts the table in the place of README.md's."""
+    before, _, rest = contents("README.md").decode("utf-8").partition("| bytes |")
+    _, end, after = rest.partition("\n\n")
+    if not end:
+        sys.exit("footprint: README.md has no such table")
+    with open(os.path.join(ROOT, "README.md"), "w", encoding="utf-8") as f:
+        f.write(before + table(found) + end + after)
+
+
+def check(found):
+    """Whether every bound is held; which is not, or in one line what was measured."""
+    wrong = list(faults(found))
+    for fault in wrong:
+        print("footprint:", fault, file=sys.stderr)
+    if not wrong:
+        said = "; ".join(f"{m}: {number(f['code'])} bytes of code, {f['stack']} of stack at most" for m, f in found.items())
+        print(f"footprint: no data, no bss, one symbol needed ({NEEDED[0]}); {said}")
+    return not wrong
+
+
 def main():
     """What was asked for."""
     found = {machine: footprint(machine) for machine in MACHINES}
-    if sys.argv[1:] == ["--readme"]:
-        path = os.path.join(ROOT, "README.md")
-        text = contents("README.md").decode("utf-8")
-        text, times = re.subn(r"\| bytes \|.*?\n(?=\n)", table(found).replace("\\", r"\\") + "\n", text, count=1, flags=re.S)
-        if times != 1:
-            sys.exit("footprint: README.md has no such table")
-        with open(path, "w", encoding="utf-8") as f:
-            f.write(text)
-        return 0
     if sys.argv[1:] == ["--check"]:
-        wrong = list(faults(found))
-        for fault in wrong:
-            print("footprint:", fault, file=sys.stderr)
-        if not wrong:
-            said = "; ".join(f"{m}: {number(f['code'])} bytes of code, {f['stack']} of stack at most" for m, f in found.items())
-            print(f"footprint: no data, no bss, one symbol needed ({NEEDED[0]}); {said}")
-        return 1 if wrong else 0
+        return 0 if check(found) else 1
+    if sys.argv[1:] == ["--readme"]:
+        write_readme(found)
+        return 0
     for machine, f in found.items():
         print(f"{MACHINES[machine]}: code {f['code']}, constants {f['constants']}, data and bss {f['data']}, needs {' '.join(f['needs'])}")
         for name, (code, stack) in sorted(f["calls"].items(), key=lambda item: item[1][1]):
