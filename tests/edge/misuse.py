@@ -63,7 +63,7 @@ def warned(folder, compiler, standard, what, source, option):
     path = os.path.join(folder, f"{what}.{'cpp' if plus else 'c'}")
     with open(path, "w", encoding="ascii") as f:
         f.write(source)
-    words = [compiler, f"-std={standard}", "-Wall", "-Wextra", "-I" + os.path.join(HERE, "../../include"), "-c", path, "-o", os.devnull]
+    words = [compiler, f"-std={standard}", "-Wall", "-I" + os.path.join(HERE, "../../include"), "-c", path, "-o", os.devnull]
     done = subprocess.run(words, stderr=subprocess.PIPE, check=False, env={**os.environ, "LC_ALL": "C"})
     text = done.stderr.decode("utf-8", "replace")
     if done.returncode != 0:
