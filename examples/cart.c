@@ -60,10 +60,14 @@ static void ask(uint64_t pack) {
     if (refused("list", member) || refused("maps", entry)) {
         return;
     }
+    printf("pack %" PRIu64 ": %s, ", pack, member.first == 1 ? "released" : "not released");
+    if (entry.count == 0) {
+        printf("no calibration record\n");
+        return;
+    }
     /* first is where the entry's three words begin, third which of the two maps they are in */
     const uint64_t *const holder = entry.third == 0 ? site : factory;
-    printf("pack %" PRIu64 ": %s, calibration record %" PRIu64 " of the %s\n", pack,
-           member.first == 1 ? "released" : "not released", holder[entry.first + 2], entry.third == 0 ? "site" : "factory");
+    printf("calibration record %" PRIu64 " of the %s\n", holder[entry.first + 2], entry.third == 0 ? "site" : "factory");
 }
 
 /* Reserves numbers for 50 packs to come: the first that are neither released nor withdrawn. */
@@ -105,6 +109,7 @@ int main(int count, char **words) {
     }
     ask(1500);
     ask(1999);
+    ask(3000);
     for (uint64_t i = 0; i < blocks[now][0]; i++) {
         const wimblorque_answer range = wimblorque_set_range_at(blocks[now], WORDS, i);
         printf("%" PRIu64 "..%" PRIu64 "\n", range.first, range.second);

@@ -12,7 +12,7 @@
               or byte lent to it.
      place    of a refusal: the position of the block that is refused, counted from 0 as this header lists the call's blocks (inputs
               first, then outputs); for bytes, where the refused record begins; 0 for the other refusals. Accepted: 0.
-     count    how many values the call answers, 0 to 3. Refused: 0. A question that finds nothing answers 0 values.
+     count    how many values the call answers, 0 to 3. Refused: 0. A question that finds nothing answers 0 values, without exception.
      first, second, third    the values; 0 where there are fewer.
    A part of a block is answered as its offset, in words from the block's start, and its length, in words.
    The result of every call has to be used: gcc and clang, and any compiler of C23 or C++17, warn where it is not.
@@ -140,8 +140,8 @@ WIMBLORQUE_MUST_USE wimblorque_answer wimblorque_set_least_member(const uint64_t
 /* The least number at or above x that is not a member. One value, or none. */
 WIMBLORQUE_MUST_USE wimblorque_answer wimblorque_set_least_non_member(const uint64_t *block, size_t words, uint64_t x);
 
-/* The part of the block with the ranges that share a number with a..b, unclipped. Two values, offset and length; if there are none the
-   length is 0 and the offset is where they would stand, behind the ranges below a. Refused also with 4. */
+/* The part of the block with the ranges that share a number with a..b, unclipped. Two values, offset and length; none if there are no
+   such ranges. Refused also with 4. */
 WIMBLORQUE_MUST_USE wimblorque_answer wimblorque_set_window(const uint64_t *block, size_t words, uint64_t a, uint64_t b);
 
 /* Of two sets: have they the same members; is every member of the first one of the second; have they no number in common?
@@ -231,8 +231,8 @@ WIMBLORQUE_MUST_USE wimblorque_answer wimblorque_map_erase(uint64_t *WIMBLORQUE_
 WIMBLORQUE_MUST_USE wimblorque_answer wimblorque_map_window(const uint64_t *block, size_t words, uint64_t a, uint64_t b);
 
 /* The entry that decides x: the site map's if x has a value there, else the factory map's. Three values: the offset and the length, 3,
-   of its part, and the position of the map that holds it, 0 the site, 1 the factory. All three are 0 if x has no value in either.
-   Changes nothing. Both maps are judged whatever x is: refused with 1, 2, 3 of each in turn. Blocks: site 0, factory 1. */
+   of its part, and the position of the map that holds it, 0 the site, 1 the factory; none if x has no value in either: look at
+   count. Changes nothing. Both maps are judged whatever x is: refused with 1, 2, 3 of each in turn. Blocks: site 0, factory 1. */
 WIMBLORQUE_MUST_USE wimblorque_answer wimblorque_map_site_over_factory(const uint64_t *site, size_t site_words,
     const uint64_t *factory, size_t factory_words, uint64_t x);
 
