@@ -7,6 +7,7 @@ pub mod Questions
 pub mod MapQuestions
 pub mod Changes
 pub mod Exactly
+pub mod Fits
 pub mod Bulletins
-pub mod Bytes
-pub mod Table
+-- BYTES
+-- TABLE

@@ -1,3 +1,4 @@
 pub mod Plain
 pub mod Questions
 pub mod Changes
+pub mod Fits

@@ -47,7 +47,7 @@ module _ (fit : ℕ → ℕ → ℕ → List Entry → Option ℕ) (w : List ℕ
       go (some t) z h = let i : t ≡ s = cc in ap some i
 
   -- a reservation at the place that the question answers
-  reserved-at : (s : ℕ) → Chosen s → reserveCall fit w a b k ≡ reserving w s k
+  pub reserved-at : (s : ℕ) → Chosen s → reserveCall fit w a b k ≡ reserving w s k
   unfolding reserveCall
   reserved-at s c =
       clear-turn (askRefusals w a b k) (w ∷ []) (rest (fit a b k (entriesOf 2 w))) (c .clear) ∙ ap rest (c .place)
