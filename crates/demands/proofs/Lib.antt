@@ -8,6 +8,7 @@ pub mod MapQuestions
 pub mod Changes
 pub mod Exactly
 pub mod Fits
+pub mod Stored
 pub mod Bulletins
 -- BYTES
 -- TABLE

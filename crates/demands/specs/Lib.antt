@@ -2,3 +2,4 @@ pub mod Plain
 pub mod Questions
 pub mod Changes
 pub mod Fits
+pub mod Stored
