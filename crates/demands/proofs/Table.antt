@@ -17,10 +17,10 @@ use Rattle.fits.specs.Fits.{gaps, placeIn}
 use Rattle.fits.specs.Calls.{fitCall, reserveCall, firstFitCall, bestFitCall, reserveFirstCall, reserveBestCall}
 use Rattle.maps.specs.Calls.{assignCall}
 use Rattle.bulletins.specs.Calls.{applyCall, foldCall}
-use Rattle.records.specs.Check.{fletcher, checkOf}
-use Rattle.records.specs.Records.{bodyLength, headVerdict, startVerdict, itemVerdict}
-use Rattle.runs.specs.Runs.{runOf, entriesIn, runVerdict}
-use Rattle.forms.specs.Forms.{formOf, formEntries, formVerdict}
+use Rattle.numbers.specs.Check.{fletcher, checkOf}
+use Rattle.records.specs.Records.{bodyLength, said, saying, recordVerdict}
+use Rattle.runs.specs.Runs.{runOf, entriesIn, runRefusals, runsOf, runsIn, runsRefusals}
+use Rattle.verdicts.specs.Forms.{formOf, formEntries, formRefusals}
 use Rattle.forms.specs.Calls.{readCall, writeCall, readSetCall, writeSetCall}
 
 pub record Case : Type 0 where
@@ -144,6 +144,6 @@ table =
 
 pub worked : wrong 0 table ≡ []
 unfolding editCall verdict put blockOf memberCall sizeCall leastNonMemberCall unionCall complementCall complement union intersection difference
-    fitCall reserveCall placeIn gaps shareb applyCall foldCall readCall writeCall formOf formVerdict formEntries runOf runVerdict entriesIn
-    startVerdict itemVerdict headVerdict bodyLength checkOf fletcher
+    fitCall reserveCall placeIn gaps shareb applyCall foldCall readCall writeCall formOf formRefusals formEntries runsOf runsIn runsRefusals
+    runOf runRefusals entriesIn said saying recordVerdict bodyLength checkOf fletcher
 worked = refl
