@@ -12,14 +12,9 @@ use Rattle.entries.specs.Build.{pick}
 use Rattle.answers.specs.Answers.{Outcome, judged}
 use Rattle.blocks.specs.declared.Layout.{Layout}
 use Rattle.blocks.specs.Blocks.{capacity, entriesOf, itemsOf, wordsOf, soundb, verdict}
+use Rattle.d14.specs.Plain.{SameForm}
 use Rattle.blocks.proofs.Words.{items-shaped, items-length, read-back, write-back}
 use Rattle.blocks.proofs.Judging.{room-words, verdict-sound}
-
--- as long, with the same word 0 and the same words of the items that it counts
-pub record SameForm (l : Layout) (w v : List ℕ) : Type 0 where
-  pub long : length w ≡ length v
-  pub count : getD w 0 0 ≡ getD v 0 0
-  pub items : take (l .width * getD w 0 0) (drop 1 w) ≡ take (l .width * getD w 0 0) (drop 1 v)
 
 same-items : (s n : ℕ) (ws vs : List ℕ) → 2 ≤ s → s * n ≤ length ws → s * n ≤ length vs → take (s * n) ws ≡ take (s * n) vs → itemsOf s n ws ≡ itemsOf s n vs
 same-items s n ws vs two h k e =

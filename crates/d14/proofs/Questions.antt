@@ -11,7 +11,7 @@ use lib.ListN.{length, getD, take, drop}
 use borrow.Author.Tests.{le-ltb, leb-true, leb-false, le-leb, eqb-true, eqb-false, ne-eqb}
 use Rattle.entries.specs.Entries.{Value, Entry, Sound, valueAt}
 use Rattle.entries.specs.Build.{pick, andb}
-use Rattle.entries.specs.Sets.{M, pastM, has, member}
+use Rattle.entries.specs.Sets.{M, pastM, has, member, symmetricDifference, difference, intersection}
 use Rattle.entries.specs.Questions.{rangeAt, sizeOf, leastMember, leastFree, isEmpty, meeting}
 use Rattle.entries.proofs.Values.{true≢false}
 use Rattle.entries.proofs.Questions.{count, size-counts, Least, LeastOf, least-member, least-free, range-in, range-out, none-empty}
@@ -26,11 +26,13 @@ use Rattle.blocks.specs.declared.Layout.{Layout}
 use Rattle.searches.specs.Parts.{wordsAt, noPart}
 use Rattle.searches.specs.Calls.{windowPart, windowRefusals, windowCall}
 use Rattle.searches.proofs.Windows.{window-words}
-use Rattle.sets.specs.Calls.{asked, ends, nonMember, memberCall, rangeAtCall, sizeCall, leastMemberCall, leastNonMemberCall}
+use Rattle.sets.specs.Calls.{asked, ends, nonMember, memberCall, rangeAtCall, sizeCall, leastMemberCall, leastNonMemberCall, askedTwo, equalCall, withinCall, disjointCall}
+use Rattle.sweeps.proofs.Tables.{bounded}
 use Rattle.sets.proofs.Sizes.{entries-under}
 use Rattle.d14.specs.Plain.{Iff, SoundSet, InRange, In, answers, yes, no}
-use Rattle.d14.specs.Questions.{Answers, InSet, Member, RangeAt, Size, LeastMember, LeastNonMember, SetWindow}
-use Rattle.d14.proofs.Words.{InItem, in-item, item-in}
+use Rattle.d14.specs.Questions.{Answers, InSet, Member, RangeAt, Size, LeastMember, LeastNonMember, SetWindow, Equal, Within, Disjoint}
+use Rattle.d14.proofs.Sets.{equal-means, means-equal, within-means, means-within, disjoint-means, means-disjoint}
+use Rattle.d14.proofs.Words.{split, InItem, in-item, item-in}
 
 -- a number has a value or none
 has-some : (o : Option Value) → has o ≡ true → (P : Type 0) → ((v : Value) → o ≡ some v → P) → P
@@ -246,3 +248,51 @@ window-means l two w a b s order =
 
 pub set-window-means : SetWindow
 set-window-means w a b s order = window-means setLayout (omega arith) w a b s order
+
+-- OF TWO SETS, looked at in 0 to M alone: past M no lent block has a member
+past-M : (w : List ℕ) → Lent w → (x : ℕ) → pastM ≤ x → In w x ≡ false
+past-M w lent x h = ap has (bounded 2 w lent x h)
+
+upto-M : (w v : List ℕ) → Lent w → Lent v → ((x : ℕ) → x ≤ M → In w x ≡ In v x) → (x : ℕ) → In w x ≡ In v x
+upto-M w v p q h x = split x (λ l. h x l) (λ l. past-M w p x l ∙ sym (past-M v q x l))
+
+asked-two : (w v : List ℕ) → SoundSet w → SoundSet v → (answer : List Entry → List Entry → Answer)
+    → askedTwo w v answer ≡ outcome (answer (entriesOf 2 w) (entriesOf 2 v)) []
+asked-two w v p q answer = clear-turn (input 0 setLayout w ∷ input 1 setLayout v ∷ []) [] _ (p, (q, tt))
+
+pub equal-answers : Equal
+unfolding equalCall
+equal-answers w v p q lw lv =
+    decided (equalCall w v) (isEmpty (symmetricDifference (entriesOf 2 w) (entriesOf 2 v))) ((x : ℕ) → x ≤ M → In w x ≡ In v x)
+    (asked-two w v p q (λ es fs. truth (isEmpty (symmetricDifference es fs))))
+    (λ e x l. equal-means (entriesOf 2 w) (entriesOf 2 v) e x)
+    (λ h. means-equal (entriesOf 2 w) (entriesOf 2 v) (upto-M w v lw lv h))
+
+pub within-answers : Within
+unfolding withinCall
+within-answers w v p q lw =
+    decided (withinCall w v) (isEmpty (difference (entriesOf 2 w) (entriesOf 2 v))) ((x : ℕ) → x ≤ M → In w x ≡ true → In v x ≡ true)
+    (asked-two w v p q (λ es fs. truth (isEmpty (difference es fs))))
+    (λ e x l m. within-means (entriesOf 2 w) (entriesOf 2 v) e x m)
+    (λ h. means-within (entriesOf 2 w) (entriesOf 2 v) (λ x m. split x (λ l. h x l m) (λ l. absurd (true≢false (sym m ∙ past-M w lw x l)))))
+
+pub disjoint-answers : Disjoint
+unfolding disjointCall
+disjoint-answers w v p q lw =
+    decided (disjointCall w v) (isEmpty (intersection (entriesOf 2 w) (entriesOf 2 v))) ((x : ℕ) → x ≤ M → In w x ≡ true → In v x ≡ true → ⊥)
+    (asked-two w v p q (λ es fs. truth (isEmpty (intersection es fs))))
+    (λ e x l m n. true≢false (sym (both (In w x) (In v x) m n) ∙ disjoint-means (entriesOf 2 w) (entriesOf 2 v) e x))
+    (λ h. means-disjoint (entriesOf 2 w) (entriesOf 2 v) (λ x. split x (λ l. apart (In w x) (In v x) (h x l)) (λ l. first-out (In w x) (In v x) (past-M w lw x l))))
+  where
+    both : (t u : Bool) → t ≡ true → u ≡ true → andb t u ≡ true
+    both true u e f = f
+    both false u e f = absurd (true≢false (sym e))
+
+    apart : (t u : Bool) → (t ≡ true → u ≡ true → ⊥) → andb t u ≡ false
+    apart true true h = absurd (h refl refl)
+    apart true false h = refl
+    apart false u h = refl
+
+    first-out : (t u : Bool) → t ≡ false → andb t u ≡ false
+    first-out true u e = absurd (true≢false e)
+    first-out false u e = refl

@@ -5,8 +5,10 @@ use mathlib.Core.Bool.{Bool, true, false}
 use mathlib.Core.List.{List, [], _∷_}
 use Prim.Native.Nat.{ℕ, zero, suc, _+_, _*_, _-_, _≤_, _<_}
 use native.Mathlib.Omega.{arith}
+use native.Mathlib.Decide.{decLt}
 use lib.ListN.{length, getD, take, drop}
 use Rattle.entries.specs.Entries.{Value, Entry, Sound, valueAt}
+use Rattle.entries.specs.Sets.{M, pastM}
 use Rattle.entries.proofs.Sides.{Side, under, inside, past, side, val-in, val-past, val-under}
 use Rattle.entries.proofs.Index.{rises}
 use Rattle.blocks.specs.declared.Layout.{Layout}
@@ -14,6 +16,14 @@ use Rattle.blocks.specs.Blocks.{entriesOf, verdict}
 use Rattle.blocks.specs.Steps.{zero-item, itemAt}
 use Rattle.blocks.proofs.Items.{entries-count, entry-is}
 use Rattle.blocks.proofs.Judging.{verdict-sound}
+
+-- a number is at most M, or past it
+pub split : (x : ℕ) {P : Type 0} → (x ≤ M → P) → (pastM ≤ x → P) → P
+split x {P} f g = go (decLt x pastM)
+  where
+    go : Dec (x < pastM) → P
+    go (yes h) = f (omega arith)
+    go (no h) = g (omega arith)
 
 -- entry i holds x, and has the value v
 pub record Held (es : List Entry) (x : ℕ) (v : Value) : Type 0 where

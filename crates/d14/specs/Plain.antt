@@ -4,9 +4,11 @@ use mathlib.Core.Bool.{Bool}
 use mathlib.Core.Option.{Option}
 use mathlib.Core.List.{List, [], _∷_}
 use Prim.Native.Nat.{ℕ, _+_, _*_, _≤_, _<_}
-use lib.ListN.{length, getD}
+use lib.Dec.{leb}
+use lib.ListN.{length, getD, take, drop}
 use Rattle.entries.specs.Entries.{Value, valueAt}
-use Rattle.entries.specs.Sets.{member, M}
+use Rattle.entries.specs.Build.{andb}
+use Rattle.entries.specs.Sets.{member}
 use Rattle.answers.specs.Answers.{given, Outcome, outcome}
 use Rattle.blocks.specs.declared.Layout.{Layout}
 use Rattle.blocks.specs.Blocks.{setLayout, mapLayout, entriesOf, blockOf, verdict}
@@ -58,3 +60,28 @@ no = answers (0 ∷ [])
 
 abbrev pub leaves : List ℕ → Outcome
 leaves after = outcome (given []) (after ∷ [])
+
+-- [B8, D2, S13] what an accepted call leaves in a map block of L words: a sound block, as long as it was, that gives exactly the values of
+-- F, with zeros behind its stored form
+pub record Left (l : Layout) (L : ℕ) (F : ℕ → Option Value) (after : List ℕ) : Type 0 where
+  pub sound : verdict l after ≡ 0
+  pub long : length after ≡ L
+  pub names : (x : ℕ) → valueAt (entriesOf (l .width) after) x ≡ F x
+  pub stored-form : after ≡ blockOf L (entriesOf (l .width) after)
+
+-- and in a set block: one that has exactly the members that m accepts
+pub record SetLeft (L : ℕ) (m : ℕ → Bool) (after : List ℕ) : Type 0 where
+  pub sound : verdict setLayout after ≡ 0
+  pub long : length after ≡ L
+  pub members : (x : ℕ) → In after x ≡ m x
+  pub stored-form : after ≡ blockOf L (entriesOf (setLayout .width) after)
+
+-- x is one of a..b
+abbrev pub between : ℕ → ℕ → ℕ → Bool
+between a b x = andb (leb a x) (leb x b)
+
+-- two blocks of one length with the same word 0 and the same words of the items that it counts
+pub record SameForm (l : Layout) (w v : List ℕ) : Type 0 where
+  pub long : length w ≡ length v
+  pub count : getD w 0 0 ≡ getD v 0 0
+  pub items : take (l .width * getD w 0 0) (drop 1 w) ≡ take (l .width * getD w 0 0) (drop 1 v)

@@ -1,23 +1,31 @@
 -- WHAT IS ASKED OF A LIST, by its meaning. Each call is said to answer, of a sound block; on any other block it is refused by R1, R2, R3.
 use mathlib.Core.Path.{_≡_}
 use mathlib.Core.Bool.{true, false}
-use mathlib.Core.Option.{none, some}
+use mathlib.Core.Option.{some}
 use mathlib.Core.List.{List, [], _∷_}
 use Prim.Native.Nat.{ℕ, suc, _+_, _*_, _≤_, _<_}
 use lib.ListN.{getD}
 use Rattle.entries.specs.Sets.{M, pastM}
 use Rattle.entries.specs.Questions.{meeting}
 use Rattle.entries.proofs.Questions.{count}
-use Rattle.blocks.specs.Blocks.{setLayout, entriesOf, wordsOf}
+use Rattle.blocks.specs.Blocks.{setLayout, mapLayout, entriesOf, wordsOf}
 use Rattle.blocks.specs.Steps.{Lent}
 use Rattle.answers.specs.Answers.{Outcome}
+use Rattle.entries.specs.Build.{pick}
+use Rattle.entries.specs.Sets.{has}
+use Rattle.maps.specs.Calls.{lookUpCall, mapWindowCall, siteOverFactoryCall}
+use Rattle.maps.proofs.Sites.{wordsOfTwo}
 use Rattle.sets.specs.Calls.{memberCall, rangeAtCall, sizeCall, leastMemberCall, leastNonMemberCall, setWindowCall, equalCall, withinCall, disjointCall}
 use Rattle.searches.specs.Parts.{wordsAt}
-use Rattle.d14.specs.Plain.{Iff, SoundSet, InRange, In, answers, yes, no}
+use Rattle.d14.specs.Plain.{Iff, SoundSet, SoundMap, InRange, InEntry, In, ValueOf, answers, yes, no}
 
 -- [B1, B2] the plain set is exactly what the words say
 abbrev pub InSet : Type 0
 InSet = (w : List ℕ) (x : ℕ) → SoundSet w → Iff (In w x ≡ true) (InRange w x)
+
+-- [B1, B2, B6] and the plain assignment
+abbrev pub InMap : Type 0
+InMap = (w : List ℕ) (x v : ℕ) → SoundMap w → Iff (ValueOf w x ≡ some (v ∷ [])) (InEntry w x v)
 
 -- yes exactly if P holds, and no exactly if it does not
 abbrev pub Answers : Outcome → Type 0 → Type 0
@@ -59,6 +67,26 @@ Within = (w v : List ℕ) → SoundSet w → SoundSet v → Lent w → Answers (
 abbrev pub Disjoint : Type 0
 Disjoint = (w v : List ℕ) → SoundSet w → SoundSet v → Lent w → Answers (disjointCall w v) ((x : ℕ) → x ≤ M → In w x ≡ true → In v x ≡ true → ⊥)
 
+-- [M1, D2] look up: v exactly if x stands in an entry with the value v; no value exactly if it stands in none
+abbrev pub LookUp : Type 0
+LookUp = (w : List ℕ) (x : ℕ) → SoundMap w
+    → ((v : ℕ) → Iff (lookUpCall w x ≡ answers (v ∷ [])) (InEntry w x v)) × Iff (lookUpCall w x ≡ answers []) ((v : ℕ) → InEntry w x v → ⊥)
+
 -- [S6, M7, G2] a window's words: those of all ranges, or entries, that share a number with a..b, in order
 abbrev pub SetWindow : Type 0
 SetWindow = (w : List ℕ) (a b : ℕ) → SoundSet w → a ≤ b → wordsAt w (setWindowCall w a b) ≡ wordsOf (meeting a b (entriesOf (setLayout .width) w))
+
+abbrev pub MapWindow : Type 0
+MapWindow = (w : List ℕ) (a b : ℕ) → SoundMap w → a ≤ b → wordsAt w (mapWindowCall w a b) ≡ wordsOf (meeting a b (entriesOf (mapLayout .width) w))
+
+-- [M8, G1] site over factory: the words of the window x..x of the site map if x has a value there, else of that of the factory map
+abbrev pub SiteOverFactory : Type 0
+SiteOverFactory = (site factory : List ℕ) (x : ℕ) → SoundMap site → SoundMap factory
+    → wordsOfTwo site factory (siteOverFactoryCall site factory x)
+    ≡ pick (has (ValueOf site x)) (wordsAt site (mapWindowCall site x x)) (wordsAt factory (mapWindowCall factory x x))
+
+-- and it lies in the site map exactly if x has a value there
+abbrev pub WhichMap : Type 0
+WhichMap = (site factory : List ℕ) (x : ℕ) → SoundMap site → SoundMap factory
+    → (siteOverFactoryCall site factory x .position ≡ pick (has (ValueOf site x)) 0 1)
+    × Iff (siteOverFactoryCall site factory x .length ≡ 0) ((v : ℕ) → (InEntry site x v → ⊥) × (InEntry factory x v → ⊥))

@@ -1,7 +1,6 @@
 use denote.Ref.{now}
 use mathlib.Core.Path.{_∙_, ap}
 use lib.ListN.{length}
-use Rattle.sweeps.specs.Sweeps.{amending}
 use Rattle.blocks.specs.Blocks.{blockOf}
 use Rattle.sweeps.proofs.Tables.{fit-set}
 use Rattle.bulletins.proofs.Amending.{swept-is, write-fits}
@@ -18,7 +17,7 @@ write-requires c κs =
     let start = c .before .before .before .before .before in (
       start .pre .inputs,
       (
-        fit-set amending 2 2 2 (omega arith) (omega arith) (omega arith),
+        fit-set _ 2 2 2 (omega arith) (omega arith) (omega arith),
         write-fits (now (start .args .list)) (now (start .args .released))
             (now (start .args .withdrawn)) _ (start .pre),
       ),

@@ -1,5 +1,4 @@
 use denote.Ref.{now}
-use Rattle.sweeps.specs.Sweeps.{amending}
 use Rattle.sweeps.proofs.Tables.{fit-set}
 use Rattle.bulletins.proofs.Amending.{most, room-yes, room-no}
 use native.Mathlib.Omega.{arith}
@@ -38,7 +37,7 @@ fits-requires c κs =
     let start = at-count-of .before .before .before .before in (
       start .pre .0,
       (
-        fit-set amending 2 2 2 (omega arith) (omega arith) (omega arith),
+        fit-set _ 2 2 2 (omega arith) (omega arith) (omega arith),
         (
           omega (arith, c .room-for .ensures),
           most (now (start .args .list)) (now (start .args .released)) (now (start .args .withdrawn)) (start .pre .0)

@@ -1,0 +1,192 @@
+-- What is asked of a map, by its meaning: the statements of specs/Questions.
+use mathlib.Core.Path.{_≡_, refl, sym, _∙_, ap, subst}
+use mathlib.Core.Option.{Option, none, some}
+use mathlib.Core.Bool.{Bool, true, false}
+use mathlib.Core.List.{List, [], _∷_}
+use Prim.Native.Nat.{ℕ, zero, suc, _+_, _*_, _≤_, _<_}
+use native.Mathlib.Omega.{arith}
+use lib.ListN.{length, getD, take, drop}
+use lib.Seq.{drop-cons}
+use borrow.Author.Tests.{le-leb, lt-leb, le-ltb}
+use Rattle.entries.specs.Entries.{Value, Entry, Sound, valueAt}
+use Rattle.entries.specs.Build.{pick}
+use Rattle.entries.specs.Sets.{has}
+use Rattle.entries.specs.Questions.{meeting, whollyBelow}
+use Rattle.entries.proofs.Values.{true≢false}
+use Rattle.entries.proofs.Sides.{Side, under, inside, past, side, val-in, val-past, none-under, none-upto}
+use Rattle.answers.specs.Answers.{Answer, given, Outcome, outcome, inTurn, handed}
+use Rattle.answers.proofs.Turns.{clear-turn}
+use Rattle.blocks.specs.Blocks.{mapLayout, entriesOf, verdict}
+use Rattle.blocks.specs.Calls.{input}
+use Rattle.blocks.proofs.Judging.{verdict-sound, room-words}
+use Rattle.searches.specs.Parts.{part, noPart, wordsAt}
+use Rattle.searches.specs.Calls.{windowPart, windowRefusals, windowCall, entryPart}
+use Rattle.maps.specs.declared.Deciding.{Deciding}
+use Rattle.maps.specs.Calls.{mapEntries, worth, lookUpCall, mapWindowCall, partIn, deciding, siteRefusals, siteOverFactoryCall}
+use Rattle.maps.proofs.Sites.{wordsOfTwo}
+use Rattle.d14.specs.Plain.{Iff, SoundMap, InEntry, ValueOf, answers}
+use Rattle.d14.specs.Questions.{InMap, LookUp, MapWindow, SiteOverFactory, WhichMap}
+use Rattle.d14.proofs.Words.{InItem, in-item, item-in}
+use Rattle.d14.proofs.Questions.{window-means}
+
+-- the one word of an entry's value
+one-word : (w : List ℕ) (i : ℕ) → SoundMap w → i < getD w 0 0 → take 1 (drop (3 * i + 3) w) ≡ getD w (3 + 3 * i) 0 ∷ []
+one-word w i s h =
+    let d = verdict-sound mapLayout w s in
+    let r = room-words mapLayout (length w) (getD w 0 0) (d .some) (d .fits) in
+    let k : 3 * i + 3 < length w = omega arith in
+    let p : 3 * i + 3 ≡ 3 + 3 * i = omega arith in
+    ap (take 1) (drop-cons w (3 * i + 3) 0 k) ∙ ap (λ (j : ℕ). getD w j 0 ∷ []) p
+
+value-in : (w : List ℕ) (x v : ℕ) → SoundMap w → ValueOf w x ≡ some (v ∷ []) → InEntry w x v
+value-in w x v s e =
+    let g = in-item mapLayout w (omega arith) s x (v ∷ []) e in
+    let p : 1 + 3 * g .index ≡ 3 * g .index + 1 = omega arith in
+    let q : 2 + 3 * g .index ≡ 3 * g .index + 2 = omega arith in
+    record { index = g .index; below = g .below; low = rw p (g .low); high = rw q (g .high); value = head (sym (one-word w (g .index) s (g .below)) ∙ g .value) }
+  where
+    head : {a b : ℕ} → a ∷ [] ≡ b ∷ [] → a ≡ b
+    head e = cc
+
+in-value : (w : List ℕ) (x v : ℕ) → SoundMap w → InEntry w x v → ValueOf w x ≡ some (v ∷ [])
+in-value w x v s g =
+    let p : 1 + 3 * g .index ≡ 3 * g .index + 1 = omega arith in
+    let q : 2 + 3 * g .index ≡ 3 * g .index + 2 = omega arith in
+    item-in mapLayout w (omega arith) s x (v ∷ [])
+    (record {
+      index = g .index;
+      below = g .below;
+      low = rw p at (g .low);
+      high = rw q at (g .high);
+      value = one-word w (g .index) s (g .below) ∙ ap (λ (y : ℕ). y ∷ []) (g .value);
+    })
+
+pub in-map : InMap
+in-map w x v s = record { to = value-in w x v s; from = in-value w x v s }
+
+worth-some : (o : Option Value) (v : ℕ) → outcome (worth o) [] ≡ answers (v ∷ []) → o ≡ some (v ∷ [])
+worth-some none v e = let z : _≡_ {A = ℕ} 0 1 = cc in absurd (omega arith)
+worth-some (some u) v e = let z : u ≡ v ∷ [] = cc in ap some z
+
+pub look-up-means : LookUp
+unfolding lookUpCall
+look-up-means w x s = (λ v. record { to = λ e. value-in w x v s (worth-some (ValueOf w x) v (sym asked ∙ e)); from = λ g. found v g }, record { to = nothing; from = alone })
+  where
+    asked : lookUpCall w x ≡ outcome (worth (ValueOf w x)) []
+    asked = clear-turn (input 0 mapLayout w ∷ []) [] _ (s, tt)
+
+    found : (v : ℕ) → InEntry w x v → lookUpCall w x ≡ answers (v ∷ [])
+    found v g = asked ∙ ap (λ (o : Option Value). outcome (worth o) []) (in-value w x v s g)
+
+    nothing : lookUpCall w x ≡ answers [] → (v : ℕ) → InEntry w x v → ⊥
+    nothing e v g = let q = sym (found v g) ∙ e in let z : _≡_ {A = ℕ} 0 1 = cc in omega arith
+
+    alone : ((v : ℕ) → InEntry w x v → ⊥) → lookUpCall w x ≡ answers []
+    alone h = asked ∙ go (ValueOf w x) refl
+      where
+        go : (o : Option Value) → ValueOf w x ≡ o → outcome (worth o) [] ≡ answers []
+        go none e = refl
+        go (some u) e =
+            let g = in-item mapLayout w (omega arith) s x u e in
+            let v = getD w (3 + 3 * g .index) 0 in
+            let k : u ≡ v ∷ [] = sym (g .value) ∙ one-word w (g .index) s (g .below) in
+            absurd (h v (value-in w x v s (e ∙ ap some k)))
+
+pub map-window-means : MapWindow
+map-window-means w a b s order = window-means mapLayout (omega arith) w a b s order
+
+-- THE DECIDING ENTRY is the window x..x: one entry where x has a value, and else none
+meets : (e : Entry) (es : List Entry) (x : ℕ) → Sound (e ∷ es) → Side e x → length (meeting x x es) ≡ pick (has (valueAt es x)) 1 0
+    → length (meeting x x (e ∷ es)) ≡ pick (has (valueAt (e ∷ es) x)) 1 0
+meets e es x s (under h) ih =
+    let l : length (meeting x x (e ∷ es)) ≡ length (meeting x x es) = rw (lt-leb (e .low) x h) refl in
+    l ∙ ih ∙ ap (λ (o : Option Value). pick (has o) 1 0) (none-upto e es (s .1) (s .2) x (omega (arith, s .0)) ∙ sym (none-under e es s x h))
+meets e es x s (inside h k) ih =
+    let l : length (meeting x x (e ∷ es)) ≡ suc (length (meeting x x es)) = rw (le-leb (e .low) x h, le-leb x (e .high) k) refl in
+    l ∙ ap suc (ih ∙ ap (λ (o : Option Value). pick (has o) 1 0) (none-upto e es (s .1) (s .2) x k))
+    ∙ sym (ap (λ (o : Option Value). pick (has o) 1 0) (val-in e es x h k))
+meets e es x s (past h) ih =
+    let l : length (meeting x x (e ∷ es)) ≡ length (meeting x x es) = rw (le-leb (e .low) x (omega (arith, s .0)), lt-leb x (e .high) h) refl in
+    l ∙ ih ∙ sym (ap (λ (o : Option Value). pick (has o) 1 0) (val-past e es x h))
+
+count-here : (es : List Entry) (x : ℕ) → Sound es → length (meeting x x es) ≡ pick (has (valueAt es x)) 1 0
+count-here [] x s = refl
+count-here (e ∷ es) x s = meets e es x s (side e x) (count-here es x (s .2))
+
+entry-window : (w : List ℕ) (x : ℕ) → SoundMap w → wordsAt w (entryPart (mapLayout .width) w x) ≡ wordsAt w (mapWindowCall w x x)
+unfolding windowCall entryPart
+entry-window w x s =
+    go (has (ValueOf w x)) (length (meeting x x es)) (count-here es x (verdict-sound mapLayout w s .sound))
+    ∙ sym (ap (λ (o : Outcome). wordsAt w (handed o (windowPart (mapLayout .width) w x x) noPart))
+    (clear-turn (windowRefusals mapLayout w x x) [] (outcome (given []) []) (s, (rw (le-ltb x x (omega arith)), tt))))
+  where
+    es : List Entry
+    es = mapEntries w
+
+    below : ℕ
+    below = length (whollyBelow x es)
+
+    go : (t : Bool) (n : ℕ) → n ≡ pick t 1 0 → wordsAt w (pick t (part (1 + 3 * below) 3) noPart) ≡ take (3 * n) (drop (1 + 3 * below) w)
+    go true n e = let k : 3 ≡ 3 * n = omega arith in ap (λ (m : ℕ). take m (drop (1 + 3 * below) w)) k
+    go false n e = let k : 0 ≡ 3 * n = omega arith in ap (λ (m : ℕ). take m (drop (1 + 3 * below) w)) k
+
+module _ (site factory : List ℕ) (x : ℕ) (p : SoundMap site) (q : SoundMap factory) where
+  decided-here : siteOverFactoryCall site factory x ≡ deciding site factory x
+  unfolding siteOverFactoryCall
+  decided-here =
+      ap (λ (o : Outcome). handed o (deciding site factory x) (partIn 0 noPart)) (clear-turn (siteRefusals site factory) [] (outcome (given []) []) (p, (q, tt)))
+
+  decided-words : (t : Bool) → has (ValueOf site x) ≡ t
+      → wordsOfTwo site factory (pick t (partIn 0 (entryPart (mapLayout .width) site x)) (partIn 1 (entryPart (mapLayout .width) factory x)))
+      ≡ pick t (wordsAt site (mapWindowCall site x x)) (wordsAt factory (mapWindowCall factory x x))
+  decided-words true e = entry-window site x p
+  decided-words false e = entry-window factory x q
+
+pub site-over-factory-means : SiteOverFactory
+site-over-factory-means site factory x p q =
+    ap (wordsOfTwo site factory) (decided-here site factory x p q) ∙ decided-words site factory x p q (has (ValueOf site x)) refl
+
+-- no value, no entry
+no-entry : (w : List ℕ) (x : ℕ) → SoundMap w → has (ValueOf w x) ≡ false → (v : ℕ) → InEntry w x v → ⊥
+no-entry w x s e v g = true≢false (ap has (sym (in-value w x v s g)) ∙ e)
+
+some-entry : (w : List ℕ) (x : ℕ) → SoundMap w → ((v : ℕ) → InEntry w x v → ⊥) → has (ValueOf w x) ≡ false
+some-entry w x s h = go (ValueOf w x) refl
+  where
+    go : (o : Option Value) → ValueOf w x ≡ o → has o ≡ false
+    go none e = refl
+    go (some u) e =
+        let g = in-item mapLayout w (omega arith) s x u e in
+        let v = getD w (3 + 3 * g .index) 0 in
+        let k : u ≡ v ∷ [] = sym (g .value) ∙ one-word w (g .index) s (g .below) in
+        absurd (h v (value-in w x v s (e ∙ ap some k)))
+
+pub which-map-means : WhichMap
+unfolding entryPart
+which-map-means site factory x p q = (ap (λ (d : Deciding). d .position) here ∙ position (has (ValueOf site x)), record { to = nothing; from = alone })
+  where
+    here : siteOverFactoryCall site factory x ≡ deciding site factory x
+    here = decided-here site factory x p q
+
+    position : (t : Bool) → (pick t (partIn 0 (entryPart (mapLayout .width) site x)) (partIn 1 (entryPart (mapLayout .width) factory x))) .position ≡ pick t 0 1
+    position true = refl
+    position false = refl
+
+    -- the length is that of the deciding entry
+    long : (t u : Bool) → has (ValueOf site x) ≡ t → has (ValueOf factory x) ≡ u → siteOverFactoryCall site factory x .length ≡ pick t 3 (pick u 3 0)
+    long true u e f = ap (λ (d : Deciding). d .length) here ∙ rw e
+    long false true e f = ap (λ (d : Deciding). d .length) here ∙ rw (e, f)
+    long false false e f = ap (λ (d : Deciding). d .length) here ∙ rw (e, f)
+
+    none-of : (t u : Bool) → _≡_ {A = ℕ} (pick t 3 (pick u 3 0)) 0 → (t ≡ false) × (u ≡ false)
+    none-of true u e = absurd (omega arith)
+    none-of false true e = absurd (omega arith)
+    none-of false false e = (refl, refl)
+
+    nothing : siteOverFactoryCall site factory x .length ≡ 0 → (v : ℕ) → (InEntry site x v → ⊥) × (InEntry factory x v → ⊥)
+    nothing e v =
+        let k = none-of (has (ValueOf site x)) (has (ValueOf factory x)) (sym (long (has (ValueOf site x)) (has (ValueOf factory x)) refl refl) ∙ e) in
+        (no-entry site x p (k .0) v, no-entry factory x q (k .1) v)
+
+    alone : ((v : ℕ) → (InEntry site x v → ⊥) × (InEntry factory x v → ⊥)) → siteOverFactoryCall site factory x .length ≡ 0
+    alone h = long false false (some-entry site x p (λ v g. h v .0 g)) (some-entry factory x q (λ v g. h v .1 g))
