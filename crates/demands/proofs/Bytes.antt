@@ -109,9 +109,20 @@ pub bulletin-written-read : (r w bytes bytes' released withdrawn : List ℕ) (p 
     → readBulletinCall (take n (drop p bytes')) released withdrawn
     ≡ outcome (given []) (blockOf (length released) (entriesOf 2 r) ∷ blockOf (length withdrawn) (entriesOf 2 w) ∷ [])
 bulletin-written-read r w bytes bytes' released withdrawn p n e h l i m =
-    every-form.written-read ofBulletin bulletin-kind (r ∷ w ∷ []) bytes bytes' (released ∷ withdrawn ∷ []) p n refl e
-    (has-words (length released) h, (has-words (length withdrawn) i,
-    (has-room (capacity setLayout (length released)) (length (entriesOf 2 r)) l, (has-room (capacity setLayout (length withdrawn)) (length (entriesOf 2 w)) m, tt))))
+    every-form.written-read ofBulletin bulletin-kind (r ∷ w ∷ []) bytes bytes' (released ∷ withdrawn ∷ []) p n refl e (
+      has-words (length released) h,
+      (
+        has-words (length withdrawn) i,
+        (
+          has-room (capacity setLayout (length released)) (length (entriesOf 2 r)) l,
+          (
+            has-room (capacity setLayout (length withdrawn)) (length
+                (entriesOf 2 w)) m,
+            tt,
+          ),
+        ),
+      ),
+    )
 
 -- REFUSED: no word or byte lent is changed
 pub read-keeps : (f : Form) (b : List ℕ) (outs : List (List ℕ)) → Keeps outs (readCall f b outs)
