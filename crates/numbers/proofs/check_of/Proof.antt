@@ -1,3 +1,5 @@
+-- Invariant: the check of all bytes is that which goes on from the sums over the bytes behind i, and the sums are small. Measure: the bytes
+-- left.
 use Prim.Native.Nat.{_-_, _*_, _≤_}
 use mathlib.Core.Path.{_≡_, refl, _∙_, sym}
 use lib.ListN.{length, drop}

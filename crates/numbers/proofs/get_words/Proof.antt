@@ -1,3 +1,4 @@
+-- Invariant: putting the words from q on at j gives the whole. Measure: the words left.
 use mathlib.Core.List.{List, _∷_}
 use mathlib.Core.Path.{ap₂}
 use Prim.Native.Nat.{ℕ, _+_, _-_, _*_, _≤_}

@@ -1,3 +1,5 @@
+-- Invariant: writing the words from j on at q gives the whole, and the check of the kind and all words goes on from the sums over the
+-- words left. Measure: the words left.
 use Prim.Native.Nat.{ℕ, _+_, _-_, _*_, _^_, _≤_, _<_}
 use mathlib.Core.List.{List, _∷_}
 use mathlib.Core.Path.{_≡_, refl, _∙_, sym, ap}

@@ -1,3 +1,4 @@
+-- Invariant: putting the words of the records left, from q on, at w gives the whole. Measure: the records left.
 use Prim.Native.Nat.{_+_, _-_, _*_, _≤_}
 use mathlib.Core.Path.{_≡_, sym, _∙_}
 use lib.ListN.{length, drop, length-take, length-drop}

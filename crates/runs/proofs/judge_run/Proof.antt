@@ -1,3 +1,4 @@
+-- Invariant: the first refusal of the records left, from p on, is that of the whole run. Measure: the records left.
 use Prim.Native.Nat.{ℕ, _+_, _*_, _≤_}
 use mathlib.Core.Path.{_≡_, refl, ap}
 use mathlib.Core.Option.{none}

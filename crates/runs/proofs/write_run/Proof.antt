@@ -1,3 +1,4 @@
+-- Invariant: writing the items left, whose words begin at w, at q gives the whole. Measure: the items left.
 use Prim.Native.Nat.{_+_, _-_, _*_, _≤_}
 use mathlib.Core.Path.{_≡_, sym, _∙_}
 use lib.ListN.{length, drop, length-take, length-drop}

@@ -1,3 +1,4 @@
+-- Invariant: x is in the run exactly where it is in the ranges left. Measure: the ranges left.
 use Prim.Native.Nat.{_+_, _*_, _≤_}
 use mathlib.Core.Path.{_≡_, sym, _∙_}
 use lib.ListN.{length, drop}

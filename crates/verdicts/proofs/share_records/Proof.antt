@@ -1,3 +1,4 @@
+-- Invariant: the two runs share a number exactly where what is left of them does. Measure: the ranges left of both.
 use Prim.Native.Nat.{_+_, _*_, _≤_}
 use mathlib.Core.Path.{refl}
 use lib.ListN.{length}
