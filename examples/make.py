@@ -42,6 +42,7 @@ FILES = {
     "everything.set": set_form([(0, LAST)]),
     "released.set": set_form([(1000, 1999), (4000, 4000), (70000, 79999), (LAST - 9, LAST)]),
     "records.map": map_form([(1000, 1999, 7), (2000, 2999, 8), (70000, 79999, 7)]),
+    "site.map": map_form([(1990, 2009, 21)]),
     "recall.bulletin": bulletin_form([(3000, 3100)], [(1500, 1600), (4000, 4000)]),
 }
 

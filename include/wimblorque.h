@@ -1,28 +1,93 @@
-/* Range lists for carts: every call of the library, for a C host. Link libhost.a, which `rt staticlib host` makes.
+/* Range lists for carts: every call of the library, for a C host. Link libwimblorque.a, which ./install makes; on 64-bit Arm
+   wimblorque_aarch64.o. wimblorque_refusals.h, beside this file, has the refusals in words.
 
    BLOCKS. A block is an array of words and its length in words. Word 0 is n, the number of items. A set's item i is words 1+2i and
    2+2i, the low and the high of a range; a map's item i is words 1+3i, 2+3i and 3+3i, low, high and value. Both ends belong to the
    range. Words behind the items are not read in an input; an accepted call that writes a block makes them 0, to the block's end.
-   A set block of L words has room for (L-1)/2 ranges, 4,095 at the most; a map block for (L-1)/3 entries, 2,730 at the most.
+   A set block of L words has room for (L-1)/2 ranges, 4,095 at the most; a map block for (L-1)/3 entries, 2,730 at the most. The
+   macros below say the same: uint64_t list[WIMBLORQUE_SET_WORDS(4)] has room for four ranges. A block of zeros is empty.
 
    ANSWERS. Every call but wimblorque_member returns a wimblorque_answer:
      status   0 if the call was accepted, else 16 plus the number of the refusal (the constants below). A refused call changes no word
               or byte lent to it.
      place    of a refusal: the position of the block that is refused, counted from 0 as this header lists the call's blocks (inputs
               first, then outputs); for bytes, where the refused record begins; 0 for the other refusals. Accepted: 0.
-     count    how many values the call answers, 0 to 3. Refused: 0. A question that finds nothing answers 0 values.
+     count    how many values the call answers, 0 to 3. Refused: 0. A question that finds nothing answers 0 values, without exception.
      first, second, third    the values; 0 where there are fewer.
    A part of a block is answered as its offset, in words from the block's start, and its length, in words.
+   The result of every call has to be used: gcc and clang, and any compiler of C23 or C++17, warn where it is not.
 
-   WHAT IS ASKED OF THE CALLER is C's own and nothing else: a pointer is aligned for its type and valid for the length given with it
-   (with length 0 any address but NULL), and what a call writes, an output or a block changed in place, overlaps nothing else that
-   is passed to it. Inputs may be the same block. Any words and any bytes at all may stand in what is lent: nothing has to be
-   checked beforehand, and no call reads or writes outside what it was lent, allocates, or keeps anything. */
+   WHAT IS ASKED OF THE CALLER is C's own and nothing else: a pointer is aligned for its type and valid for the length given with it,
+   and what a call writes, an output or a block changed in place, overlaps nothing else that is passed to it: OUT MUST BE ANOTHER
+   BLOCK, also where the result is to replace an input. Such a pointer is marked WIMBLORQUE_RESTRICT, so that gcc -Wall warns where the
+   same block is passed twice. Inputs may be the same block. With length 0 a pointer may be NULL. Any words and any bytes at all may
+   stand in what is lent: nothing has to be checked beforehand, and no call reads or writes outside what it was lent, allocates, or
+   keeps anything. */
 #ifndef WIMBLORQUE_H
 #define WIMBLORQUE_H
 
 #include <stddef.h>
 #include <stdint.h>
+
+#if SIZE_MAX != UINT64_MAX
+#error "wimblorque is offered for 64-bit machines only: size_t must have 64 bits"
+#endif
+
+/* The version, here and nowhere else: CHANGELOG.md says what changed, and ./install writes it into wimblorque.pc. */
+#define WIMBLORQUE_VERSION_MAJOR 1
+#define WIMBLORQUE_VERSION_MINOR 0
+#define WIMBLORQUE_VERSION_PATCH 0
+#define WIMBLORQUE_TEXT_OF(x) #x
+#define WIMBLORQUE_DOTTED(x, y, z) WIMBLORQUE_TEXT_OF(x) "." WIMBLORQUE_TEXT_OF(y) "." WIMBLORQUE_TEXT_OF(z)
+#define WIMBLORQUE_VERSION WIMBLORQUE_DOTTED(WIMBLORQUE_VERSION_MAJOR, WIMBLORQUE_VERSION_MINOR, WIMBLORQUE_VERSION_PATCH)
+
+/* The compiler warns where a result is not used. Define it as nothing before this header where that is not wanted. */
+#ifndef WIMBLORQUE_MUST_USE
+#if (defined(__cplusplus) && __cplusplus >= 201703L) || (defined(__STDC_VERSION__) && __STDC_VERSION__ >= 202311L)
+#define WIMBLORQUE_MUST_USE [[nodiscard]]
+#elif defined(__GNUC__)
+#define WIMBLORQUE_MUST_USE __attribute__((warn_unused_result))
+#else
+#define WIMBLORQUE_MUST_USE
+#endif
+#endif
+
+/* A pointer that a call writes through: nothing else that is passed overlaps what is behind it. */
+#if !defined(__cplusplus) && defined(__STDC_VERSION__) && __STDC_VERSION__ >= 199901L
+#define WIMBLORQUE_RESTRICT restrict
+#elif defined(__GNUC__) || defined(_MSC_VER)
+#define WIMBLORQUE_RESTRICT __restrict
+#else
+#define WIMBLORQUE_RESTRICT
+#endif
+
+/* ---- Limits and sizes: the numbers that the proofs use. The macros with an argument may evaluate it more than once. ---- */
+
+#define WIMBLORQUE_MOST_RANGES 4095  /* of a set, and of each of a bulletin's two sets */
+#define WIMBLORQUE_MOST_ENTRIES 2730 /* of a map */
+
+/* The words of the shortest block with room for n ranges, for n entries. */
+#define WIMBLORQUE_SET_WORDS(n) (1 + 2 * (size_t)(n))
+#define WIMBLORQUE_MAP_WORDS(n) (1 + 3 * (size_t)(n))
+
+/* How many ranges, how many entries a block of so many words has room for. A block of no words is always refused: 0. */
+#define WIMBLORQUE_LESSER(a, b) ((a) < (b) ? (a) : (b))
+#define WIMBLORQUE_ROOM_IN(words, item, most) \
+    ((size_t)(words) == 0 ? 0 : WIMBLORQUE_LESSER(((size_t)(words) - 1) / (item), (size_t)(most)))
+#define WIMBLORQUE_SET_CAPACITY(words) WIMBLORQUE_ROOM_IN(words, 2, WIMBLORQUE_MOST_RANGES)
+#define WIMBLORQUE_MAP_CAPACITY(words) WIMBLORQUE_ROOM_IN(words, 3, WIMBLORQUE_MOST_ENTRIES)
+
+/* The bytes of a record: the start of a set, of a map, of a bulletin; a range of a set or of a bulletin; an entry of a map. */
+#define WIMBLORQUE_SET_START_BYTES 7
+#define WIMBLORQUE_MAP_START_BYTES 7
+#define WIMBLORQUE_BULLETIN_START_BYTES 9
+#define WIMBLORQUE_RANGE_BYTES 21
+#define WIMBLORQUE_ENTRY_BYTES 29
+
+/* The bytes of the form of a set of n ranges, of a map of n entries, of a bulletin of r released and w withdrawn ranges. */
+#define WIMBLORQUE_SET_BYTES(n) (WIMBLORQUE_SET_START_BYTES + WIMBLORQUE_RANGE_BYTES * (size_t)(n))
+#define WIMBLORQUE_MAP_BYTES(n) (WIMBLORQUE_MAP_START_BYTES + WIMBLORQUE_ENTRY_BYTES * (size_t)(n))
+#define WIMBLORQUE_BULLETIN_BYTES(r, w) (WIMBLORQUE_BULLETIN_START_BYTES + WIMBLORQUE_RANGE_BYTES * ((size_t)(r) + (size_t)(w)))
 
 #ifdef __cplusplus
 extern "C" {
@@ -59,147 +124,194 @@ typedef struct wimblorque_answer {
 
 /* ---- Sets: questions. They change nothing. Refused if the block is not sound: 1, 2, 3. ---- */
 
-/* Is x a member? One value, 1 or 0. */
-wimblorque_answer wimblorque_set_member(const uint64_t *block, size_t words, uint64_t x);
+/* Is x a member of the set in a block of words? One value, 1 or 0. (Of the byte form of a set, as it came over the wire, ask
+   wimblorque_member, below.) */
+WIMBLORQUE_MUST_USE wimblorque_answer wimblorque_set_member(const uint64_t *block, size_t words, uint64_t x);
 
 /* The range at index i, counted from 0. Two values, its low and its high; none if there are not that many. */
-wimblorque_answer wimblorque_set_range_at(const uint64_t *block, size_t words, uint64_t i);
+WIMBLORQUE_MUST_USE wimblorque_answer wimblorque_set_range_at(const uint64_t *block, size_t words, uint64_t i);
 
 /* The size. One value, the number of members less one; none for the empty set. */
-wimblorque_answer wimblorque_set_size(const uint64_t *block, size_t words);
+WIMBLORQUE_MUST_USE wimblorque_answer wimblorque_set_size(const uint64_t *block, size_t words);
 
 /* The least member at or above x. One value, or none. */
-wimblorque_answer wimblorque_set_least_member(const uint64_t *block, size_t words, uint64_t x);
+WIMBLORQUE_MUST_USE wimblorque_answer wimblorque_set_least_member(const uint64_t *block, size_t words, uint64_t x);
 
 /* The least number at or above x that is not a member. One value, or none. */
-wimblorque_answer wimblorque_set_least_non_member(const uint64_t *block, size_t words, uint64_t x);
+WIMBLORQUE_MUST_USE wimblorque_answer wimblorque_set_least_non_member(const uint64_t *block, size_t words, uint64_t x);
 
-/* The part of the block with the ranges that share a number with a..b, unclipped. Two values, offset and length; if there are none the
-   length is 0 and the offset is where they would stand, behind the ranges below a. Refused also with 4. */
-wimblorque_answer wimblorque_set_window(const uint64_t *block, size_t words, uint64_t a, uint64_t b);
+/* The part of the block with the ranges that share a number with a..b, unclipped. Two values, offset and length; none if there are no
+   such ranges. Refused also with 4. */
+WIMBLORQUE_MUST_USE wimblorque_answer wimblorque_set_window(const uint64_t *block, size_t words, uint64_t a, uint64_t b);
 
 /* Of two sets: have they the same members; is every member of the first one of the second; have they no number in common?
    One value, 1 or 0. Blocks: one 0, two 1. */
-wimblorque_answer wimblorque_set_equal(const uint64_t *one, size_t one_words, const uint64_t *two, size_t two_words);
-wimblorque_answer wimblorque_set_within(const uint64_t *one, size_t one_words, const uint64_t *two, size_t two_words);
-wimblorque_answer wimblorque_set_disjoint(const uint64_t *one, size_t one_words, const uint64_t *two, size_t two_words);
+WIMBLORQUE_MUST_USE wimblorque_answer wimblorque_set_equal(const uint64_t *one, size_t one_words,
+    const uint64_t *two, size_t two_words);
+WIMBLORQUE_MUST_USE wimblorque_answer wimblorque_set_within(const uint64_t *one, size_t one_words,
+    const uint64_t *two, size_t two_words);
+WIMBLORQUE_MUST_USE wimblorque_answer wimblorque_set_disjoint(const uint64_t *one, size_t one_words,
+    const uint64_t *two, size_t two_words);
 
 /* ---- Sets: changes in place. No values. ---- */
 
-/* Makes the block the empty set, or the empty map, whatever stood in it. Refused only with 1. */
-wimblorque_answer wimblorque_set_make_empty(uint64_t *block, size_t words);
+/* Makes the block the empty set, whatever stood in it. Refused only with 1. For maps: wimblorque_map_make_empty. */
+WIMBLORQUE_MUST_USE wimblorque_answer wimblorque_set_make_empty(uint64_t *WIMBLORQUE_RESTRICT block, size_t words);
 
 /* Makes every number of a..b a member. Refused with 1, 2, 3, then 4, then 5. */
-wimblorque_answer wimblorque_set_insert(uint64_t *block, size_t words, uint64_t a, uint64_t b);
+WIMBLORQUE_MUST_USE wimblorque_answer wimblorque_set_insert(uint64_t *WIMBLORQUE_RESTRICT block, size_t words, uint64_t a,
+    uint64_t b);
 
 /* Makes no number of a..b a member. Refused with 1, 2, 3, then 4, then 5. */
-wimblorque_answer wimblorque_set_remove(uint64_t *block, size_t words, uint64_t a, uint64_t b);
+WIMBLORQUE_MUST_USE wimblorque_answer wimblorque_set_remove(uint64_t *WIMBLORQUE_RESTRICT block, size_t words, uint64_t a,
+    uint64_t b);
 
-/* ---- Sets: into a separate output. No values. The output's old words are not judged.
+/* ---- Sets: into a separate output. No values. The output's old words are not judged. To put the result in the place of an input,
+   write it into a second block and use that one from then on.
    Refused with 1, 2, 3 of each input in turn, then 1 of the output, then 5. Blocks: one 0, two 1, out 2; the complement's: set 0,
    out 1. ---- */
 
-/* The numbers of either. */
-wimblorque_answer wimblorque_set_union(const uint64_t *one, size_t one_words, const uint64_t *two, size_t two_words, uint64_t *out,
-                                       size_t out_words);
+/* The numbers of either. out must be another block. */
+WIMBLORQUE_MUST_USE wimblorque_answer wimblorque_set_union(const uint64_t *one, size_t one_words,
+    const uint64_t *two, size_t two_words, uint64_t *WIMBLORQUE_RESTRICT out, size_t out_words);
 
-/* The numbers of both. */
-wimblorque_answer wimblorque_set_intersection(const uint64_t *one, size_t one_words, const uint64_t *two, size_t two_words,
-                                              uint64_t *out, size_t out_words);
+/* The numbers of both. out must be another block. */
+WIMBLORQUE_MUST_USE wimblorque_answer wimblorque_set_intersection(const uint64_t *one, size_t one_words,
+    const uint64_t *two, size_t two_words, uint64_t *WIMBLORQUE_RESTRICT out, size_t out_words);
 
-/* The numbers of the first that are not in the second. */
-wimblorque_answer wimblorque_set_difference(const uint64_t *one, size_t one_words, const uint64_t *two, size_t two_words,
-                                            uint64_t *out, size_t out_words);
+/* The numbers of the first that are not in the second. out must be another block. */
+WIMBLORQUE_MUST_USE wimblorque_answer wimblorque_set_difference(const uint64_t *one, size_t one_words,
+    const uint64_t *two, size_t two_words, uint64_t *WIMBLORQUE_RESTRICT out, size_t out_words);
 
-/* The numbers of exactly one. */
-wimblorque_answer wimblorque_set_symmetric_difference(const uint64_t *one, size_t one_words, const uint64_t *two, size_t two_words,
-                                                      uint64_t *out, size_t out_words);
+/* The numbers of exactly one. out must be another block. */
+WIMBLORQUE_MUST_USE wimblorque_answer wimblorque_set_symmetric_difference(const uint64_t *one, size_t one_words,
+    const uint64_t *two, size_t two_words, uint64_t *WIMBLORQUE_RESTRICT out, size_t out_words);
 
-/* The numbers from 0 to 2^64 - 1 that are not in the set. */
-wimblorque_answer wimblorque_set_complement(const uint64_t *set, size_t words, uint64_t *out, size_t out_words);
+/* The numbers from 0 to 2^64 - 1 that are not in the set. out must be another block. */
+WIMBLORQUE_MUST_USE wimblorque_answer wimblorque_set_complement(const uint64_t *set, size_t words,
+    uint64_t *WIMBLORQUE_RESTRICT out, size_t out_words);
 
 /* ---- Sets: room for a run of k numbers of the window a..b that are not members.
    Refused with 1, 2, 3, then 4, then 6, then 7; a reservation then also with 5, for the place that was chosen. ---- */
 
 /* The least start of such a run. One value. Changes nothing. */
-wimblorque_answer wimblorque_set_first_fit(const uint64_t *block, size_t words, uint64_t a, uint64_t b, uint64_t k);
+WIMBLORQUE_MUST_USE wimblorque_answer wimblorque_set_first_fit(const uint64_t *block, size_t words, uint64_t a, uint64_t b,
+    uint64_t k);
 
 /* The low end of the shortest gap of at least k numbers, the lowest such gap on a tie. One value. Changes nothing. */
-wimblorque_answer wimblorque_set_best_fit(const uint64_t *block, size_t words, uint64_t a, uint64_t b, uint64_t k);
+WIMBLORQUE_MUST_USE wimblorque_answer wimblorque_set_best_fit(const uint64_t *block, size_t words, uint64_t a, uint64_t b,
+    uint64_t k);
 
 /* The same places, with the k numbers from there on made members. One value, the place. */
-wimblorque_answer wimblorque_set_reserve_first(uint64_t *block, size_t words, uint64_t a, uint64_t b, uint64_t k);
-wimblorque_answer wimblorque_set_reserve_best(uint64_t *block, size_t words, uint64_t a, uint64_t b, uint64_t k);
+WIMBLORQUE_MUST_USE wimblorque_answer wimblorque_set_reserve_first(uint64_t *WIMBLORQUE_RESTRICT block, size_t words, uint64_t a,
+    uint64_t b, uint64_t k);
+WIMBLORQUE_MUST_USE wimblorque_answer wimblorque_set_reserve_best(uint64_t *WIMBLORQUE_RESTRICT block, size_t words, uint64_t a,
+    uint64_t b, uint64_t k);
 
 /* ---- Maps ---- */
 
+/* Makes the block the empty map, whatever stood in it; the words of an empty map and of an empty set are the same. Refused only
+   with 1. */
+WIMBLORQUE_MUST_USE static inline wimblorque_answer wimblorque_map_make_empty(uint64_t *WIMBLORQUE_RESTRICT block, size_t words) {
+    return wimblorque_set_make_empty(block, words);
+}
+
 /* The value of x. One value, any word at all, or none if x has no value. Changes nothing. Refused with 1, 2, 3. */
-wimblorque_answer wimblorque_map_look_up(const uint64_t *block, size_t words, uint64_t x);
+WIMBLORQUE_MUST_USE wimblorque_answer wimblorque_map_look_up(const uint64_t *block, size_t words, uint64_t x);
 
 /* Gives every number of a..b the value v, replacing what was there. No values. Refused with 1, 2, 3, then 4, then 5. */
-wimblorque_answer wimblorque_map_assign(uint64_t *block, size_t words, uint64_t a, uint64_t b, uint64_t v);
+WIMBLORQUE_MUST_USE wimblorque_answer wimblorque_map_assign(uint64_t *WIMBLORQUE_RESTRICT block, size_t words, uint64_t a,
+    uint64_t b, uint64_t v);
 
 /* Leaves no number of a..b a value. No values. Refused with 1, 2, 3, then 4, then 5. */
-wimblorque_answer wimblorque_map_erase(uint64_t *block, size_t words, uint64_t a, uint64_t b);
+WIMBLORQUE_MUST_USE wimblorque_answer wimblorque_map_erase(uint64_t *WIMBLORQUE_RESTRICT block, size_t words, uint64_t a,
+    uint64_t b);
 
 /* The part of the block with the entries that share a number with a..b, unclipped, as wimblorque_set_window. */
-wimblorque_answer wimblorque_map_window(const uint64_t *block, size_t words, uint64_t a, uint64_t b);
+WIMBLORQUE_MUST_USE wimblorque_answer wimblorque_map_window(const uint64_t *block, size_t words, uint64_t a, uint64_t b);
 
 /* The entry that decides x: the site map's if x has a value there, else the factory map's. Three values: the offset and the length, 3,
-   of its part, and the position of the map that holds it, 0 the site, 1 the factory. All three are 0 if x has no value in either.
-   Changes nothing. Both maps are judged whatever x is: refused with 1, 2, 3 of each in turn. Blocks: site 0, factory 1. */
-wimblorque_answer wimblorque_map_site_over_factory(const uint64_t *site, size_t site_words, const uint64_t *factory,
-                                                   size_t factory_words, uint64_t x);
+   of its part, and the position of the map that holds it, 0 the site, 1 the factory; none if x has no value in either: look at
+   count. Changes nothing. Both maps are judged whatever x is: refused with 1, 2, 3 of each in turn. Blocks: site 0, factory 1. */
+WIMBLORQUE_MUST_USE wimblorque_answer wimblorque_map_site_over_factory(const uint64_t *site, size_t site_words,
+    const uint64_t *factory, size_t factory_words, uint64_t x);
 
-/* Into out, as for sets. The upper map's value where it has one, else the lower's. Blocks: upper 0, lower 1, out 2. */
-wimblorque_answer wimblorque_map_overlay(const uint64_t *upper, size_t upper_words, const uint64_t *lower, size_t lower_words,
-                                         uint64_t *out, size_t out_words);
+/* Into out, as for sets. The upper map's value where it has one, else the lower's. out must be another block. Blocks: upper 0,
+   lower 1, out 2. */
+WIMBLORQUE_MUST_USE wimblorque_answer wimblorque_map_overlay(const uint64_t *upper, size_t upper_words,
+    const uint64_t *lower, size_t lower_words, uint64_t *WIMBLORQUE_RESTRICT out, size_t out_words);
 
-/* The map's values at the set's numbers, into a map block. Blocks: map 0, set 1, out 2. */
-wimblorque_answer wimblorque_map_restriction(const uint64_t *map, size_t map_words, const uint64_t *set, size_t set_words,
-                                             uint64_t *out, size_t out_words);
+/* The map's values at the set's numbers, into a map block. out must be another block. Blocks: map 0, set 1, out 2. */
+WIMBLORQUE_MUST_USE wimblorque_answer wimblorque_map_restriction(const uint64_t *map, size_t map_words,
+    const uint64_t *set, size_t set_words, uint64_t *WIMBLORQUE_RESTRICT out, size_t out_words);
 
-/* The set of the numbers that have a value, into a set block. Blocks: map 0, out 1. */
-wimblorque_answer wimblorque_map_domain(const uint64_t *map, size_t map_words, uint64_t *out, size_t out_words);
+/* The set of the numbers that have a value, into a set block. out must be another block. Blocks: map 0, out 1. */
+WIMBLORQUE_MUST_USE wimblorque_answer wimblorque_map_domain(const uint64_t *map, size_t map_words,
+    uint64_t *WIMBLORQUE_RESTRICT out, size_t out_words);
 
 /* ---- Bulletins: a released and a withdrawn set, in that order, with no number in common. No values. ---- */
 
-/* The list without the withdrawn, then joined with the released numbers, into out. Refused with 1, 2, 3 of each input in turn, then 1
-   of the output, then 14, then 5. Blocks: list 0, released 1, withdrawn 2, out 3. */
-wimblorque_answer wimblorque_bulletin_apply(const uint64_t *list, size_t list_words, const uint64_t *released,
-                                            size_t released_words, const uint64_t *withdrawn, size_t withdrawn_words, uint64_t *out,
-                                            size_t out_words);
+/* The list without the withdrawn, then joined with the released numbers, into out. out must be another block: a list that is its own
+   output is changed while it is read, and comes out wrong. To update a list keep two blocks and use them by turns: apply into the
+   second, from then on the second is the list, and the next bulletin goes into the first (examples/cart.c). Refused with 1, 2, 3 of
+   each input in turn, then 1 of the output, then 14, then 5. Blocks: list 0, released 1, withdrawn 2, out 3. */
+WIMBLORQUE_MUST_USE wimblorque_answer wimblorque_bulletin_apply(const uint64_t *list, size_t list_words,
+    const uint64_t *released, size_t released_words, const uint64_t *withdrawn, size_t withdrawn_words,
+    uint64_t *WIMBLORQUE_RESTRICT out, size_t out_words);
 
-/* One bulletin with the effect of the first and then the second, into released and withdrawn. Refused with 1, 2, 3 of each input in
-   turn, then 1 of each output, then 14 of the first and of the second, then 5 of each output.
+/* One bulletin with the effect of the first and then the second, into released and withdrawn. Each output must be another block, than
+   the inputs and than the other output. Refused with 1, 2, 3 of each input in turn, then 1 of each output, then 14 of the first and of
+   the second, then 5 of each output.
    Blocks: released1 0, withdrawn1 1, released2 2, withdrawn2 3, released 4, withdrawn 5. */
-wimblorque_answer wimblorque_bulletin_fold(const uint64_t *released1, size_t released1_words, const uint64_t *withdrawn1,
-                                           size_t withdrawn1_words, const uint64_t *released2, size_t released2_words,
-                                           const uint64_t *withdrawn2, size_t withdrawn2_words, uint64_t *released,
-                                           size_t released_words, uint64_t *withdrawn, size_t withdrawn_words);
+WIMBLORQUE_MUST_USE wimblorque_answer wimblorque_bulletin_fold(const uint64_t *released1, size_t released1_words,
+    const uint64_t *withdrawn1, size_t withdrawn1_words, const uint64_t *released2, size_t released2_words,
+    const uint64_t *withdrawn2, size_t withdrawn2_words, uint64_t *WIMBLORQUE_RESTRICT released, size_t released_words,
+    uint64_t *WIMBLORQUE_RESTRICT withdrawn, size_t withdrawn_words);
 
 /* ---- The byte form: reading. The whole buffer is the form. Refused with 8 to 12 of the first record that is wrong, then 13, for a
    bulletin then 14, then 1 of each output, then 5 of each output; the outputs are counted from 0. No values. ---- */
 
-wimblorque_answer wimblorque_set_read(const uint8_t *bytes, size_t length, uint64_t *out, size_t out_words);
-wimblorque_answer wimblorque_map_read(const uint8_t *bytes, size_t length, uint64_t *out, size_t out_words);
-wimblorque_answer wimblorque_bulletin_read(const uint8_t *bytes, size_t length, uint64_t *released, size_t released_words,
-                                           uint64_t *withdrawn, size_t withdrawn_words);
+/* A set, into a set block. out must be other memory than the bytes. */
+WIMBLORQUE_MUST_USE wimblorque_answer wimblorque_set_read(const uint8_t *bytes, size_t length,
+    uint64_t *WIMBLORQUE_RESTRICT out, size_t out_words);
+
+/* A map, into a map block. out must be other memory than the bytes. */
+WIMBLORQUE_MUST_USE wimblorque_answer wimblorque_map_read(const uint8_t *bytes, size_t length,
+    uint64_t *WIMBLORQUE_RESTRICT out, size_t out_words);
+
+/* A bulletin, into two set blocks. Each output must be other memory than the bytes and another block than the other. */
+WIMBLORQUE_MUST_USE wimblorque_answer wimblorque_bulletin_read(const uint8_t *bytes, size_t length,
+    uint64_t *WIMBLORQUE_RESTRICT released, size_t released_words, uint64_t *WIMBLORQUE_RESTRICT withdrawn, size_t withdrawn_words);
 
 /* Judges the byte form of a set and stores nothing. One value, the number of its ranges. Refused with 8 to 13. */
-wimblorque_answer wimblorque_set_judge_form(const uint8_t *bytes, size_t length);
+WIMBLORQUE_MUST_USE wimblorque_answer wimblorque_set_judge_form(const uint8_t *bytes, size_t length);
 
-/* Is x a member of the set whose byte form is in the buffer? Returns 1 or 0, or 16 plus the refusal, 8 to 13. The whole form is judged
-   before 1 or 0 is given: a damaged list never answers 1 or 0. Changes nothing. */
-uint64_t wimblorque_member(const uint8_t *bytes, size_t length, uint64_t x);
+/* Is x a member of the set whose byte form is in the buffer? (Of a set in a block of words ask wimblorque_set_member.) Returns 1 or 0,
+   or 16 plus the refusal, 8 to 13. COMPARE WITH 1: a refusal is a number too, so `if (wimblorque_member(..))` takes a damaged list for
+   a yes. The whole form is judged before 1 or 0 is given: a form that reading refuses never answers 1 or 0. The check counts the bytes
+   00 and FF alike, so damage that turns a 00 into FF or back may go unnoticed. Changes nothing. */
+WIMBLORQUE_MUST_USE uint64_t wimblorque_member(const uint8_t *bytes, size_t length, uint64_t x);
+
+/* The same question, to be used as a condition: 1 if x is a member of the set whose byte form is in the buffer, else 0, also where the
+   form is refused. Which of the two it was, wimblorque_member tells. */
+WIMBLORQUE_MUST_USE static inline int wimblorque_is_member(const uint8_t *bytes, size_t length, uint64_t x) {
+    return wimblorque_member(bytes, length, x) == 1;
+}
 
 /* ---- The byte form: writing, into the bytes from place p on. One value, the length that was written; every other byte stays. Refused
    with 1, 2, 3 of each block in turn, for a bulletin then 14, then 15 if p is above the length or the rest is too short. ---- */
 
-wimblorque_answer wimblorque_set_write(const uint64_t *block, size_t words, uint8_t *bytes, size_t length, size_t p);
-wimblorque_answer wimblorque_map_write(const uint64_t *block, size_t words, uint8_t *bytes, size_t length, size_t p);
-wimblorque_answer wimblorque_bulletin_write(const uint64_t *released, size_t released_words, const uint64_t *withdrawn,
-                                            size_t withdrawn_words, uint8_t *bytes, size_t length, size_t p);
+/* A set. The bytes must be other memory than the block. */
+WIMBLORQUE_MUST_USE wimblorque_answer wimblorque_set_write(const uint64_t *block, size_t words,
+    uint8_t *WIMBLORQUE_RESTRICT bytes, size_t length, size_t p);
+
+/* A map. The bytes must be other memory than the block. */
+WIMBLORQUE_MUST_USE wimblorque_answer wimblorque_map_write(const uint64_t *block, size_t words,
+    uint8_t *WIMBLORQUE_RESTRICT bytes, size_t length, size_t p);
+
+/* A bulletin. The bytes must be other memory than the two blocks. */
+WIMBLORQUE_MUST_USE wimblorque_answer wimblorque_bulletin_write(const uint64_t *released, size_t released_words,
+    const uint64_t *withdrawn, size_t withdrawn_words, uint8_t *WIMBLORQUE_RESTRICT bytes, size_t length, size_t p);
 
 #ifdef __cplusplus
 }

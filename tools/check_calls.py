@@ -118,9 +118,9 @@ def crate_faults(crate, part):
 
 C_TYPES = {
     "&[u64]": ["const uint64_t *", "size_t"],
-    "&mut [u64]": ["uint64_t *", "size_t"],
+    "&mut [u64]": ["uint64_t *WIMBLORQUE_RESTRICT", "size_t"],
     "&[u8]": ["const uint8_t *", "size_t"],
-    "&mut [u8]": ["uint8_t *", "size_t"],
+    "&mut [u8]": ["uint8_t *WIMBLORQUE_RESTRICT", "size_t"],
     "u64": ["uint64_t"],
     "usize": ["size_t"],
     "Told": ["wimblorque_answer"],
@@ -128,21 +128,22 @@ C_TYPES = {
 
 
 def prototypes():
-    """Name to the C types, parameters and then the result, of each call that the header declares."""
+    """Name to the C types, parameters and then the result with its mark, of each call that the header declares."""
     found = {}
     text = re.sub(r"/\*.*?\*/", "", read("include", "wimblorque.h"), flags=re.S)
-    for m in re.finditer(r"^(\w+) (wimblorque_\w+)\((.*?)\);", text, re.M | re.S):
+    for m in re.finditer(r"^((?:WIMBLORQUE_MUST_USE )?\w+) (wimblorque_\w+)\((.*?)\);", text, re.M | re.S):
         parameters = [re.sub(r"\s*\w+$", "", re.sub(r"\s+", " ", p).strip()) for p in m.group(3).split(",")]
         found[m.group(2)] = [re.sub(r"(?<! )\*", " *", p) for p in parameters] + [m.group(1)]
     return found
 
 
 def header_faults():
-    """Where the header's prototypes differ from the exported functions."""
+    """Where the header's prototypes differ from the exported functions. Each result must be used, and each pointer that a call writes
+    through is restrict-qualified: both by the header's macros."""
     declared = prototypes()
     for name, signature in signatures("host").items():
         arguments, _, answer = signature.split("(", 1)[1].rpartition(") -> ")
-        types = [c for a in arguments.split(", ") for c in C_TYPES[a.split(": ", 1)[1]]] + C_TYPES[answer]
+        types = [c for a in arguments.split(", ") for c in C_TYPES[a.split(": ", 1)[1]]] + ["WIMBLORQUE_MUST_USE " + C_TYPES[answer][0]]
         if declared.pop(name, None) != types:
             yield f"{name}: include/wimblorque.h does not declare it with {', '.join(types)}"
     for name in declared:

@@ -19,3 +19,8 @@ link_x86_64() {
         -c "$1" -o "$2.o"
     "$own/bin/rattle-link" --target x86_64-unknown-linux-gnu --toolchain "$tools" -o "$2" "$2.o" target/staticlib/libhost.a >/dev/null 2>&1
 }
+
+# What everything that rt makes is made from, the kit and the crates of the folder at hand, in one number.
+sources() {
+    { cat "$kit/KIT-ID" && find crates.txt crates -type f -exec sha256sum {} + | sort; } | sha256sum
+}

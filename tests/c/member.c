@@ -42,5 +42,11 @@ int main(void) {
     changed[27] = 0x23;
     ask("with a low above its high", changed, all, 5);
     ask("with a byte after it", with(one_range, all, 28, 0x00), all + 1, 5);
+    /* the check counts 00 and FF alike: {0..0} with the last byte of its high turned into FF is the form of {0..255} */
+    with(one_range, all, 17, 0x00);
+    changed[25] = 0xFF;
+    changed[26] = 0x11;
+    changed[27] = 0x10;
+    ask("in {0..0} with FF for 00", changed, all, 200);
     return 0;
 }

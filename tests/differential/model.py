@@ -217,12 +217,12 @@ def set_least_non_member(block, x):
 
 
 def window(kind, block, a, b):
-    """The part with all items that share a number with a..b: its offset, behind the items that are wholly below, and its length."""
+    """The part with all items that share a number with a..b: its offset, behind the items wholly below, and its length; or none."""
     items = judged(kind, block, 0)
     in_order(a, b)
     below = [item for item in items if item[1] < a]
     met = [item for item in items if item[0] <= b and a <= item[1]]
-    return [1 + kind * len(below), kind * len(met)]
+    return [1 + kind * len(below), kind * len(met)] if met else []
 
 
 def set_window(block, a, b):
@@ -339,13 +339,13 @@ def map_look_up(block, x):
 
 
 def map_site_over_factory(site, factory, x):
-    """Offset and length of the deciding entry, and the position of the map that holds it; all 0 if there is none."""
+    """Offset and length of the deciding entry, and the position of the map that holds it; or none."""
     maps = [judged(MAP, site, 0), judged(MAP, factory, 1)]
     for position, entries in enumerate(maps):
         for i, (low, high, _) in enumerate(entries):
             if low <= x <= high:
                 return [1 + MAP * i, MAP, position]
-    return [0, 0, 0]
+    return []
 
 
 def bulletin_apply(listed, released, withdrawn, out):

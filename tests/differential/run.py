@@ -24,17 +24,20 @@ import wire
 CASES = 60000
 SEED = "1"
 PAIR_TIMES, SINGLE_TIMES, LIMIT_TIMES = 5, 5, 10
-AT_LEAST = {"call": 10, "refusal": 5, "pair": PAIR_TIMES}
+AT_LEAST = {"call": 10, "refusal": 5, "pair": PAIR_TIMES, "empty answer": 20}
 BATCH = 500
 KEPT = "build/differential-mismatch.json"
 NAMES = [name for name, _, _ in model.CALLS]
+# The questions that may find nothing, and then answer 0 values.
+MAY_FIND_NOTHING = ["set_range_at", "set_size", "set_least_member", "set_least_non_member", "set_window"]
+MAY_FIND_NOTHING += ["map_look_up", "map_window", "map_site_over_factory"]
 
 
 def header_calls():
     """The calls that the header declares, in its order."""
     header = os.path.join(os.path.dirname(os.path.abspath(__file__)), "../../include/wimblorque.h")
     with open(header, encoding="ascii") as text:
-        return re.findall(r"^\w+ wimblorque_(\w+)\(", text.read(), re.MULTILINE)
+        return re.findall(r"^WIMBLORQUE_MUST_USE \w+ wimblorque_(\w+)\(", text.read(), re.MULTILINE)
 
 
 def jobs(cases):
@@ -58,10 +61,10 @@ def case_of(job, seed):
 
 
 class Tally:
-    """How often each call, each refusal of a call and each ordered pair of refusals was tried."""
+    """How often each call, each refusal of a call, each ordered pair of refusals and each empty answer was tried."""
 
     def __init__(self):
-        self.calls, self.refusals, self.pairs = Counter(), Counter(), Counter()
+        self.calls, self.refusals, self.pairs, self.nothing = Counter(), Counter(), Counter(), Counter()
 
     def count(self, job, outcome):
         """Counts a case."""
@@ -70,6 +73,8 @@ class Tally:
         self.refusals[name, outcome[0] - 16 if outcome[0] >= 16 else 0] += 1
         if len(pair) == 2:
             self.pairs[name, pair] += 1
+        if outcome[0] == 0 and name in MAY_FIND_NOTHING and outcome[1][1] == 0:
+            self.nothing[name] += 1
 
     def groups(self):
         """Everything that must be tried, with how often it was: accepted calls count as refusal 0."""
@@ -77,6 +82,7 @@ class Tally:
         yield "call", {name: self.calls[name] for name in NAMES}
         yield "refusal", {key: self.refusals[key] for key in can}
         yield "pair", {(name, pair): self.pairs[name, pair] for name in NAMES for pair in refusals.listed_pairs(name)}
+        yield "empty answer", {name: self.nothing[name] for name in MAY_FIND_NOTHING}
 
     def missing(self):
         """What was tried too seldom."""

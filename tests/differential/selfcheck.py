@@ -93,7 +93,7 @@ def check_window(line, rng, held, name, kind):
     runs = line.runs(held)
     met = [run for run in runs if any(run[0] <= line.low[c] <= run[1] for c in range(first, last + 1))]
     below = [run for run in runs if run not in met and run[0] < line.low[first]]
-    wanted = [1 + kind * len(below), kind * len(met)]
+    wanted = [1 + kind * len(below), kind * len(met)] if met else []
     expect(name, values(name, [line.block(held)], [line.low[first], line.high[last]]), wanted)
 
 
@@ -163,7 +163,7 @@ def check_maps(line, rng, upper, lower, held):
     within = {c: v for c, v in upper.items() if c in held}
     expect("restriction", written("map_restriction", [block, line.block(held), room]), zeros(line.block(within), length))
     expect("domain", written("map_domain", [block, room]), zeros(line.block(set(upper)), length))
-    found = [0, 0, 0]
+    found = []
     for position, entries in ((1, lower), (0, upper)):
         for i, run in enumerate(line.runs(entries)):
             found = [1 + 3 * i, 3, position] if cell in entries and run[0] <= x <= run[1] else found

@@ -29,7 +29,7 @@ use Rattle.sweeps.proofs.Tables.{bounded}
 use Rattle.bulletins.specs.Calls.{applyRefusals, applyCall, foldRefusals, foldCall}
 use Rattle.answers.specs.Steps.{Clear, numberAt}
 use Rattle.answers.proofs.Turns.{turn-keeps, turn-accepted, clear-turn, clear-at}
-use Rattle.demands.proofs.Accepting.{SetLeft}
+use Rattle.demands.specs.Plain.{SetLeft}
 use Rattle.demands.proofs.Sets.{one-form, disjoint-means, means-disjoint}
 
 -- accepted, with the words of each output as they then are

@@ -1,6 +1,12 @@
-pub mod Table
 pub mod Accepting
+pub mod Words
+pub mod Later
 pub mod Sets
 pub mod Maps
+pub mod Questions
+pub mod MapQuestions
+pub mod Changes
+pub mod Exactly
 pub mod Bulletins
 pub mod Bytes
+pub mod Table

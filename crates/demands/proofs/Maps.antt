@@ -29,7 +29,8 @@ use Rattle.answers.proofs.Turns.{turn-accepted, clear-at}
 use Rattle.blocks.specs.Calls.{holding}
 use Rattle.blocks.proofs.Refusing.{some-words}
 use Rattle.maps.proofs.Looking.{width}
-use Rattle.demands.proofs.Accepting.{Left, written-left, SetLeft, set-left}
+use Rattle.demands.specs.Plain.{Left, SetLeft}
+use Rattle.demands.proofs.Accepting.{written-left, set-left}
 use Rattle.entries.proofs.Sets.{set-of}
 use Rattle.entries.proofs.Questions.{within}
 

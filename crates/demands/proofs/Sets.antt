@@ -29,7 +29,8 @@ use Rattle.edits.specs.Calls.{edited, editRefusals, editCall}
 use Rattle.sets.specs.Calls.{insertCall, removeCall, makeEmptyCall, unionCall, intersectionCall, differenceCall, symmetricDifferenceCall, complementCall}
 use Rattle.sets.proofs.Asking.{entries-plain}
 use Rattle.answers.proofs.Turns.{turn-keeps, turn-accepted, clear-at}
-use Rattle.demands.proofs.Accepting.{SetLeft, set-left}
+use Rattle.demands.specs.Plain.{SetLeft}
+use Rattle.demands.proofs.Accepting.{set-left}
 
 -- «One set has one stored form»: two sound blocks of the same length that name the same numbers and have zeros after have the same words
 pub one-form : (w v : List ℕ) → verdict setLayout w ≡ 0 → verdict setLayout v ≡ 0 → length w ≡ length v → Zeros 2 w → Zeros 2 v

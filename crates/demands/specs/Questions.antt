@@ -17,7 +17,7 @@ use Rattle.maps.specs.Calls.{lookUpCall, mapWindowCall, siteOverFactoryCall}
 use Rattle.maps.proofs.Sites.{wordsOfTwo}
 use Rattle.sets.specs.Calls.{memberCall, rangeAtCall, sizeCall, leastMemberCall, leastNonMemberCall, setWindowCall, equalCall, withinCall, disjointCall}
 use Rattle.searches.specs.Parts.{wordsAt}
-use Rattle.d14.specs.Plain.{Iff, SoundSet, SoundMap, InRange, InEntry, In, ValueOf, answers, yes, no}
+use Rattle.demands.specs.Plain.{Iff, SoundSet, SoundMap, InRange, InEntry, In, ValueOf, answers, yes, no}
 
 -- [B1, B2] the plain set is exactly what the words say
 abbrev pub InSet : Type 0

@@ -29,10 +29,10 @@ use Rattle.searches.proofs.Windows.{window-words}
 use Rattle.sets.specs.Calls.{asked, ends, nonMember, memberCall, rangeAtCall, sizeCall, leastMemberCall, leastNonMemberCall, askedTwo, equalCall, withinCall, disjointCall}
 use Rattle.sweeps.proofs.Tables.{bounded}
 use Rattle.sets.proofs.Sizes.{entries-under}
-use Rattle.d14.specs.Plain.{Iff, SoundSet, InRange, In, answers, yes, no}
-use Rattle.d14.specs.Questions.{Answers, InSet, Member, RangeAt, Size, LeastMember, LeastNonMember, SetWindow, Equal, Within, Disjoint}
-use Rattle.d14.proofs.Sets.{equal-means, means-equal, within-means, means-within, disjoint-means, means-disjoint}
-use Rattle.d14.proofs.Words.{split, InItem, in-item, item-in}
+use Rattle.demands.specs.Plain.{Iff, SoundSet, InRange, In, answers, yes, no}
+use Rattle.demands.specs.Questions.{Answers, InSet, Member, RangeAt, Size, LeastMember, LeastNonMember, SetWindow, Equal, Within, Disjoint}
+use Rattle.demands.proofs.Sets.{equal-means, means-equal, within-means, means-within, disjoint-means, means-disjoint}
+use Rattle.demands.proofs.Words.{split, InItem, in-item, item-in}
 
 -- a number has a value or none
 has-some : (o : Option Value) → has o ≡ true → (P : Type 0) → ((v : Value) → o ≡ some v → P) → P

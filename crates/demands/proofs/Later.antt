@@ -12,7 +12,7 @@ use Rattle.entries.specs.Build.{pick}
 use Rattle.answers.specs.Answers.{Outcome, judged}
 use Rattle.blocks.specs.declared.Layout.{Layout}
 use Rattle.blocks.specs.Blocks.{capacity, entriesOf, itemsOf, wordsOf, soundb, verdict}
-use Rattle.d14.specs.Plain.{SameForm}
+use Rattle.demands.specs.Plain.{SameForm}
 use Rattle.blocks.proofs.Words.{items-shaped, items-length, read-back, write-back}
 use Rattle.blocks.proofs.Judging.{room-words, verdict-sound}
 

@@ -24,11 +24,11 @@ use Rattle.edits.specs.Calls.{edited, editRefusals, editCall}
 use Rattle.operations.specs.Calls.{twoRefusals, oneRefusals, fromTwo, fromOne}
 use Rattle.sets.specs.Calls.{memberCall, insertCall, removeCall}
 use Rattle.maps.specs.Calls.{worth, lookUpCall}
-use Rattle.d14.specs.Plain.{Iff, In, ValueOf, between, leaves, answers, yes, no}
-use Rattle.d14.specs.Changes.{EditRoom, TwoRoom, OneRoom, ChangesKeep, InsertedMember, RemovedMember, OtherMember, AssignedValue, ErasedValue}
-use Rattle.d14.proofs.Sets.{edit-keeps, two-keeps, one-keeps, empty-keeps, insert-means, remove-means}
-use Rattle.d14.proofs.Maps.{assign-means, erase-means}
-use Rattle.d14.proofs.Changes.{edit-accepted}
+use Rattle.demands.specs.Plain.{Iff, In, ValueOf, between, leaves, answers, yes, no}
+use Rattle.demands.specs.Changes.{EditRoom, TwoRoom, OneRoom, ChangesKeep, InsertedMember, RemovedMember, OtherMember, AssignedValue, ErasedValue}
+use Rattle.demands.proofs.Sets.{edit-keeps, two-keeps, one-keeps, empty-keeps, insert-means, remove-means}
+use Rattle.demands.proofs.Maps.{assign-means, erase-means}
+use Rattle.demands.proofs.Changes.{edit-accepted}
 
 -- a test gives its own number and no other
 another : (t : Bool) (n m : ℕ) → (n ≡ m → ⊥) → (0 ≡ m → ⊥) → applies t n ≡ m → ⊥

@@ -18,7 +18,7 @@ use Rattle.operations.specs.Calls.{fromTwo, fromOne}
 use Rattle.sets.specs.Calls.{makeEmptyCall, insertCall, removeCall, unionCall, intersectionCall, differenceCall, symmetricDifferenceCall, complementCall}
 use Rattle.sets.specs.Calls.{memberCall}
 use Rattle.maps.specs.Calls.{lookUpCall, assignCall, eraseCall, overlayCall, restrictionCall, domainCall}
-use Rattle.d14.specs.Plain.{Iff, In, ValueOf, yes, no, answers, leaves, Left, SetLeft, between, SameForm}
+use Rattle.demands.specs.Plain.{Iff, In, ValueOf, yes, no, answers, leaves, Left, SetLeft, between, SameForm}
 
 -- [S8] make empty: no number is a member
 abbrev pub MakeEmpty : Type 0

@@ -24,10 +24,10 @@ use Rattle.searches.specs.Calls.{windowPart, windowRefusals, windowCall, entryP
 use Rattle.maps.specs.declared.Deciding.{Deciding}
 use Rattle.maps.specs.Calls.{mapEntries, worth, lookUpCall, mapWindowCall, partIn, deciding, siteRefusals, siteOverFactoryCall}
 use Rattle.maps.proofs.Sites.{wordsOfTwo}
-use Rattle.d14.specs.Plain.{Iff, SoundMap, InEntry, ValueOf, answers}
-use Rattle.d14.specs.Questions.{InMap, LookUp, MapWindow, SiteOverFactory, WhichMap}
-use Rattle.d14.proofs.Words.{InItem, in-item, item-in}
-use Rattle.d14.proofs.Questions.{window-means}
+use Rattle.demands.specs.Plain.{Iff, SoundMap, InEntry, ValueOf, answers}
+use Rattle.demands.specs.Questions.{InMap, LookUp, MapWindow, SiteOverFactory, WhichMap}
+use Rattle.demands.proofs.Words.{InItem, in-item, item-in}
+use Rattle.demands.proofs.Questions.{window-means}
 
 -- the one word of an entry's value
 one-word : (w : List ℕ) (i : ℕ) → SoundMap w → i < getD w 0 0 → take 1 (drop (3 * i + 3) w) ≡ getD w (3 + 3 * i) 0 ∷ []

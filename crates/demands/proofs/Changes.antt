@@ -31,11 +31,11 @@ use Rattle.operations.specs.Calls.{twoRefusals, oneRefusals, fromTwo, fromOne}
 use Rattle.sets.specs.Calls.{makeEmptyCall, unionCall, intersectionCall, differenceCall, symmetricDifferenceCall, complementCall}
 use Rattle.sets.proofs.Asking.{entries-plain}
 use Rattle.maps.specs.Calls.{overlayCall, restrictionCall, domainCall}
-use Rattle.d14.specs.Plain.{Iff, In, leaves, Left, SetLeft, between}
-use Rattle.d14.specs.Changes.{MakeEmpty, Insert, Remove, Union, Intersection, Difference, SymmetricDifference, Complement, Assign, Erase, Overlay, Restriction, Domain}
-use Rattle.d14.proofs.Accepting.{set-left}
-use Rattle.d14.proofs.Sets.{empty-means, insert-means, remove-means, union-means, intersection-means, difference-means, symmetric-means, complement-means}
-use Rattle.d14.proofs.Maps.{assign-means, erase-means, overlay-means, restriction-means, domain-means}
+use Rattle.demands.specs.Plain.{Iff, In, leaves, Left, SetLeft, between}
+use Rattle.demands.specs.Changes.{MakeEmpty, Insert, Remove, Union, Intersection, Difference, SymmetricDifference, Complement, Assign, Erase, Overlay, Restriction, Domain}
+use Rattle.demands.proofs.Accepting.{set-left}
+use Rattle.demands.proofs.Sets.{empty-means, insert-means, remove-means, union-means, intersection-means, difference-means, symmetric-means, complement-means}
+use Rattle.demands.proofs.Maps.{assign-means, erase-means, overlay-means, restriction-means, domain-means}
 
 -- word 0 of what is left counts the entries of the result
 counted : (w : List ℕ) (es : List Entry) (after : List ℕ) → holding w es ≡ leaves after → getD after 0 0 ≡ length es

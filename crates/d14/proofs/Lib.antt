@@ -1,9 +1,0 @@
-pub mod Words
-pub mod Later
-pub mod Accepting
-pub mod Sets
-pub mod Maps
-pub mod Questions
-pub mod MapQuestions
-pub mod Changes
-pub mod Exactly

@@ -1,0 +1,23 @@
+/* No misuse: no compiler may warn of anything here. Two blocks by turns, one block for two inputs, results used, both headers. */
+#include "wimblorque_refusals.h"
+
+int used_well(uint64_t *list, uint64_t *next, const uint64_t *released, const uint64_t *withdrawn, uint8_t *bytes, unsigned n);
+
+int used_well(uint64_t *list, uint64_t *next, const uint64_t *released, const uint64_t *withdrawn, uint8_t *bytes, unsigned n) {
+    static uint64_t block[WIMBLORQUE_SET_WORDS(4)], map[WIMBLORQUE_MAP_WORDS(4)];
+    static uint8_t form[WIMBLORQUE_BULLETIN_BYTES(2, 3)];
+    const size_t room = WIMBLORQUE_SET_WORDS(n) + WIMBLORQUE_MAP_WORDS(n) + WIMBLORQUE_SET_BYTES(n) + WIMBLORQUE_MAP_BYTES(n);
+    wimblorque_answer a = wimblorque_bulletin_apply(list, 9, released, 9, withdrawn, 9, next, 9);
+    if (a.status != WIMBLORQUE_ACCEPTED) {
+        return wimblorque_refusal_name(a.status) != wimblorque_refusal_sentence(a.status);
+    }
+    a = wimblorque_set_union(next, 9, next, 9, list, 9);
+    if (a.status == WIMBLORQUE_ROOM || room > WIMBLORQUE_SET_CAPACITY(n) + WIMBLORQUE_MAP_CAPACITY(room)) {
+        return 2;
+    }
+    a = wimblorque_map_make_empty(map, sizeof map / sizeof map[0]);
+    if (a.status != WIMBLORQUE_ACCEPTED || wimblorque_set_make_empty(block, sizeof block / sizeof block[0]).status != 0) {
+        return 3;
+    }
+    return wimblorque_is_member(bytes, sizeof form, 7) && wimblorque_member(form, sizeof form, 8) == 1;
+}
