@@ -61,27 +61,31 @@ edit-accepted l w a b o after e =
 
 pub insert-changes : Insert
 insert-changes w a b after e =
-    let k = edit-accepted setLayout w a b (some []) after e in
-    (insert-means w a b [] after e,
-     omega (arith, k .count, insert-bound (entriesOf 2 w) a b (k .order) (verdict-sound setLayout w (k .sound) .sound) (entries-plain w), count-in 2 w))
+    let k = edit-accepted setLayout w a b (some []) after e in (
+      insert-means w a b [] after e,
+      omega (arith, k .count, insert-bound (entriesOf 2 w) a b (k .order) (verdict-sound setLayout w (k .sound) .sound) (entries-plain w), count-in 2 w),
+    )
 
 pub remove-changes : Remove
 remove-changes w a b after e =
-    let k = edit-accepted setLayout w a b none after e in
-    (remove-means w a b [] after e,
-     omega (arith, k .count, erase-bound (entriesOf 2 w) a b (k .order) (verdict-sound setLayout w (k .sound) .sound), count-in 2 w))
+    let k = edit-accepted setLayout w a b none after e in (
+      remove-means w a b [] after e,
+      omega (arith, k .count, erase-bound (entriesOf 2 w) a b (k .order) (verdict-sound setLayout w (k .sound) .sound), count-in 2 w),
+    )
 
 pub assign-changes : Assign
 assign-changes w a b v after e =
-    let k = edit-accepted mapLayout w a b (some (v ∷ [])) after e in
-    (assign-means w a b v [] after e,
-     omega (arith, k .count, put-bound (entriesOf 3 w) a b (k .order) (some (v ∷ [])) (verdict-sound mapLayout w (k .sound) .sound), count-in 3 w))
+    let k = edit-accepted mapLayout w a b (some (v ∷ [])) after e in (
+      assign-means w a b v [] after e,
+      omega (arith, k .count, put-bound (entriesOf 3 w) a b (k .order) (some (v ∷ [])) (verdict-sound mapLayout w (k .sound) .sound), count-in 3 w),
+    )
 
 pub erase-changes : Erase
 erase-changes w a b after e =
-    let k = edit-accepted mapLayout w a b none after e in
-    (erase-means w a b [] after e,
-     omega (arith, k .count, erase-bound (entriesOf 3 w) a b (k .order) (verdict-sound mapLayout w (k .sound) .sound), count-in 3 w))
+    let k = edit-accepted mapLayout w a b none after e in (
+      erase-means w a b [] after e,
+      omega (arith, k .count, erase-bound (entriesOf 3 w) a b (k .order) (verdict-sound mapLayout w (k .sound) .sound), count-in 3 w),
+    )
 
 -- an accepted result of two blocks
 record Made (first second : Layout) (make : List Entry → List Entry → List Entry) (w v after : List ℕ) : Type 0 where
@@ -130,10 +134,12 @@ pub intersection-changes : Intersection
 unfolding intersectionCall
 intersection-changes w v o after e =
     let k = two-accepted setLayout setLayout setLayout intersection w v o after e in
-    let m = intersection-means w v o [] after e in
-    (m, bound k (entriesOf 2 w) (entriesOf 2 v) refl refl,
-     λ z. empty k m (λ x. ap (λ (es : List Entry). andb (member es x) (In v x)) (no-items (entriesOf 2 w) (count-in 2 w ∙ z))),
-     λ z. empty k m (λ x. ap (λ (es : List Entry). andb (In w x) (member es x)) (no-items (entriesOf 2 v) (count-in 2 v ∙ z)) ∙ and-false (In w x)))
+    let m = intersection-means w v o [] after e in (
+      m,
+      bound k (entriesOf 2 w) (entriesOf 2 v) refl refl,
+      λ z. empty k m (λ x. ap (λ (es : List Entry). andb (member es x) (In v x)) (no-items (entriesOf 2 w) (count-in 2 w ∙ z))),
+      λ z. empty k m (λ x. ap (λ (es : List Entry). andb (In w x) (member es x)) (no-items (entriesOf 2 v) (count-in 2 v ∙ z)) ∙ and-false (In w x)),
+    )
   where
     no-items : (es : List Entry) → length es ≡ 0 → es ≡ []
     no-items [] e = refl
@@ -169,22 +175,24 @@ unfolding complementCall
 complement-changes w o after e =
     let es = complement (entriesOf 2 w) in
     let fs = oneRefusals setLayout setLayout w (length o) es in
-    let k = turn-accepted fs (o ∷ []) (holding o es) [] (after ∷ []) e in
-    (complement-means w o [] after e,
-     omega (arith, counted o es after (k .1), complement-bound (entriesOf 2 w) (verdict-sound setLayout w (clear-at fs (k .0) 0) .sound), count-in 2 w))
+    let k = turn-accepted fs (o ∷ []) (holding o es) [] (after ∷ []) e in (
+      complement-means w o [] after e,
+      omega (arith, counted o es after (k .1), complement-bound (entriesOf 2 w) (verdict-sound setLayout w (clear-at fs (k .0) 0) .sound), count-in 2 w),
+    )
 
 pub overlay-changes : Overlay
 unfolding overlayCall
 overlay-changes upper lower o after e =
-    let k = two-accepted mapLayout mapLayout mapLayout overlay upper lower o after e in
-    (overlay-means upper lower o [] after e,
-     omega (
-       arith,
-       k .count,
-       overlay-bound (entriesOf 3 upper) (entriesOf 3 lower) (verdict-sound mapLayout upper (k .first-sound) .sound) (verdict-sound mapLayout lower (k .second-sound) .sound),
-       count-in 3 upper,
-       count-in 3 lower,
-     ))
+    let k = two-accepted mapLayout mapLayout mapLayout overlay upper lower o after e in (
+      overlay-means upper lower o [] after e,
+      omega (
+        arith,
+        k .count,
+        overlay-bound (entriesOf 3 upper) (entriesOf 3 lower) (verdict-sound mapLayout upper (k .first-sound) .sound) (verdict-sound mapLayout lower (k .second-sound) .sound),
+        count-in 3 upper,
+        count-in 3 lower,
+      ),
+    )
 
 pub restriction-changes : Restriction
 restriction-changes map set o after e =

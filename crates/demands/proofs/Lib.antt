@@ -10,5 +10,5 @@ pub mod Exactly
 pub mod Fits
 pub mod Stored
 pub mod Bulletins
--- BYTES
--- TABLE
+pub mod Bytes
+pub mod Table

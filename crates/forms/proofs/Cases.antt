@@ -23,10 +23,12 @@ caseI = 0xC5 ∷ 0x3A ∷ 0x01 ∷ 0x00 ∷ 0x00 ∷ 0x03 ∷ 0x01 ∷ []
 -- each refusal of reading a set: 8 before and inside a record, 9, 10, 13, then 1 and 5 of the output
 set-refusals :
     readSetCall [] [] ∷ readSetCall (take 6 caseI) [] ∷ readSetCall (take 7 caseH) [] ∷ readSetCall (take 27 caseH) []
-    ∷ readSetCall (0xC5 ∷ 0x3B ∷ drop 2 caseH) [] ∷ readSetCall (mapForm []) [] ∷ readSetCall (caseH ++ (0 ∷ [])) [] ∷ readSetCall caseH [] ∷ readSetCall caseH (7 ∷ 7 ∷ []) ∷ []
+    ∷ readSetCall (0xC5 ∷ 0x3B ∷ drop 2 caseH) [] ∷ readSetCall (mapForm []) [] ∷ readSetCall (caseH ++
+    (0 ∷ [])) [] ∷ readSetCall caseH [] ∷ readSetCall caseH (7 ∷ 7 ∷ []) ∷ []
     ≡ refuse 8 0 ([] ∷ []) ∷ refuse 8 0 ([] ∷ []) ∷ refuse 8 7 ([] ∷ []) ∷ refuse 8 7 ([] ∷ [])
     ∷ refuse 9 0 ([] ∷ []) ∷ refuse 10 0 ([] ∷ []) ∷ refuse 13 28 ([] ∷ []) ∷ refuse 1 0 ([] ∷ []) ∷ refuse 5 0 ((7 ∷ 7 ∷ []) ∷ []) ∷ []
-unfolding formOf runsOf runOf saying readCall formRefusals formEntries runsRefusals runRefusals runsIn entriesIn said recordVerdict bodyLength checkOf fletcher blockOf
+unfolding formOf runsOf runOf saying readCall formRefusals formEntries runsRefusals runRefusals runsIn entriesIn said recordVerdict bodyLength checkOf
+    fletcher blockOf
 set-refusals = refl
 
 -- 12 blames the later of two items: backwards, touching in a set, touching with the same value in a map; other values may touch
@@ -36,7 +38,8 @@ contents :
     ∷ readMapCall (mapForm (entry 1 4 (2 ∷ []) ∷ entry 5 6 (3 ∷ []) ∷ [])) (replicate 8 9) ∷ []
     ≡ refuse 12 7 ([] ∷ []) ∷ refuse 12 28 ([] ∷ [])
     ∷ refuse 12 36 ([] ∷ []) ∷ outcome (given []) ((2 ∷ 1 ∷ 4 ∷ 2 ∷ 5 ∷ 6 ∷ 3 ∷ 0 ∷ []) ∷ []) ∷ []
-unfolding formOf runsOf runOf saying readCall formRefusals formEntries runsRefusals runRefusals runsIn entriesIn said recordVerdict bodyLength checkOf fletcher blockOf
+unfolding formOf runsOf runOf saying readCall formRefusals formEntries runsRefusals runRefusals runsIn entriesIn said recordVerdict bodyLength checkOf
+    fletcher blockOf
 contents = refl
 
 -- a bulletin that releases 1..4 and withdraws 9..9, and one whose sets overlap
@@ -44,7 +47,8 @@ bulletins :
     readBulletinCall (bulletinForm (entry 1 4 [] ∷ []) (entry 9 9 [] ∷ [])) (7 ∷ 7 ∷ 7 ∷ []) (7 ∷ 7 ∷ 7 ∷ 7 ∷ [])
     ∷ readBulletinCall (bulletinForm (entry 1 4 [] ∷ []) (entry 3 9 [] ∷ [])) [] [] ∷ []
     ≡ outcome (given []) ((1 ∷ 1 ∷ 4 ∷ []) ∷ (1 ∷ 9 ∷ 9 ∷ 0 ∷ []) ∷ []) ∷ refuse 14 0 ([] ∷ [] ∷ []) ∷ []
-unfolding formOf runsOf runOf saying readCall formRefusals formEntries runsRefusals runRefusals runsIn entriesIn said recordVerdict bodyLength checkOf fletcher blockOf shareb intersection
+unfolding formOf runsOf runOf saying readCall formRefusals formEntries runsRefusals runRefusals runsIn entriesIn said recordVerdict bodyLength checkOf
+    fletcher blockOf shareb intersection
 bulletins = refl
 
 -- «1 member, 0 not, 16 plus the refusal number»

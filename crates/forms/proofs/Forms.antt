@@ -1,5 +1,5 @@
 -- The laws of the byte form, for every form: those of 01 are `set-kind`, `map-kind` and `bulletin-kind` in proofs/Whole.
-use Prim.Native.Nat.{ℕ, suc, _+_, _-_, _*_, _<_, _≤_}
+use Prim.Native.Nat.{ℕ, suc, _+_, _-_, _<_, _≤_}
 use mathlib.Core.List.{List, [], _∷_, _++_}
 use mathlib.Core.Bool.{Bool, true, false}
 use mathlib.Core.Path.{_≡_, refl, sym, subst, ap, ap₂, _∙_}
@@ -7,10 +7,10 @@ use native.Mathlib.Omega.{arith}
 use lib.Dec.{ltb, eqb}
 use lib.ListN.{length, getD, take, drop, replicate, length-drop, length-append, length-replicate}
 use lib.Seq.{take-at, drop-at, length-take-le}
-use borrow.Author.Tests.{ltb-false, eqb-false, le-ltb, ne-eqb}
+use borrow.Author.Tests.{ltb-false, le-ltb, ne-eqb}
 use Rattle.entries.specs.Entries.{Entry, Sound}
 use Rattle.entries.specs.Build.{pick}
-use Rattle.answers.specs.Answers.{Outcome, outcome, given, inTurn, applies}
+use Rattle.answers.specs.Answers.{outcome, given, inTurn, applies}
 use Rattle.answers.specs.Steps.{Clear}
 use Rattle.answers.proofs.Turns.{turn-accepted, clear-turn, applies-clear}
 use Rattle.blocks.specs.Blocks.{capacity, entriesOf, wordsOf, blockOf, verdict}
@@ -54,20 +54,23 @@ module _ (layout : Layout) (two : 2 ≤ layout .width) where
   abbrev s : ℕ
   s = layout .width
 
-  held-stored : (outs : List (List ℕ)) (runs : List (List Entry)) → length outs ≡ length runs → Each (Shaped s) runs → heldIn layout (storedIn outs runs) ≡ runs
+  held-stored : (outs : List (List ℕ)) (runs : List (List Entry)) → length outs ≡ length runs → Each (Shaped s) runs
+      → heldIn layout (storedIn outs runs) ≡ runs
   held-stored [] [] l h = refl
   held-stored [] (es ∷ runs) l h = absurd (omega arith)
   held-stored (w ∷ outs) [] l h = absurd (omega arith)
   held-stored (w ∷ outs) (es ∷ runs) l h = ap₂ _∷_ (block-entries layout (length w) es two (h .0)) (held-stored outs runs (omega arith) (h .1))
 
-  sound-stored : (i j q : ℕ) (outs : List (List ℕ)) (runs : List (List Entry)) → Clear (noBlocks i (lengths outs)) → Clear (noRooms layout j (lengths outs) (lengths runs))
+  sound-stored : (i j q : ℕ) (outs : List (List ℕ)) (runs : List (List Entry)) → Clear (noBlocks i (lengths outs))
+      → Clear (noRooms layout j (lengths outs) (lengths runs))
       → Each (Fine s (layout .limit)) runs → Clear (inputs layout q (storedIn outs runs))
   sound-stored i j q [] runs c d h = tt
   sound-stored i j q (w ∷ outs) [] c d h = tt
   sound-stored i j q (w ∷ outs) (es ∷ runs) c d h =
-      let g = room-fits layout (length w) es (d .0) in
-      (block-verdict layout (length w) es two (h .0 .shaped) (h .0 .sound) (some-words (length w) (c .0)) g,
-      sound-stored (suc i) (suc j) (suc q) outs runs (c .1) (d .1) (h .1))
+      let g = room-fits layout (length w) es (d .0) in (
+        block-verdict layout (length w) es two (h .0 .shaped) (h .0 .sound) (some-words (length w) (c .0)) g,
+        sound-stored (suc i) (suc j) (suc q) outs runs (c .1) (d .1) (h .1),
+      )
 
   pub held-fine : (q : ℕ) (ws : List (List ℕ)) → Clear (inputs layout q ws) → Each (Fine s (layout .limit)) (heldIn layout ws)
   held-fine q [] c = tt
@@ -107,9 +110,10 @@ module _ (f : Form) (k : FormKind f) where
   -- and each byte form is accepted, with its runs
   pub formed-accepted : (b : List ℕ) (runs : List (List Entry)) → Formed f b runs → Clear (formRefusals f b) × (formEntries f b ≡ runs)
   formed-accepted b runs g =
-      let h = shapes (f .layout .width) (f .layout .limit) runs (g .fine) in
-      (subst (λ (x : List ℕ). Clear (formRefusals f x)) (sym (g .form)) (whole f k runs (g .many) h (g .fine) (g .apart)),
-      ap (formEntries f) (g .form) ∙ back f k runs (g .many) h)
+      let h = shapes (f .layout .width) (f .layout .limit) runs (g .fine) in (
+        subst (λ (x : List ℕ). Clear (formRefusals f x)) (sym (g .form)) (whole f k runs (g .many) h (g .fine) (g .apart)),
+        ap (formEntries f) (g .form) ∙ back f k runs (g .many) h,
+      )
 
   -- «Sizes»
   pub accepted-size : (b : List ℕ) → Bytes b → Clear (formRefusals f b) → length b ≡ sizeOf f (lengths (formEntries f b))

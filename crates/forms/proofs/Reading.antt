@@ -1,7 +1,7 @@
 -- The answers of reading, judging and asking, from the tests of the code.
 use Prim.Native.Nat.{ℕ, zero, suc, _+_, _-_, _*_, _<_, _≤_}
 use mathlib.Core.List.{List, [], _∷_, _++_}
-use mathlib.Core.Bool.{Bool, true, false}
+use mathlib.Core.Bool.{Bool}
 use mathlib.Core.Path.{_≡_, refl, sym, subst, ap, ap₂, _∙_}
 use native.Mathlib.Omega.{arith}
 use lib.Dec.{ltb, eqb}
@@ -9,7 +9,7 @@ use lib.ListN.{length, take, drop, length-drop}
 use borrow.Author.Tests.{ltb-false, eqb-false}
 use Rattle.entries.specs.Entries.{Entry}
 use Rattle.entries.specs.Sets.{member}
-use Rattle.answers.specs.Answers.{Answer, given, refused, Outcome, outcome, truth, judged, inTurn, applies}
+use Rattle.answers.specs.Answers.{given, refused, Outcome, outcome, truth, judged, inTurn, applies}
 use Rattle.answers.specs.Steps.{Clear, FirstOf}
 use Rattle.answers.specs.Says.{judgedSays, judgedOf}
 use Rattle.answers.specs.declared.Finding.{Finding}
@@ -105,7 +105,8 @@ module _ (f : Form) (k : FormKind f) (b x y : List ℕ) (v : Finding) (fv : Firs
               shape = k .shape;
             }
           where
-            stored : (z : List ℕ) (i p : ℕ) → Roomy (f .layout) (length z) i → p ≤ length b → itemSize f * i ≤ length (drop p b) → Stored (f .layout .width) i p b z
+            stored : (z : List ℕ) (i p : ℕ) → Roomy (f .layout) (length z) i → p ≤ length b → itemSize f * i ≤ length (drop p b)
+                → Stored (f .layout .width) i p b z
             stored z i p r h l = record {
               there = h;
               some = r .some;
@@ -117,7 +118,8 @@ module _ (f : Form) (k : FormKind f) (b x y : List ℕ) (v : Finding) (fv : Firs
               };
             }
 
-        pub read-good : (x' y' : List ℕ) → eachOf f x' y' ≡ storedIn outs (runsHere f n m b) → outcome (judgedSays answer.Accepted) (eachOf f x' y') ≡ readCall f b outs
+        pub read-good : (x' y' : List ℕ) → eachOf f x' y' ≡ storedIn outs (runsHere f n m b)
+            → outcome (judgedSays answer.Accepted) (eachOf f x' y') ≡ readCall f b outs
         unfolding readCall
         read-good x' y' q =
             given-by (formRefusals f b ++ O) u all-passed outs next (outcome (given []) (eachOf f x' y')) zu
@@ -141,7 +143,8 @@ module _ (b : List ℕ) (v : Finding) (fv : FirstOf (formRefusals ofSet b) v) wh
   pub judge-good : v .number ≡ 0 → (n : ℕ) → n ≡ num2 b 3 → outcome (given (n ∷ [])) [] ≡ judgeCall ofSet b
   unfolding judgeCall
   judge-good z n e =
-      given-by (formRefusals ofSet b) v fv [] (outcome (given (formCounts ofSet b)) []) (outcome (given (n ∷ [])) []) z (ap (λ (i : ℕ). outcome (given (i ∷ [])) []) e)
+      given-by (formRefusals ofSet b) v fv [] (outcome (given (formCounts ofSet b)) []) (outcome (given (n ∷ [])) []) z (ap (λ (i : ℕ). outcome (given
+      (i ∷ [])) []) e)
 
   pub member-refused : (x : ℕ) → (v .number ≡ 0 → ⊥) → 16 + v .number ≡ memberOfFormCall b x
   unfolding memberOfFormCall
@@ -157,4 +160,5 @@ module _ (b : List ℕ) (v : Finding) (fv : FirstOf (formRefusals ofSet b) v) wh
       ap oneNumber
       (given-by (formRefusals ofSet b) v fv [] (outcome (truth (member (firstOf (formEntries ofSet b)) x)) []) (outcome (truth t) []) z
       (ap (λ (u : Bool). outcome (truth u) [])
-      (m ∙ ap (λ (i : ℕ). member (entriesIn 0x10 2 i (drop 7 b)) x) e ∙ ap (λ (r : List (List Entry)). member (firstOf r) x) (sym (entries-here ofSet set-kind b)))))
+      (m ∙ ap (λ (i : ℕ). member (entriesIn 0x10 2 i (drop 7 b)) x) e ∙ ap (λ (r : List (List Entry)). member (firstOf r) x) (sym
+      (entries-here ofSet set-kind b)))))

@@ -2,16 +2,15 @@
 use Prim.Native.Nat.{ℕ, _+_, _-_, _*_, _<_, _≤_}
 use mathlib.Core.List.{List, [], _∷_, _++_, append-assoc, append-nil}
 use mathlib.Core.Bool.{Bool, true, false}
-use mathlib.Core.Path.{_≡_, refl, sym, subst, ap, ap₂, _∙_}
+use mathlib.Core.Path.{_≡_, refl, sym, ap, ap₂, _∙_}
 use native.Mathlib.Omega.{arith}
 use native.Mathlib.Nat.{mul-comm, mul-add, mul-le-mul-left}
 use lib.Dec.{lit≤}
 use lib.ListN.{length, getD, take, drop, length-drop, length-append}
 use borrow.Rule.Slice.PartMut.{putMid}
 use Rattle.entries.specs.Entries.{Entry}
-use Rattle.entries.specs.Build.{pick}
 use Rattle.entries.specs.Bulletins.{shareb}
-use Rattle.answers.specs.Answers.{Answer, given, refused, Outcome, outcome, at, inTurn, applies, lastNumber}
+use Rattle.answers.specs.Answers.{Answer, given, refused, outcome, at, applies, lastNumber}
 use Rattle.answers.specs.Steps.{Clear, FirstOf}
 use Rattle.answers.specs.Says.{writtenSays, refusalOf}
 use Rattle.answers.specs.declared.Finding.{Finding}
@@ -23,18 +22,17 @@ use Rattle.blocks.specs.Blocks.{setLayout, entriesOf, itemsOf, verdict, SoundBl
 use Rattle.blocks.specs.declared.Layout.{Layout}
 use Rattle.blocks.proofs.Words.{Shaped, items-shaped, items-length}
 use Rattle.blocks.proofs.Judging.{verdict-sound, verdict-small, room-words}
-use Rattle.numbers.specs.Numbers.{countBytes, over, patch}
+use Rattle.numbers.specs.Numbers.{countBytes, over}
 use Rattle.numbers.proofs.Patch.{tail-part, mid-patch, mid-over}
 use Rattle.records.specs.Records.{startRecord}
 use Rattle.records.specs.Reads.{countsOf}
-use Rattle.records.specs.Steps.{ItemKind}
 use Rattle.records.proofs.Items.{counts-length}
 use Rattle.runs.specs.Runs.{runOf, total, lengths, runsOf}
 use Rattle.runs.proofs.Turns.{length-record}
 use Rattle.runs.proofs.Running.{length-run, clear-split}
 use Rattle.verdicts.specs.declared.Form.{Form}
-use Rattle.verdicts.specs.Forms.{kindsOf, formOf, startSize, sizeOf, sharing, overlap}
-use Rattle.forms.specs.Calls.{heldIn, inputs, noSpace, blockRefusals, writeRefusals, writtenAt, writeCall}
+use Rattle.verdicts.specs.Forms.{formOf, startSize, overlap}
+use Rattle.forms.specs.Calls.{heldIn, inputs, noSpace, blockRefusals, writtenAt, writeCall}
 use Rattle.verdicts.specs.Steps.{Shape, lone, pair, FormKind, eachOf, itemSize, secondAt}
 use Rattle.forms.specs.Steps.{countHeld, Puts}
 use Rattle.runs.proofs.Several.{shapes}
@@ -68,7 +66,8 @@ form-pair mark st a c r es fs e =
 -- the start was written, then a run of n items of the block w, then one of m items of the block w2
 module _ (f : Form) (n m : ℕ) (w w2 b : List ℕ) (k : Puts f n m w w2 b) (x y : ℕ) (ex : x ≡ n) (ey : y ≡ m) (b1 u : List ℕ)
     (e : b1 ≡ over (startRecord (f .mark) (f .start) (countsOf (f .runs) x y)) b)
-    (q : u ≡ over (runOf (f .mark) (f .first) (itemsOf (f .layout .width) n (take (length w - 1) (drop 1 w)))) (take (length b1 - startSize f) (drop (startSize f) b1))) where
+    (q : u ≡ over (runOf (f .mark) (f .first) (itemsOf (f .layout .width) n (take (length w - 1) (drop 1 w)))) (take (length b1 - startSize f) (drop
+    (startSize f) b1))) where
   abbrev es : List Entry
   es = itemsOf (f .layout .width) n (drop 1 w)
 
@@ -83,15 +82,19 @@ module _ (f : Form) (n m : ℕ) (w w2 b : List ℕ) (k : Puts f n m w w2 b) (x y
 
   start-length : length S ≡ startSize f
   start-length =
-      omega (arith, length-record (f .mark) (f .start) (countBytes (countsOf (f .runs) (length es) (length fs))),
-      counts-length (f .runs) (length es) (length fs) (k .kind .start .one) (k .kind .start .two))
+      omega (
+        arith,
+        length-record (f .mark) (f .start) (countBytes (countsOf (f .runs) (length es) (length fs))),
+        counts-length (f .runs) (length es) (length fs) (k .kind .start .one) (k .kind .start .two),
+      )
 
   first-put : putMid (startSize f) (length b1 - startSize f) b1 u ≡ over (S ++ R) b
   first-put =
       mid-over S R b b1 u (startSize f) start-length
       (e ∙ ap₂ (λ (i j : ℕ). over (startRecord (f .mark) (f .start) (countsOf (f .runs) i j)) b)
       (ex ∙ sym (items-length (f .layout .width) n (drop 1 w))) (ey ∙ sym (items-length (f .layout .width) m (drop 1 w2))))
-      (q ∙ ap (λ (l : List ℕ). over (runOf (f .mark) (f .first) (itemsOf (f .layout .width) n l)) (take (length b1 - startSize f) (drop (startSize f) b1))) (tail-part 1 w))
+      (q ∙ ap (λ (l : List ℕ). over (runOf (f .mark) (f .first) (itemsOf (f .layout .width) n l)) (take (length b1 - startSize f) (drop (startSize f) b1)))
+      (tail-part 1 w))
 
   pub one-put : f .runs ≡ 1 → putMid (startSize f) (length b1 - startSize f) b1 u ≡ over (formOf f (eachOf f es fs)) b
   unfolding formOf
@@ -101,18 +104,27 @@ module _ (f : Form) (n m : ℕ) (w w2 b : List ℕ) (k : Puts f n m w w2 b) (x y
   first-length =
       let h : Shaped (f .layout .width) es = items-shaped (f .layout .width) (k .kind .first .two) n (drop 1 w) (omega (arith, k .room, length-drop 1 w)) in
       length-append S R
-      ∙ omega (arith, start-length, length-run (f .mark) (f .first) (f .layout .width) (k .kind .first) es h, ap (λ (i : ℕ). itemSize f * i) (items-length (f .layout .width) n (drop 1 w)))
+      ∙ omega (
+        arith,
+        start-length,
+        length-run (f .mark) (f .first) (f .layout .width) (k .kind .first) es h,
+        ap (λ (i : ℕ). itemSize f * i) (items-length
+            (f .layout .width) n (drop 1 w)),
+      )
 
   pub two-put : (f .runs ≡ 1 → ⊥) → (v : List ℕ)
       → (let b2 = putMid (startSize f) (length b1 - startSize f) b1 u in
-      v ≡ over (runOf (f .mark) (f .second) (itemsOf (f .layout .width) m (take (length w2 - 1) (drop 1 w2)))) (take (length b2 - secondAt f n) (drop (secondAt f n) b2))
+      v ≡ over (runOf (f .mark) (f .second) (itemsOf (f .layout .width) m (take (length w2 - 1) (drop 1 w2)))) (take (length b2 - secondAt f n) (drop
+      (secondAt f n) b2))
       → putMid (secondAt f n) (length b2 - secondAt f n) b2 v ≡ over (formOf f (eachOf f es fs)) b)
   unfolding formOf
   two-put nz v o =
       let b2 = putMid (startSize f) (length b1 - startSize f) b1 u in
       mid-over (S ++ R) (runOf (f .mark) (f .second) fs) b b2 v (secondAt f n) first-length first-put
-      (o ∙ ap (λ (l : List ℕ). over (runOf (f .mark) (f .second) (itemsOf (f .layout .width) m l)) (take (length b2 - secondAt f n) (drop (secondAt f n) b2))) (tail-part 1 w2))
-      ∙ ap (λ (l : List ℕ). over l b) (form-pair (f .mark) (f .start) (f .first) (f .second) (f .runs) es fs (not-one (f .runs) (f .layout) (k .kind .shape) nz .0))
+      (o ∙ ap (λ (l : List ℕ). over (runOf (f .mark) (f .second) (itemsOf (f .layout .width) m l)) (take (length b2 - secondAt f n) (drop
+      (secondAt f n) b2))) (tail-part 1 w2))
+      ∙ ap (λ (l : List ℕ). over l b) (form-pair (f .mark) (f .start) (f .first) (f .second) (f .runs) es fs (not-one (f .runs) (f .layout)
+      (k .kind .shape) nz .0))
 
 -- the blocks, one or two: over the number of runs r
 each-verdict : (layout : Layout) (r : ℕ) (x y : List ℕ) → Shape r layout → Clear (inputs layout 0 (take r (x ∷ y ∷ [])))
@@ -125,7 +137,8 @@ each-held : (layout : Layout) (r : ℕ) (x y : List ℕ) → Shape r layout
 each-held layout r x y lone = refl
 each-held layout r x y pair = refl
 
-each-total : (r : ℕ) (l : Layout) (es fs : List Entry) (m : ℕ) → Shape r l → length fs ≡ m → (r ≡ 1 → m ≡ 0) → total (lengths (take r (es ∷ fs ∷ []))) ≡ length es + m
+each-total : (r : ℕ) (l : Layout) (es fs : List Entry) (m : ℕ) → Shape r l → length fs ≡ m → (r ≡ 1 → m ≡ 0)
+    → total (lengths (take r (es ∷ fs ∷ []))) ≡ length es + m
 each-total r l es fs m lone h z = omega (arith, z refl)
 each-total r l es fs m pair h z = omega arith
 
@@ -166,11 +179,14 @@ module _ (layout : Layout) (r : ℕ) (x y : List ℕ) (h : Shape r layout) (v : 
       pub second-unsound : (u ≡ 0 → ⊥) → FirstOf refusals (at 1 u)
       second-unsound nz = behind (at 1 u) (stops u (verdict layout y) 1 (at 0 shared ∷ []) eu (verdict-small layout y) nz)
 
-      pub both-sound : u ≡ 0 → layout ≡ setLayout → (t : Bool) → t ≡ shareb (entriesOf 2 x) (entriesOf 2 y) → (w : ℕ) → w ≡ applies t 14 → FirstOf refusals (at 0 w)
+      pub both-sound : u ≡ 0 → layout ≡ setLayout → (t : Bool) → t ≡ shareb (entriesOf 2 x) (entriesOf 2 y) → (w : ℕ) → w ≡ applies t 14
+          → FirstOf refusals (at 0 w)
       both-sound y0 two t et w q =
-          let i : shareb (entriesOf (layout .width) x) (entriesOf (layout .width) y) ≡ t = ap (λ (l : Layout). shareb (entriesOf (l .width) x) (entriesOf (l .width) y)) two ∙ sym et in
+          let i : shareb (entriesOf (layout .width) x) (entriesOf (layout .width) y) ≡ t = ap (λ (l : Layout). shareb (entriesOf (l .width) x) (entriesOf
+          (l .width) y)) two ∙ sym et in
           behind (at 0 w) (passes (verdict layout y) 1 (at 0 shared ∷ []) (at 0 w) (sym eu ∙ y0)
-          (ends w shared 0 (q ∙ sym (ap (λ (b : Bool). applies b 14) i)) (applies-small (shareb (entriesOf (layout .width) x) (entriesOf (layout .width) y)) 14 (lit≤ tt))))
+          (ends w shared 0 (q ∙ sym (ap (λ (b : Bool). applies b 14) i)) (applies-small (shareb (entriesOf (layout .width) x) (entriesOf
+          (layout .width) y)) 14 (lit≤ tt))))
 
 -- writing from the blocks x and y
 module _ (f : Form) (k : FormKind f) (x y bytes : List ℕ) (p : ℕ) (v : Finding) (fv : FirstOf (blockRefusals f (eachOf f x y)) v) where
@@ -183,12 +199,14 @@ module _ (f : Form) (k : FormKind f) (x y bytes : List ℕ) (p : ℕ) (v : Findi
   abbrev T : List Finding
   T = at 0 (applies (noSpace p (length g) (length bytes)) 15) ∷ []
 
-  says-refused : (u i : ℕ) → (u ≡ 0 → ⊥) → u ≤ lastNumber → (r : Refusal) → r ≡ refusalOf u i → outcome (writtenSays (written.Refused r)) (bytes ∷ []) ≡ outcome (refused u i) (bytes ∷ [])
+  says-refused : (u i : ℕ) → (u ≡ 0 → ⊥) → u ≤ lastNumber → (r : Refusal) → r ≡ refusalOf u i
+      → outcome (writtenSays (written.Refused r)) (bytes ∷ []) ≡ outcome (refused u i) (bytes ∷ [])
   says-refused u i nz l r q =
       let h : 1 ≤ u = omega (arith, nz) in
       ap (λ (a : Answer). outcome a (bytes ∷ [])) (ap (λ (r : Refusal). writtenSays (written.Refused r)) q ∙ refusal-says u i h l)
 
-  pub blocks-refused : (v .number ≡ 0 → ⊥) → (r : Refusal) → r ≡ refusalOf (v .number) (v .place) → outcome (writtenSays (written.Refused r)) (bytes ∷ []) ≡ writeCall f ws bytes p
+  pub blocks-refused : (v .number ≡ 0 → ⊥) → (r : Refusal) → r ≡ refusalOf (v .number) (v .place)
+      → outcome (writtenSays (written.Refused r)) (bytes ∷ []) ≡ writeCall f ws bytes p
   unfolding writeCall
   blocks-refused nz r q =
       says-refused (v .number) (v .place) nz (fv .small) r q
@@ -196,7 +214,8 @@ module _ (f : Form) (k : FormKind f) (x y bytes : List ℕ) (p : ℕ) (v : Findi
 
   module _ (zv : v .number ≡ 0) where
     judged : (verdict (f .layout) x ≡ 0) × ((f .runs ≡ 1 → ⊥) → verdict (f .layout) y ≡ 0)
-    judged = each-verdict (f .layout) (f .runs) x y (k .shape) (clear-split (inputs (f .layout) 0 ws) (overlap (heldIn (f .layout) ws) ∷ []) (fv .clear zv) .0)
+    judged = each-verdict (f .layout) (f .runs) x y (k .shape) (clear-split (inputs (f .layout) 0 ws) (overlap (heldIn (f .layout) ws) ∷ [])
+        (fv .clear zv) .0)
 
     pub first-sound : SoundBlock (f .layout) x
     first-sound = verdict-sound (f .layout) x (judged .0)
@@ -245,7 +264,8 @@ module _ (f : Form) (k : FormKind f) (x y bytes : List ℕ) (p : ℕ) (v : Findi
           (shapes s (f .layout .limit) (heldIn (f .layout) ws) (held-fine (f .layout) (k .first .two) 0 ws c))
           ∙ ap (λ (r : List (List Entry)). startSize f + itemSize f * total (lengths r)) held-are
           ∙ ap (λ (t : ℕ). startSize f + itemSize f * t)
-          (each-total (f .runs) (f .layout) (itemsOf s n (drop 1 x)) (itemsOf s m (drop 1 y)) m (k .shape) (items-length s m (drop 1 y)) (λ z. em ∙ none-second (f .runs) y z)
+          (each-total (f .runs) (f .layout) (itemsOf s n (drop 1 x)) (itemsOf s m (drop 1 y)) m (k .shape) (items-length s m (drop 1 y))
+          (λ z. em ∙ none-second (f .runs) y z)
           ∙ ap (λ (i : ℕ). i + m) (items-length s n (drop 1 x)))
 
       module _ (t : Bool) (et : t ≡ noSpace p (startSize f + itemSize f * (n + m)) (length bytes)) where
@@ -255,7 +275,8 @@ module _ (f : Form) (k : FormKind f) (x y bytes : List ℕ) (p : ℕ) (v : Findi
         all-passed : (u : ℕ) → u ≡ applies t 15 → FirstOf (blockRefusals f ws ++ T) (at 0 u)
         all-passed u e =
             passes-in (blockRefusals f ws) T v (at 0 u) fv zv
-            (ends u (applies (noSpace p (length g) (length bytes)) 15) 0 (e ∙ sym (ap (λ (i : Bool). applies i 15) space-is)) (applies-small (noSpace p (length g) (length bytes)) 15 (lit≤ tt)))
+            (ends u (applies (noSpace p (length g) (length bytes)) 15) 0 (e ∙ sym (ap (λ (i : Bool). applies i 15) space-is)) (applies-small (noSpace p
+            (length g) (length bytes)) 15 (lit≤ tt)))
 
         pub space-refused : t ≡ true → (r : Refusal) → r ≡ refusalOf 15 0 → outcome (writtenSays (written.Refused r)) (bytes ∷ []) ≡ writeCall f ws bytes p
         unfolding writeCall
@@ -281,7 +302,8 @@ module _ (f : Form) (k : FormKind f) (x y bytes : List ℕ) (p : ℕ) (v : Findi
           }
 
           pub write-good : (o : List ℕ) → o ≡ over (formOf f held) (take (length bytes - p) (drop p bytes))
-              → outcome (writtenSays (written.Length (startSize f + itemSize f * (n + m)))) (putMid p (length bytes - p) bytes o ∷ []) ≡ writeCall f ws bytes p
+              → outcome (writtenSays (written.Length (startSize f + itemSize f * (n + m)))) (putMid p (length bytes - p) bytes o ∷ [])
+              ≡ writeCall f ws bytes p
           unfolding writeCall
           write-good o q =
               given-by (blockRefusals f ws ++ T) (at 0 0) (all-passed 0 (rw z)) (bytes ∷ []) (writtenAt p g bytes)

@@ -28,7 +28,8 @@ pub enum FormRead {
 // Makes the outputs the blocks of the n and m items of a form that was judged good.
 fn store_runs(bytes: &[u8], form: Form, n: usize, m: usize, first: &mut [u64], second: &mut [u64])
     requires { ⌜ Stores form n m (now bytes) (now first) (now second) ⌝ }
-    ensures { λ _. ⌜ eachOf form (now (first .exit)) (now (second .exit)) ≡ storedIn (eachOf form (now (first .entry)) (now (second .entry))) (runsHere form n m (now (bytes .entry))) ⌝ }
+    ensures { λ _. ⌜ eachOf form (now (first .exit)) (now (second .exit))
+        ≡ storedIn (eachOf form (now (first .entry)) (now (second .entry))) (runsHere form n m (now (bytes .entry))) ⌝ }
 {
     let s = form.layout.width;
     let from = 2 * form.runs + 5;
@@ -43,7 +44,8 @@ fn store_runs(bytes: &[u8], form: Form, n: usize, m: usize, first: &mut [u64], s
 // Reads a form into a block for each run: judges all of it, then fills. The second block is not touched where the form has one run.
 fn read_form(bytes: &[u8], first: &mut [u64], second: &mut [u64], form: Form) -> Judged
     requires { ⌜ FormKind form ⌝ }
-    ensures { λ r. ⌜ outcome (judgedSays r) (eachOf form (now (first .exit)) (now (second .exit))) ≡ readCall form (now (bytes .entry)) (eachOf form (now (first .entry)) (now (second .entry))) ⌝ }
+    ensures { λ r. ⌜ outcome (judgedSays r) (eachOf form (now (first .exit)) (now (second .exit)))
+        ≡ readCall form (now (bytes .entry)) (eachOf form (now (first .entry)) (now (second .entry))) ⌝ }
 {
     let v = verdicts::judge_form(bytes, form);
     if v.number != 0 {
@@ -77,7 +79,8 @@ pub fn read_map(bytes: &[u8], out: &mut [u64]) -> Judged
 
 // Reads the byte form of a bulletin into a block of released ranges and one of withdrawn ranges. A refused call changes neither.
 pub fn read_bulletin(bytes: &[u8], released: &mut [u64], withdrawn: &mut [u64]) -> Judged
-    ensures { λ r. ⌜ outcome (judgedSays r) (now (released .exit) ∷ now (withdrawn .exit) ∷ []) ≡ readBulletinCall (now (bytes .entry)) (now (released .entry)) (now (withdrawn .entry)) ⌝ }
+    ensures { λ r. ⌜ outcome (judgedSays r) (now (released .exit) ∷ now (withdrawn .exit) ∷ [])
+        ≡ readBulletinCall (now (bytes .entry)) (now (released .entry)) (now (withdrawn .entry)) ⌝ }
 {
     read_form(bytes, released, withdrawn, verdicts::BULLETIN_FORM)
 }
@@ -143,7 +146,8 @@ fn no_space(p: usize, size: usize, len: usize) -> bool
 // Writes the form of the n and m items of the blocks at the front of the bytes.
 fn put_form(first: &[u64], n: usize, second: &[u64], m: usize, bytes: &mut [u8], form: Form)
     requires { ⌜ Puts form n m (now first) (now second) (now bytes) ⌝ }
-    ensures { λ _. ⌜ now (bytes .exit) ≡ over (formOf form (eachOf form (itemsOf (form .layout .width) n (drop 1 (now (first .entry)))) (itemsOf (form .layout .width) m (drop 1 (now (second .entry)))))) (now (bytes .entry)) ⌝ }
+    ensures { λ _. ⌜ now (bytes .exit) ≡ over (formOf form (eachOf form (itemsOf (form .layout .width) n (drop 1 (now (first .entry)))) (itemsOf
+        (form .layout .width) m (drop 1 (now (second .entry)))))) (now (bytes .entry)) ⌝ }
 {
     let s = form.layout.width;
     let from = 2 * form.runs + 5;
@@ -166,7 +170,8 @@ fn put_form(first: &[u64], n: usize, second: &[u64], m: usize, bytes: &mut [u8],
 // Writes a form, from a block for each run, into the bytes from place p on. A refused call changes nothing.
 fn write_form(first: &[u64], second: &[u64], bytes: &mut [u8], p: usize, form: Form) -> Written
     requires { ⌜ FormKind form ⌝ }
-    ensures { λ r. ⌜ outcome (writtenSays r) (now (bytes .exit) ∷ []) ≡ writeCall form (eachOf form (now (first .entry)) (now (second .entry))) (now (bytes .entry)) p ⌝ }
+    ensures { λ r. ⌜ outcome (writtenSays r) (now (bytes .exit) ∷ [])
+        ≡ writeCall form (eachOf form (now (first .entry)) (now (second .entry))) (now (bytes .entry)) p ⌝ }
 {
     let v = block_refusal(first, second, form);
     if v.number != 0 {
@@ -198,7 +203,8 @@ pub fn write_map(block: &[u64], bytes: &mut [u8], p: usize) -> Written
 
 // Writes the byte form of a bulletin into the bytes from place p on, and answers its length. A refused call changes nothing.
 pub fn write_bulletin(released: &[u64], withdrawn: &[u64], bytes: &mut [u8], p: usize) -> Written
-    ensures { λ r. ⌜ outcome (writtenSays r) (now (bytes .exit) ∷ []) ≡ writeBulletinCall (now (released .entry)) (now (withdrawn .entry)) (now (bytes .entry)) p ⌝ }
+    ensures { λ r. ⌜ outcome (writtenSays r) (now (bytes .exit) ∷ [])
+        ≡ writeBulletinCall (now (released .entry)) (now (withdrawn .entry)) (now (bytes .entry)) p ⌝ }
 {
     write_form(released, withdrawn, bytes, p, verdicts::BULLETIN_FORM)
 }

@@ -1,7 +1,6 @@
 -- Published and worked checks, by computing the definition: for the mark of 01.
-use mathlib.Core.List.{List, [], _∷_}
+use mathlib.Core.List.{[], _∷_}
 use mathlib.Core.Path.{_≡_, refl}
-use Prim.Native.Nat.{ℕ}
 use Rattle.numbers.specs.Numbers.{wordBytes}
 use Rattle.numbers.specs.Check.{fletcher, checkOf}
 

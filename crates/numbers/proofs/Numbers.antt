@@ -102,7 +102,8 @@ module _ (b : List ℕ) (y : Bytes b) where
       let z = bytes-drop q in
       let l : 8 ≤ length d = simp length-drop (omega arith) in
       ap be8 (ap (num8 b) (sym (native.Mathlib.Nat.add-zero q)) ∙ sym (num8-drop b q 0))
-      ∙ eight (getD d 0 0) (getD d 1 0) (getD d 2 0) (getD d 3 0) (getD d 4 0) (getD d 5 0) (getD d 6 0) (getD d 7 0) (z 1) (z 2) (z 3) (z 4) (z 5) (z 6) (z 7)
+      ∙ eight (getD d 0 0) (getD d 1 0) (getD d 2 0) (getD d 3 0) (getD d 4 0) (getD d 5 0) (getD d 6 0) (getD d 7 0) (z 1) (z 2) (z 3) (z 4) (z 5) (z 6)
+      (z 7)
       ∙ sym (fronts-take 8 0 d l)
 
   pub words-bytes : (n q : ℕ) → q + 8 * n ≤ length b → wordBytes (wordsIn n b q) ≡ take (8 * n) (drop q b)

@@ -28,7 +28,8 @@ patch-over us vs b p e =
     let l : length (us ++ vs) ≡ p + length vs = length-append us vs ∙ ap (λ (k : ℕ). k + length vs) e in
     rw (take-at us (drop (length us) b) p e, drop-at us (drop (length us) b) p e, l, ← e, drop-drop, append-assoc)
 
-pub mid-over : (us vs b b1 y : List ℕ) (p : ℕ) → length us ≡ p → b1 ≡ over us b → y ≡ over vs (take (length b1 - p) (drop p b1)) → putMid p (length b1 - p) b1 y ≡ over (us ++ vs) b
+pub mid-over : (us vs b b1 y : List ℕ) (p : ℕ) → length us ≡ p → b1 ≡ over us b → y ≡ over vs (take (length b1 - p) (drop p b1))
+    → putMid p (length b1 - p) b1 y ≡ over (us ++ vs) b
 mid-over us vs b b1 y p e q w = mid-patch p vs b1 y w ∙ ap (patch p vs) q ∙ patch-over us vs b p e
 
 -- one run after the other, from p on

@@ -1,16 +1,12 @@
 -- A whole record is the record of what it says, and the record of an entry or of counts is whole and says them.
 use Prim.Native.Nat.{ℕ, _+_, _-_, _*_, _≤_}
-use mathlib.Core.List.{List, [], _∷_, _++_, append-assoc}
-use mathlib.Core.Bool.{Bool, true, false}
-use mathlib.Core.Option.{Option, some}
+use mathlib.Core.List.{List, _∷_, _++_, append-assoc}
 use mathlib.Core.Path.{_≡_, refl, sym, ap, ap₂, _∙_}
 use native.Mathlib.Omega.{arith}
 use native.Mathlib.Nat.{div-add-mod'}
-use lib.Dec.{leb}
 use lib.ListN.{length, take, drop, take-append-drop, length-append}
 use lib.Seq.{drop-drop, take-at, drop-at, take-all}
 use Rattle.entries.specs.Entries.{Entry, entry}
-use Rattle.entries.specs.Build.{pick, andb}
 use Rattle.blocks.specs.Blocks.{itemOf}
 use Rattle.numbers.specs.Numbers.{Bytes, num2, be2, wordsIn, wordBytes, countsIn, countBytes}
 use Rattle.numbers.specs.Check.{checkOf}

@@ -114,5 +114,13 @@ module _ (mark due : ℕ) (b : List ℕ) (content : Bool) where
         let d = pick-then (eqb (num2 b 0) mark) not-0 (a .1) in
         let f = pick-then (eqb (getD b 2 0) due) not-0 (d .1) in
         let g = pick-else (ltb (length b) (n + 5)) not-0 (rw q at (f .1)) in
-        let t = pick-then checked not-0 (g .1) in
-        (record { marked = eqb-true _ _ (d .0); is-due = eqb-true _ _ (f .0); long = ltb-false _ _ (g .0); sum = eqb-true _ _ (t .0) }, pick-then content not-0 (t .1) .0)
+        let t = pick-then checked not-0 (g .1) in (
+          record {
+            marked = eqb-true _ _ (d .0);
+            is-due = eqb-true _ _ (f .0);
+            long = ltb-false _ _ (g .0);
+            sum = eqb-true _ _
+                (t .0);
+          },
+          pick-then content not-0 (t .1) .0,
+        )

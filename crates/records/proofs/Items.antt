@@ -18,7 +18,7 @@ use Rattle.numbers.proofs.Patch.{mid-over}
 use Rattle.numbers.proofs.Numbers.{words-bytes, counts-bytes, length-words}
 use Rattle.records.specs.Records.{allWithin, entryWords, entryIn, inOrder}
 use Rattle.records.specs.Reads.{countsOf, secondCount, startRead, itemHere, entryOf, itemRead}
-use Rattle.records.specs.Steps.{StartKind, itemBytes}
+use Rattle.records.specs.Steps.{itemBytes}
 use Rattle.records.specs.declared.Item.{Item}
 use Rattle.records.specs.declared.ItemRead.the-variants as item
 use Rattle.records.specs.declared.StartRead.the-variants as start
@@ -44,7 +44,8 @@ pub counts-put-too : (k n m : ℕ) (b x y : List ℕ) → k ≡ 2 → x ≡ over
     → putMid 2 (length x - 2) x y ≡ over (countBytes (countsOf k n m)) b
 counts-put-too k n m b x y e q w = mid-over (be2 n) (be2 m) b x y 2 refl q w ∙ rw e
 
-within-two : (k limit n : ℕ) (b : List ℕ) → 1 ≤ k → k ≤ 2 → andb (leb n limit) (leb (secondCount k b) limit) ≡ allWithin limit (countsOf k n (secondCount k b))
+within-two : (k limit n : ℕ) (b : List ℕ) → 1 ≤ k → k ≤ 2
+    → andb (leb n limit) (leb (secondCount k b) limit) ≡ allWithin limit (countsOf k n (secondCount k b))
 within-two zero limit n b h l = absurd (omega arith)
 within-two (suc zero) limit n b h l = ap (andb (leb n limit)) (le-leb 0 limit (omega arith))
 within-two (suc (suc zero)) limit n b h l = ap (andb (leb n limit)) (sym (go (leb (num2 b 5) limit)))

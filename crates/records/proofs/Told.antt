@@ -1,12 +1,10 @@
 -- The check that the code sums, of counts and of an item, is that of the record; and the verdict that it leads to.
-use Prim.Native.Nat.{ℕ, _+_, _*_, _≤_}
+use Prim.Native.Nat.{ℕ, _+_, _*_}
 use mathlib.Core.List.{List, [], _∷_, _++_}
 use mathlib.Core.Bool.{Bool}
 use mathlib.Core.Option.{Option}
-use mathlib.Core.Path.{_≡_, sym, ap, ap₂, _∙_}
-use native.Mathlib.Omega.{arith}
+use mathlib.Core.Path.{_≡_, sym, ap, _∙_}
 use lib.Dec.{leb, eqb}
-use lib.ListN.{length}
 use Rattle.entries.specs.Entries.{Entry}
 use Rattle.entries.specs.Build.{pick, andb}
 use Rattle.numbers.specs.Numbers.{Bytes, num2, be2, be8, countsIn, countBytes}
@@ -29,7 +27,8 @@ module _ (mark kind n m k : ℕ) (s0 s1 : Sums) (b : Begun mark kind s0) (f : Af
   sums-both s2 g e = rw e (sym (b .on (be2 n ++ (be2 m ++ [])) ∙ f .on (be2 m ++ []) ∙ g .on []))
 
 -- the sums over the kind and the words of an item
-module _ (mark kind : ℕ) (i : Item) (s : ℕ) (s0 s1 s2 : Sums) (k : Begun mark kind s0) (l : After (be8 (i .low)) s0 s1) (h : After (be8 (i .high)) s1 s2) where
+module _ (mark kind : ℕ) (i : Item) (s : ℕ) (s0 s1 s2 : Sums) (k : Begun mark kind s0) (l : After (be8 (i .low)) s0 s1) (h : After (be8
+    (i .high)) s1 s2) where
   ends-on : (ys : List ℕ) → checkOf mark (kind ∷ (be8 (i .low) ++ (be8 (i .high) ++ ys))) ≡ goOn s2 ys
   ends-on ys = k .on (be8 (i .low) ++ (be8 (i .high) ++ ys)) ∙ l .on (be8 (i .high) ++ ys) ∙ h .on ys
 

@@ -72,8 +72,11 @@ pub entries-shaped : (kind s n : ℕ) (b : List ℕ) → 2 ≤ s → Shaped s (e
 unfolding entriesIn
 entries-shaped kind s zero b h = tt
 entries-shaped kind s (suc n) b h =
-    let ws = wordsIn s b 3 in
-    (omega (arith, says kind .same (itemOf s ws), ap length (item-words s ws h (length-words s b 3)), length-words s b 3), entries-shaped kind s n (drop (8 * s + 5) b) h)
+    let ws = wordsIn s b 3 in (
+      omega (arith, says kind .same (itemOf s ws), ap length (item-words s ws h (length-words s b 3)), length-words s b 3),
+      entries-shaped kind s n (drop
+          (8 * s + 5) b) h,
+    )
 
 fit-append : (a b : List ℕ) → Fit a → Fit b → Fit (a ++ b)
 fit-append [] b p q = q
@@ -146,9 +149,11 @@ module _ (mark kind s : ℕ) (k : ItemKind kind s) where
       let c = run-accept (p + m) (some e) es rest (h .1) (t .1) in
       subst
       (λ (y : List ℕ). (itemVerdict mark kind s before y ≡ 0) × Clear (runRefusals mark kind s (length es) (p + m) (some (entryIn kind s y)) (drop m y)))
-      (sym a)
-      (v, subst (λ (y : List ℕ). Clear (runRefusals mark kind s (length es) (p + m) (some (entryIn kind s (x ++ l))) y)) (sym w)
-      (subst (λ (f : Entry). Clear (runRefusals mark kind s (length es) (p + m) (some f) l)) (sym d) c))
+      (sym a) (
+        v,
+        subst (λ (y : List ℕ). Clear (runRefusals mark kind s (length es) (p + m) (some (entryIn kind s (x ++ l))) y)) (sym w)
+            (subst (λ (f : Entry). Clear (runRefusals mark kind s (length es) (p + m) (some f) l)) (sym d) c),
+      )
 
   pub run-back : (es : List Entry) (rest : List ℕ) → Shaped s es → entriesIn kind s (length es) (runOf mark kind es ++ rest) ≡ es
   unfolding entriesIn runOf
@@ -158,7 +163,8 @@ module _ (mark kind s : ℕ) (k : ItemKind kind s) where
       let l = runOf mark kind es ++ rest in
       let a : (x ++ runOf mark kind es) ++ rest ≡ x ++ l = append-assoc x (runOf mark kind es) rest in
       ap (λ (y : List ℕ). entryIn kind s y ∷ entriesIn kind s (length es) (drop (8 * s + 5) y)) a
-      ∙ ap₂ (λ (f : Entry) (y : List ℕ). f ∷ entriesIn kind s (length es) y) (entry-back mark kind s e l (h .0)) (rest-laid mark kind (said-body e) l (8 * s) (body-length e (h .0)))
+      ∙ ap₂ (λ (f : Entry) (y : List ℕ). f ∷ entriesIn kind s (length es) y) (entry-back mark kind s e l (h .0)) (rest-laid mark kind (said-body e) l
+      (8 * s) (body-length e (h .0)))
       ∙ ap (λ (y : List Entry). e ∷ y) (run-back es rest (h .1))
 
   pub length-run : (es : List Entry) → Shaped s es → length (runOf mark kind es) ≡ (8 * s + 5) * length es

@@ -21,7 +21,8 @@ use Rattle.records.specs.Records.{allWithin}
 use Rattle.records.specs.Steps.{ItemKind}
 use Rattle.records.proofs.Said.{Fit}
 use Rattle.runs.specs.Runs.{runOf, entriesIn, runRefusals, total, lengths, runsOf, runsIn, runsRefusals}
-use Rattle.runs.proofs.Running.{clear-split, clear-join, bytes-drop, length-entries, entries-shaped, entries-fit, run-inv, run-accept, run-back, length-run}
+use Rattle.runs.proofs.Running.{clear-split, clear-join, bytes-drop, length-entries, entries-shaped, entries-fit, run-inv, run-accept}
+use Rattle.runs.proofs.Running.{run-back, length-run}
 
 -- what holds of each
 abbrev pub Each : {A : Type 0} → (A → Type 0) → List A → Type 0
@@ -73,7 +74,8 @@ module _ (mark s : ℕ) where
       let x = runOf mark k (entriesIn k s n b) in
       let z = runsOf mark ks (runsIn s ks ns d) in
       record {
-        bytes = r .bytes ∙ ap (λ (l : List ℕ). x ++ l) (q .bytes ∙ ap (λ (l : List ℕ). z ++ l) last) ∙ sym (append-assoc x z (drop (step * (n + total ns)) b));
+        bytes = r .bytes ∙ ap (λ (l : List ℕ). x ++ l) (q .bytes ∙ ap (λ (l : List ℕ). z ++ l) last) ∙ sym (append-assoc x z (drop (step *
+            (n + total ns)) b));
         sound = (sound-true (entriesIn k s n b) (r .sound), q .sound);
         long = omega (arith, r .long, q .long, length-drop (step * n) b, u);
       }
@@ -91,9 +93,10 @@ module _ (mark s : ℕ) where
   runs-fine [] ns b limit h d w = tt
   runs-fine (k ∷ ks) [] b limit h d w = tt
   runs-fine (k ∷ ks) (n ∷ ns) b limit h d w =
-      let t = and-true (leb n limit) (allWithin limit ns) w in
-      (record { sound = d .0; shaped = entries-shaped k s n b h; within = omega (arith, leb-true n limit (t .0), length-entries k s n b) },
-      runs-fine ks ns (drop (step * n) b) limit h (d .1) (t .1))
+      let t = and-true (leb n limit) (allWithin limit ns) w in (
+        record { sound = d .0; shaped = entries-shaped k s n b h; within = omega (arith, leb-true n limit (t .0), length-entries k s n b) },
+        runs-fine ks ns (drop (step * n) b) limit h (d .1) (t .1),
+      )
 
   pub runs-fit : (kinds counts b : List ℕ) → Bytes b → 2 ≤ s → Each (λ es. Fit (wordsOf es)) (runsIn s kinds counts b)
   unfolding runsIn

@@ -41,7 +41,8 @@ store-written kind s n m from b out b1 y b3 two h e p q c =
     let lw : length (wordsOf es) ≡ s * n = words-length s es (entries-shaped kind s n (drop from b) two) ∙ ap (λ (k : ℕ). s * k) le in
     let lu : length us ≡ f = omega (arith, lw) in
     let w : b2 ≡ over us out =
-    mid-over (m ∷ []) (wordsOf es) out b1 y 1 refl p (q ∙ ap (λ (l : List ℕ). over (wordsOf (entriesIn kind s n l)) (take (length b1 - 1) (drop 1 b1))) (tail-part from b)) in
+    mid-over (m ∷ []) (wordsOf es) out b1 y 1 refl p (q ∙ ap (λ (l : List ℕ). over (wordsOf (entriesIn kind s n l)) (take (length b1 - 1) (drop 1 b1)))
+    (tail-part from b)) in
     let l2 : length b2 ≡ length out = ap length w ∙ length-over us out (omega arith) in
     cleared b2 b3 f (omega arith) c
     ∙ ap₂ (λ (x : List ℕ) (k : ℕ). x ++ replicate (k - f) 0) (ap (take f) w ∙ take-at us (drop (length us) out) f lu) l2

@@ -39,7 +39,8 @@ told-bad (suc v) m j r e q = let k : m ≡ suc v = cc in (k, λ z. omega arith)
 
 -- judging: the record at p was read
 module _ (mark kind s p : ℕ) (b : List ℕ) (first : Bool) (before : Item) (r : ItemRead)
-    (e : r ≡ itemRead (itemVerdict mark kind s (previous first s before) (take (length b - p) (drop p b))) (itemHere s (take (length b - p) (drop p b)))) where
+    (e : r ≡ itemRead (itemVerdict mark kind s (previous first s before) (take (length b - p) (drop p b))) (itemHere s (take (length b - p)
+    (drop p b)))) where
   abbrev due : ℕ
   due = itemVerdict mark kind s (previous first s before) (drop p b)
 
@@ -67,9 +68,11 @@ module _ (mark kind s p : ℕ) (b : List ℕ) (first : Bool) (before : Item) (r 
   judge-bad (suc n) m x l q w =
       let t = told-bad due m (itemHere s (drop p b)) r e′ q in
       let k : x ≡ due = w ∙ ap itemNumber q ∙ t .0 in
-      let no : x ≡ 0 → ⊥ = λ z. t .1 (sym k ∙ z) in
-      (stops x due p (runRefusals mark kind s n (p + (8 * s + 5)) (some (entryIn kind s (drop p b))) (drop (8 * s + 5) (drop p b))) k
-      (record-small mark kind (drop p b) (inOrder (previous first s before) (entryIn kind s (drop p b)))) no, no)
+      let no : x ≡ 0 → ⊥ = λ z. t .1 (sym k ∙ z) in (
+        stops x due p (runRefusals mark kind s n (p + (8 * s + 5)) (some (entryIn kind s (drop p b))) (drop (8 * s + 5) (drop p b))) k
+            (record-small mark kind (drop p b) (inOrder (previous first s before) (entryIn kind s (drop p b)))) no,
+        no,
+      )
 
   pub judge-fits : ItemKind kind s → (i : Item) → r ≡ item.Good i → p ≤ length b → p + (8 * s + 5) ≤ length b
   judge-fits k i q l =
@@ -84,14 +87,16 @@ judge-end mark kind s (suc n) p before b l = absurd (omega arith)
 
 -- filling
 module _ (kind s : ℕ) (b : List ℕ) (two : 2 ≤ s) where
-  words-more : (q n : ℕ) → 0 < n → wordsOf (entriesIn kind s n (drop q b)) ≡ wordsIn s (drop (q + 3) b) 0 ++ wordsOf (entriesIn kind s (n - 1) (drop (q + (8 * s + 5)) b))
+  words-more : (q n : ℕ) → 0 < n → wordsOf (entriesIn kind s n (drop q b))
+      ≡ wordsIn s (drop (q + 3) b) 0 ++ wordsOf (entriesIn kind s (n - 1) (drop (q + (8 * s + 5)) b))
   unfolding entriesIn
   words-more q zero l = absurd (omega arith)
   words-more q (suc n) l =
       let m : suc n - 1 ≡ n = omega arith in
       let z : q + 3 + 0 ≡ q + 3 = omega arith in
       ap₂ _++_
-      (ap entryWords (said-plain kind (itemOf s (wordsIn s (drop q b) 3))) ∙ item-words s (wordsIn s (drop q b) 3) two (length-words s (drop q b) 3) ∙ words-drop s b q 3 ∙ ap (wordsIn s b) (sym z) ∙ sym (words-drop s b (q + 3) 0))
+      (ap entryWords (said-plain kind (itemOf s (wordsIn s (drop q b) 3))) ∙ item-words s (wordsIn s (drop q b) 3) two (length-words s
+      (drop q b) 3) ∙ words-drop s b q 3 ∙ ap (wordsIn s b) (sym z) ∙ sym (words-drop s b (q + 3) 0))
       (ap₂ (λ (k : ℕ) (l : List ℕ). wordsOf (entriesIn kind s k l)) (sym m) (drop-drop (8 * s + 5) q b))
 
   pub fill-turn : (out y whole : List ℕ) (w q n : ℕ) → 0 < n → w ≤ length out
@@ -99,7 +104,8 @@ module _ (kind s : ℕ) (b : List ℕ) (two : 2 ≤ s) where
       → y ≡ over (wordsIn s (take (length b - (q + 3)) (drop (q + 3) b)) 0) (take (length out - w) (drop w out))
       → whole ≡ patch (w + s) (wordsOf (entriesIn kind s (n - 1) (drop (q + (8 * s + 5)) b))) (putMid w (length out - w) out y)
   fill-turn out y whole w q n l h e m =
-      lent-turn (wordsIn s (drop (q + 3) b) 0) (wordsOf (entriesIn kind s (n - 1) (drop (q + (8 * s + 5)) b))) out y whole w s (length-words s (drop (q + 3) b) 0) h
+      lent-turn (wordsIn s (drop (q + 3) b) 0) (wordsOf (entriesIn kind s (n - 1) (drop (q + (8 * s + 5)) b))) out y whole w s (length-words s (drop
+      (q + 3) b) 0) h
       (e ∙ ap (λ (v : List ℕ). patch w v out) (words-more q n l))
       (m ∙ ap (λ (v : List ℕ). over (wordsIn s v 0) (take (length out - w) (drop w out))) (tail-part (q + 3) b))
 
@@ -119,13 +125,15 @@ item-take s (x ∷ y ∷ l) two h = let k : s ≡ 2 + (s - 2) = omega arith in s
 
 module _ (mark kind s : ℕ) (ws : List ℕ) (two : 2 ≤ s) where
   run-more : (w n : ℕ) → 0 < n → w + s ≤ length ws
-      → runOf mark kind (itemsOf s n (drop w ws)) ≡ recordOf mark kind (wordBytes (take s (drop w ws))) ++ runOf mark kind (itemsOf s (n - 1) (drop (w + s) ws))
+      → runOf mark kind (itemsOf s n (drop w ws))
+      ≡ recordOf mark kind (wordBytes (take s (drop w ws))) ++ runOf mark kind (itemsOf s (n - 1) (drop (w + s) ws))
   unfolding runOf
   run-more w zero l h = absurd (omega arith)
   run-more w (suc n) l h =
       let m : suc n - 1 ≡ n = omega arith in
       ap₂ _++_
-      (ap (λ (v : List ℕ). recordOf mark kind (wordBytes v)) (ap entryWords (saying-plain kind (itemOf s (drop w ws))) ∙ item-take s (drop w ws) two (omega (arith, length-drop w ws))))
+      (ap (λ (v : List ℕ). recordOf mark kind (wordBytes v)) (ap entryWords (saying-plain kind (itemOf s (drop w ws))) ∙ item-take s (drop w ws) two (omega
+      (arith, length-drop w ws))))
       (ap₂ (λ (k : ℕ) (l : List ℕ). runOf mark kind (itemsOf s k l)) (sym m) (drop-drop s w ws))
 
   pub write-turn : (b y whole : List ℕ) (w q n : ℕ) → 0 < n → w + s ≤ length ws → q ≤ length b

@@ -4,10 +4,9 @@ use mathlib.Core.Path.{_≡_}
 use mathlib.Core.Option.{none}
 use mathlib.Core.List.{List}
 use lib.ListN.{length, drop}
-use Rattle.entries.specs.Entries.{Sound}
 use Rattle.answers.specs.declared.Finding.{Finding}
 use Rattle.answers.specs.Steps.{FirstOf}
-use Rattle.runs.specs.Runs.{entriesIn, runRefusals}
+use Rattle.runs.specs.Runs.{runRefusals}
 
 -- a run judged: its first refusal, or 0 and the place behind it
 pub record RunJudged (mark kind s n from : ℕ) (b : List ℕ) (r : Finding) : Type 0 where

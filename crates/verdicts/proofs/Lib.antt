@@ -2,3 +2,4 @@ pub mod Whole
 pub mod Two
 pub mod Rooms
 pub mod Walking
+pub mod Overlap

@@ -46,12 +46,14 @@ module _ (layout : Layout) (r i j n m : ℕ) (h : Shape r layout) where
     module _ (e : r ≡ 2) where
       pub no-second : j ≡ 0 → FirstOf refusals (at 1 1)
       no-second z =
-          rw e (passes (applies (eqb i 0) 1) 0 _ (at 1 1) words (stops 1 (applies (eqb j 0) 1) 1 _ (empty j z) (applies-small (eqb j 0) 1 (lit≤ tt)) (λ z. omega arith)))
+          rw e (passes (applies (eqb i 0) 1) 0 _ (at 1 1) words (stops 1 (applies (eqb j 0) 1) 1 _ (empty j z) (applies-small (eqb j 0) 1 (lit≤ tt))
+          (λ z. omega arith)))
 
       module _ (some-too : j ≡ 0 → ⊥) (v : ℕ) (q : v ≡ full i n) where
         behind : (u : Finding) → FirstOf (at 0 (full i n) ∷ at 1 (full j m) ∷ []) u → FirstOf refusals u
         behind u g =
-            rw e (passes (applies (eqb i 0) 1) 0 _ u words (passes (applies (eqb j 0) 1) 1 (at 0 (full i n) ∷ at 1 (full j m) ∷ []) u (rw (ne-eqb j 0 some-too)) g))
+            rw e (passes (applies (eqb i 0) 1) 0 _ u words (passes (applies (eqb j 0) 1) 1 (at 0 (full i n) ∷ at 1 (full j m) ∷ []) u (rw
+            (ne-eqb j 0 some-too)) g))
 
         pub full-first : (v ≡ 0 → ⊥) → FirstOf refusals (at 0 v)
         full-first nz = behind (at 0 v) (stops v (full i n) 0 (at 1 (full j m) ∷ []) q (full-small i n) nz)

@@ -1,19 +1,19 @@
 -- A form as the code goes through it: its start, a run, and a second run, which is empty where the form has one.
 use Prim.Native.Nat.{ℕ, zero, suc, _+_, _-_, _*_, _<_, _≤_}
 use mathlib.Core.List.{List, [], _∷_, _++_, append-assoc, append-nil}
-use mathlib.Core.Bool.{Bool, true, false}
+use mathlib.Core.Bool.{Bool, false}
 use mathlib.Core.Option.{none}
 use mathlib.Core.Path.{_≡_, refl, sym, subst, ap, ap₂, _∙_}
 use native.Mathlib.Omega.{arith}
 use native.Mathlib.Nat.{mul-add}
 use lib.Dec.{ltb, lit≤}
-use lib.ListN.{length, getD, take, drop}
+use lib.ListN.{length, take, drop}
 use lib.Seq.{drop-drop}
 use borrow.Author.Tests.{lt-ltb, le-ltb}
-use Rattle.entries.specs.Entries.{Entry, Sound}
+use Rattle.entries.specs.Entries.{Entry}
 use Rattle.entries.specs.Bulletins.{shareb}
-use Rattle.answers.specs.Answers.{at, applies, lastNumber}
-use Rattle.answers.specs.Steps.{Clear, FirstOf}
+use Rattle.answers.specs.Answers.{at, applies}
+use Rattle.answers.specs.Steps.{FirstOf}
 use Rattle.answers.specs.declared.Finding.{Finding}
 use Rattle.answers.proofs.Turns.{stops, passes, ends, stops-in, passes-in, applies-small}
 use Rattle.blocks.specs.Blocks.{setLayout}
@@ -25,7 +25,7 @@ use Rattle.records.specs.Reads.{secondCount, startRead, startNumber}
 use Rattle.records.specs.declared.StartRead.{StartRead}
 use Rattle.records.specs.declared.StartRead.the-variants as start
 use Rattle.records.proofs.Heads.{record-inv, record-small}
-use Rattle.runs.specs.Runs.{entriesIn, runRefusals, total, lengths, runsIn, runsRefusals}
+use Rattle.runs.specs.Runs.{entriesIn, runRefusals, total, runsIn, runsRefusals}
 use Rattle.runs.specs.Steps.{RunJudged}
 use Rattle.runs.proofs.Running.{bytes-drop, run-inv}
 use Rattle.verdicts.specs.declared.Form.{Form}
@@ -99,7 +99,8 @@ module _ (f : Form) (k : FormKind f) (b : List ℕ) where
       let E = trailing (secondAt f n₀ + itemSize f * m₀) b ∷ overlap (runsHere f n₀ m₀ b) ∷ [] in
       let runs : runsRefusals (f .mark) (f .layout .width) (startSize f) (kindsOf f) (formCounts f b) (drop (startSize f) b) ≡ A ++ B =
       two-refusals (f .mark) (f .layout) (f .runs) (f .first) (f .second) (startSize f) b (drop (startSize f) b) (k .shape)
-      ∙ ap (λ (x : List ℕ). A ++ runRefusals (f .mark) (f .second) (f .layout .width) m₀ (secondAt f n₀) none x) (drop-drop (itemSize f * n₀) (startSize f) b) in
+      ∙ ap (λ (x : List ℕ). A ++ runRefusals (f .mark) (f .second) (f .layout .width) m₀ (secondAt f n₀) none x) (drop-drop (itemSize f * n₀)
+      (startSize f) b) in
       let ends : trailing (sizeOf f (formCounts f b)) b ∷ overlap (formEntries f b) ∷ [] ≡ E =
       ap₂ (λ (p : ℕ) (es : List (List Entry)). trailing p b ∷ overlap es ∷ []) size-here entries-here in
       ap (λ (l : List Finding). at 0 (startVerdict (f .mark) (f .start) (f .runs) (f .layout .limit) b) ∷ l) (ap₂ _++_ runs ends ∙ append-assoc A B E)
@@ -114,7 +115,8 @@ module _ (f : Form) (k : FormKind f) (b : List ℕ) where
         let t = told-bad due v n₀ m₀ a e g in
         let i : x ≡ due = w ∙ ap startNumber g ∙ t .0 in
         subst (λ (l : List Finding). FirstOf l (at 0 x)) (sym behind-start)
-        (stops x due 0 (behindStart f n₀ m₀ b) i (record-small (f .mark) (f .start) b (allWithin (f .layout .limit) (formCounts f b))) (λ z. t .1 (sym i ∙ z)))
+        (stops x due 0 (behindStart f n₀ m₀ b) i (record-small (f .mark) (f .start) b (allWithin (f .layout .limit) (formCounts f b))) (λ z. t .1
+        (sym i ∙ z)))
 
     module _ (n m : ℕ) (g : a ≡ start.Good n m) where
       t : (due ≡ 0) × (n ≡ n₀) × (m ≡ m₀)
@@ -164,21 +166,25 @@ module _ (f : Form) (n m : ℕ) (b : List ℕ) (x : Finding) (fx : RunJudged (f 
           let q : 13 ≡ applies (ltb behind (length b)) 13 = rw (lt-ltb behind (length b) (omega (arith, place))) in
           runs-passed (at (y .place) 13)
           (subst (λ (p : ℕ). FirstOf E (at p 13)) (sym place)
-          (stops 13 (applies (ltb behind (length b)) 13) behind (overlap (runsHere f n m b) ∷ []) q (applies-small (ltb behind (length b)) 13 (lit≤ tt)) (λ z. omega arith)))
+          (stops 13 (applies (ltb behind (length b)) 13) behind (overlap (runsHere f n m b) ∷ []) q (applies-small (ltb behind (length b)) 13 (lit≤ tt))
+          (λ z. omega arith)))
 
       -- nothing trails: 14 or nothing
       pub last-is : length b ≤ y .place → (v : ℕ) → v ≡ applies (sharing (runsHere f n m b)) 14 → FirstOf (behindStart f n m b) (at 0 v)
       last-is l v q =
           runs-passed (at 0 v)
-          (passes (applies (ltb behind (length b)) 13) behind (overlap (runsHere f n m b) ∷ []) (at 0 v) (rw (le-ltb behind (length b) (omega (arith, place))))
+          (passes (applies (ltb behind (length b)) 13) behind (overlap (runsHere f n m b) ∷ []) (at 0 v) (rw (le-ltb behind (length b) (omega
+          (arith, place))))
           (ends v (applies (sharing (runsHere f n m b)) 14) 0 q (applies-small (sharing (runsHere f n m b)) 14 (lit≤ tt))))
 
       -- a second run: it and the first are sound ranges in the bytes
       pub to-share : FormKind f → Bytes b → (f .runs ≡ 1 → ⊥) → TwoRuns (f .first) (startSize f) n (f .second) (x .place) m b
       to-share k u nz =
           let t : f .layout .width ≡ 2 = ap (λ (l : Layout). l .width) (not-one (f .runs) (f .layout) (k .shape) nz .1) in
-          let p = run-inv (f .mark) (f .first) (f .layout .width) (k .first) n (startSize f) none (drop (startSize f) b) (bytes-drop (startSize f) b u) (fx .first .clear zx) in
-          let q = run-inv (f .mark) (f .second) (f .layout .width) (k .second) m (x .place) none (drop (x .place) b) (bytes-drop (x .place) b u) (fy .first .clear zy) in
+          let p = run-inv (f .mark) (f .first) (f .layout .width) (k .first) n (startSize f) none (drop (startSize f) b) (bytes-drop (startSize f) b u)
+          (fx .first .clear zx) in
+          let q = run-inv (f .mark) (f .second) (f .layout .width) (k .second) m (x .place) none (drop (x .place) b) (bytes-drop (x .place) b u)
+          (fy .first .clear zy) in
           record {
             held = rw t at (subst (λ (i : ℕ). i ≤ length b) (fx .behind zx) (fx .within zx));
             held-too = rw t at (subst (λ (i : ℕ). i ≤ length b) (fy .behind zy) (fy .within zy));

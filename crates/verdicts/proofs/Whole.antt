@@ -1,7 +1,7 @@
 -- Whole forms: what an accepted form is made of, and the form of fine runs that share no number is accepted.
 use Prim.Native.Nat.{ℕ, zero, suc, _+_, _*_, _≤_}
 use mathlib.Core.List.{List, [], _∷_, _++_, append-nil}
-use mathlib.Core.Bool.{Bool, true, false}
+use mathlib.Core.Bool.{true, false}
 use mathlib.Core.Path.{_≡_, refl, sym, subst, ap, ap₂, _∙_}
 use native.Mathlib.Omega.{arith}
 use lib.Dec.{ltb, lit<, lit≤}
@@ -10,14 +10,13 @@ use borrow.Author.Tests.{ltb-false, le-ltb}
 use Rattle.entries.specs.Entries.{Entry}
 use Rattle.answers.specs.Answers.{applies}
 use Rattle.answers.specs.Steps.{Clear}
-use Rattle.answers.specs.declared.Finding.{Finding}
 use Rattle.answers.proofs.Turns.{applies-clear}
 use Rattle.blocks.specs.Blocks.{wordsOf}
 use Rattle.blocks.specs.declared.Layout.{Layout}
 use Rattle.blocks.proofs.Words.{Shaped}
 use Rattle.numbers.specs.Numbers.{Bytes, countsIn, countBytes}
 use Rattle.numbers.proofs.Numbers.{length-counts}
-use Rattle.records.specs.Records.{bodyLength, startRecord, allWithin, startVerdict}
+use Rattle.records.specs.Records.{bodyLength, startRecord, allWithin}
 use Rattle.records.specs.Steps.{ItemKind}
 use Rattle.records.proofs.Said.{Fit}
 use Rattle.records.proofs.Heads.{Whole, record-inv, record-zero}
@@ -25,9 +24,10 @@ use Rattle.records.proofs.Accepted.{start-bytes, record-whole, rest-laid, count
 use Rattle.runs.specs.Runs.{total, lengths, runsOf, runsIn, runsRefusals}
 use Rattle.runs.proofs.Turns.{length-record}
 use Rattle.runs.proofs.Running.{clear-split, clear-join, bytes-drop}
-use Rattle.runs.proofs.Several.{Each, Fine, shapes, many-lengths, all-within, runs-inv, counts-in, runs-fine, runs-fit, runs-back, runs-accept, length-runs}
+use Rattle.runs.proofs.Several.{Each, Fine, many-lengths, all-within, runs-inv, counts-in, runs-fine, runs-fit, runs-back, runs-accept, length-runs}
 use Rattle.verdicts.specs.declared.Form.{Form}
-use Rattle.verdicts.specs.Forms.{ofSet, ofMap, ofBulletin, kindsOf, formOf, startSize, sizeOf, formCounts, formEntries, sharing, trailing, overlap, formRefusals}
+use Rattle.verdicts.specs.Forms.{ofSet, ofMap, ofBulletin, kindsOf, formOf, startSize, sizeOf, formCounts, formEntries, sharing, trailing}
+use Rattle.verdicts.specs.Forms.{overlap, formRefusals}
 use Rattle.verdicts.specs.Steps.{Shape, lone, pair, FormKind}
 
 -- the three forms of 01
@@ -61,7 +61,8 @@ bulletin-kind = record {
   small = lit< tt;
 }
 
-kinds-are : (r : ℕ) (l : Layout) (a b : ℕ) → Shape r l → ItemKind a (l .width) → ItemKind b (l .width) → Each (λ k. ItemKind k (l .width)) (take r (a ∷ b ∷ []))
+kinds-are : (r : ℕ) (l : Layout) (a b : ℕ) → Shape r l → ItemKind a (l .width) → ItemKind b (l .width)
+    → Each (λ k. ItemKind k (l .width)) (take r (a ∷ b ∷ []))
 kinds-are r l a b lone i j = (i, tt)
 kinds-are r l a b pair i j = (i, (j, tt))
 
@@ -140,7 +141,13 @@ module _ (f : Form) (k : FormKind f) where
     unfolding formOf
     size =
         length-append (startRecord (f .mark) (f .start) (lengths runs)) (runsOf (f .mark) (kindsOf f) runs)
-        ∙ omega (arith, length-record (f .mark) (f .start) (countBytes (lengths runs)), counts-long, length-runs (f .mark) s (kindsOf f) runs as-kinds kinds h)
+        ∙ omega (
+          arith,
+          length-record (f .mark) (f .start) (countBytes (lengths runs)),
+          counts-long,
+          length-runs (f .mark) s
+              (kindsOf f) runs as-kinds kinds h,
+        )
 
     counts-back : formCounts f b ≡ lengths runs
     unfolding formOf
@@ -173,6 +180,8 @@ module _ (f : Form) (k : FormKind f) where
         let r : Clear (runsRefusals (f .mark) s (startSize f) (kindsOf f) ns (drop (startSize f) b)) =
         subst (λ (m : List ℕ). Clear (runsRefusals (f .mark) s (startSize f) (kindsOf f) m (drop (startSize f) b))) (sym counts-back)
         (subst (λ (x : List ℕ). Clear (runsRefusals (f .mark) s (startSize f) (kindsOf f) (lengths runs) x)) (sym dropped)
-        (runs-accept (f .mark) s [] (f .layout .limit) (kindsOf f) runs as-kinds kinds d (startSize f))) in
-        (record-zero (f .mark) (f .start) b (allWithin (f .layout .limit) ns) (2 * f .runs) (k .start .body) start-whole c,
-        clear-join (runsRefusals (f .mark) s (startSize f) (kindsOf f) ns (drop (startSize f) b)) (trailing (sizeOf f ns) b ∷ overlap (formEntries f b) ∷ []) r (e, (g, tt)))
+        (runs-accept (f .mark) s [] (f .layout .limit) (kindsOf f) runs as-kinds kinds d (startSize f))) in (
+          record-zero (f .mark) (f .start) b (allWithin (f .layout .limit) ns) (2 * f .runs) (k .start .body) start-whole c,
+          clear-join (runsRefusals (f .mark) s (startSize f) (kindsOf f) ns (drop (startSize f) b)) (trailing (sizeOf f ns) b ∷ overlap
+              (formEntries f b) ∷ []) r (e, (g, tt)),
+        )

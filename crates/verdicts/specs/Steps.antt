@@ -1,6 +1,5 @@
 -- What the steps of the code promise each other. No public promise names these.
 use Prim.Native.Nat.{ℕ, _+_, _*_, _<_, _≤_}
-use mathlib.Core.Path.{_≡_}
 use mathlib.Core.Option.{none}
 use mathlib.Core.List.{List, [], _∷_, _++_}
 use lib.ListN.{length, take, drop}
@@ -39,7 +38,8 @@ secondAt f n = startSize f + itemSize f * n
 
 -- the entries of the runs, where n and m are the counts
 abbrev pub runsHere : Form → ℕ → ℕ → List ℕ → List (List Entry)
-runsHere f n m b = eachOf f (entriesIn (f .first) (f .layout .width) n (drop (startSize f) b)) (entriesIn (f .second) (f .layout .width) m (drop (secondAt f n) b))
+runsHere f n m b = eachOf f (entriesIn (f .first) (f .layout .width) n (drop (startSize f) b)) (entriesIn (f .second) (f .layout .width) m (drop
+    (secondAt f n) b))
 
 -- the refusals behind the start
 abbrev pub behindStart : Form → ℕ → ℕ → List ℕ → List Finding

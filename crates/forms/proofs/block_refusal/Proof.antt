@@ -3,8 +3,6 @@ use mathlib.Core.Bool.{true, false}
 use Rattle.blocks.proofs.Judging.{verdict-sound}
 use Rattle.verdicts.proofs.Two.{not-one}
 use Rattle.forms.proofs.Writing.{first-unsound, one-sound, second-unsound, both-sound}
-use native.Mathlib.Omega.{arith}
-use borrow.Author.Needs.{needs}
 use Rattle.forms.proofs.block_refusal.Statement.{statement}
 use Rattle.forms.proofs.block_refusal.Tie as tie
 
@@ -22,7 +20,8 @@ returns-2 c =
     let j = c .before .before .before in
     let k = j .before .before .before in
     let a = k .args in
-    one-sound (a .form .layout) (a .form .runs) (a .first .now) (a .second .now) (k .pre .shape) _ (j .judge .ensures) (c .before .before .if1 .left) (c .if2 .taken)
+    one-sound (a .form .layout) (a .form .runs) (a .first .now) (a .second .now) (k .pre .shape) _ (j .judge .ensures) (c .before .before .if1 .left)
+    (c .if2 .taken)
 
 judge-requires-2 : tie.Need-judge-requires-2
 judge-requires-2 c κs = c .before .before .before .before .before .before .pre .first .two
@@ -32,7 +31,8 @@ returns-3 c =
     let j = c .before .before .before .before .before in
     let k = j .before .before .before in
     let a = k .args in
-    second-unsound (a .form .layout) (a .form .runs) (a .first .now) (a .second .now) (k .pre .shape) _ (j .judge .ensures) (c .before .before .before .before .if1 .left)
+    second-unsound (a .form .layout) (a .form .runs) (a .first .now) (a .second .now) (k .pre .shape) _ (j .judge .ensures)
+    (c .before .before .before .before .if1 .left)
     (not-one _ _ (k .pre .shape) (c .before .before .if2 .left) .0) _ (c .before .judge2 .ensures) (c .if3 .taken)
 
 share-number-requires : tie.Need-share-number-requires
@@ -41,9 +41,10 @@ share-number-requires c κs =
     let k = j .before .before .before in
     let a = k .args in
     let l = a .form .layout in
-    let two = not-one _ _ (k .pre .shape) (c .before .before .if2 .left) .1 in
-    (rw two at (verdict-sound l (a .first .now) (sym (j .judge .ensures) ∙ c .before .before .before .before .if1 .left)),
-    rw two at (verdict-sound l (a .second .now) (sym (c .before .judge2 .ensures) ∙ c .if3 .left)))
+    let two = not-one _ _ (k .pre .shape) (c .before .before .if2 .left) .1 in (
+      rw two at (verdict-sound l (a .first .now) (sym (j .judge .ensures) ∙ c .before .before .before .before .if1 .left)),
+      rw two at (verdict-sound l (a .second .now) (sym (c .before .judge2 .ensures) ∙ c .if3 .left)),
+    )
 
 returns-4 : tie.Need-returns-4
 returns-4 c =
@@ -51,8 +52,10 @@ returns-4 c =
     let k = j .before .before .before in
     let a = k .args in
     let two = not-one _ _ (k .pre .shape) (c .before .before .before .before .if2 .left) in
-    both-sound (a .form .layout) (a .form .runs) (a .first .now) (a .second .now) (k .pre .shape) _ (j .judge .ensures) (c .before .before .before .before .before .before .if1 .left)
-    (two .0) _ (c .before .before .before .judge2 .ensures) (c .before .before .if3 .left) (two .1) true (sym (c .if4 .taken) ∙ c .before .share-number .ensures) 14 refl
+    both-sound (a .form .layout) (a .form .runs) (a .first .now) (a .second .now) (k .pre .shape) _ (j .judge .ensures)
+    (c .before .before .before .before .before .before .if1 .left)
+    (two .0) _ (c .before .before .before .judge2 .ensures) (c .before .before .if3 .left) (two .1) true (sym
+    (c .if4 .taken) ∙ c .before .share-number .ensures) 14 refl
 
 returns-5 : tie.Need-returns-5
 returns-5 c =
@@ -60,18 +63,11 @@ returns-5 c =
     let k = j .before .before .before in
     let a = k .args in
     let two = not-one _ _ (k .pre .shape) (c .before .before .before .before .if2 .left) in
-    both-sound (a .form .layout) (a .form .runs) (a .first .now) (a .second .now) (k .pre .shape) _ (j .judge .ensures) (c .before .before .before .before .before .before .if1 .left)
-    (two .0) _ (c .before .before .before .judge2 .ensures) (c .before .before .if3 .left) (two .1) false (sym (c .if4 .left) ∙ c .before .share-number .ensures) 0 refl
+    both-sound (a .form .layout) (a .form .runs) (a .first .now) (a .second .now) (k .pre .shape) _ (j .judge .ensures)
+    (c .before .before .before .before .before .before .if1 .left)
+    (two .0) _ (c .before .before .before .judge2 .ensures) (c .before .before .if3 .left) (two .1) false (sym
+    (c .if4 .left) ∙ c .before .share-number .ensures) 0 refl
 
 pub block-refusal-spec : {M : Type 1} → statement M
 block-refusal-spec =
-    tie.close
-    (tie.spec
-    judge-requires
-    returns
-    returns-2
-    judge-requires-2
-    returns-3
-    share-number-requires
-    returns-4
-    returns-5)
+    tie.close (tie.spec judge-requires returns returns-2 judge-requires-2 returns-3 share-number-requires returns-4 returns-5)

@@ -14,14 +14,16 @@ returns : tie.Need-returns
 returns c = judge-refused (c .before .before .before .before .args .bytes .now) _ (c .before .before .judge-form .ensures) (c .if1 .taken)
 
 get2-requires : tie.Need-get2-requires
-get2-requires c κs = let f = c .before .before .judge-form .ensures in omega (arith, start-long ofSet set-kind (c .before .before .before .before .args .bytes .now) (f .clear (c .if1 .left)))
-
-wide-requires : tie.Need-wide-requires
-wide-requires c κs = search needs
+get2-requires c κs = let f = c .before .before .judge-form .ensures in omega (
+  arith,
+  start-long ofSet set-kind
+      (c .before .before .before .before .args .bytes .now) (f .clear (c .if1 .left)),
+)
 
 returns-2 : tie.Need-returns-2
-returns-2 c = judge-good (c .before .before .before .before .before .before .args .bytes .now) _ (c .before .before .before .before .judge-form .ensures) (c .before .before .if1 .left) _ (c .wide .ensures ∙ c .before .get2 .ensures .0)
+returns-2 c = judge-good (c .before .before .before .before .before .before .args .bytes .now) _ (c .before .before .before .before .judge-form .ensures)
+    (c .before .before .if1 .left) _ (c .wide .ensures ∙ c .before .get2 .ensures .0)
 
 pub judge-set-spec : {M : Type 1} → statement M
 judge-set-spec =
-    tie.close (tie.spec judge-form-requires returns get2-requires wide-requires returns-2)
+    tie.close (tie.spec judge-form-requires returns get2-requires (λ c κs. search needs) returns-2)

@@ -1,6 +1,4 @@
 use borrow.Author.Tests.{lt-ltb, le-ltb}
-use borrow.Author.Needs.{needs}
-use native.Mathlib.Omega.{arith}
 use Rattle.forms.proofs.no_space.Statement.{statement}
 use Rattle.forms.proofs.no_space.Tie as tie
 
@@ -11,4 +9,5 @@ returns-2 : tie.Need-returns-2
 returns-2 c = rw (le-ltb _ _ (c .if1 .left))
 
 pub no-space-spec : {M : Type 1} → statement M
-no-space-spec = tie.close (tie.spec returns returns-2)
+no-space-spec =
+    tie.close (tie.spec returns returns-2)

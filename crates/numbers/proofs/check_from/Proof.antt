@@ -4,15 +4,10 @@ use borrow.Author.Needs.{needs}
 use Rattle.numbers.proofs.check_from.Statement.{statement}
 use Rattle.numbers.proofs.check_from.Tie as tie
 
-mul-result : tie.Need-mul-result
-mul-result c = search needs
-
-add-result : tie.Need-add-result
-add-result c = search needs
-
 returns : tie.Need-returns
 unfolding fletcher
 returns c = (refl, search needs)
 
 pub check-from-spec : {M : Type 1} → statement M
-check-from-spec = tie.close (tie.spec mul-result add-result returns)
+check-from-spec =
+    tie.close (tie.spec (λ c. search needs) (λ c. search needs) returns)

@@ -6,24 +6,6 @@ use borrow.Author.Needs.{needs}
 use Rattle.numbers.proofs.put4.Statement.{statement}
 use Rattle.numbers.proofs.put4.Tie as tie
 
-put2-requires : tie.Need-put2-requires
-put2-requires c κs = search needs
-
-sub-put2 : tie.Need-sub-put2
-sub-put2 c = search needs
-
-part-put2-start : tie.Need-part-put2-start
-part-put2-start c = search needs
-
-part-put2-end : tie.Need-part-put2-end
-part-put2-end c = search needs
-
-put2-requires-2 : tie.Need-put2-requires-2
-put2-requires-2 c κs = search needs
-
-same-length : tie.Need-same-length
-same-length c = search needs
-
 returns : tie.Need-returns
 returns c = let k = c .before .before .before .before .before .before in
     let a = k .before .before .before .args in
@@ -32,11 +14,4 @@ returns c = let k = c .before .before .before .before .before .before in
 pub put4-spec : {M : Type 1} → statement M
 put4-spec =
     tie.close
-    (tie.spec
-    put2-requires
-    sub-put2
-    part-put2-start
-    part-put2-end
-    put2-requires-2
-    same-length
-    returns)
+    (tie.spec (λ c κs. search needs) (λ c. search needs) (λ c. search needs) (λ c. search needs) (λ c κs. search needs) (λ c. search needs) returns)

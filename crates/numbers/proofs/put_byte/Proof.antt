@@ -4,14 +4,9 @@ use borrow.Author.Needs.{needs}
 use Rattle.numbers.proofs.put_byte.Statement.{statement}
 use Rattle.numbers.proofs.put_byte.Tie as tie
 
-slice-write-bytes : tie.Need-slice-write-bytes
-slice-write-bytes c = search needs
-
-same-length : tie.Need-same-length
-same-length c = search needs
-
 returns : tie.Need-returns
 returns c = sets-eq (c .args .v ∷ []) (c .args .bytes .now) 0 (c .pre)
 
 pub put-byte-spec : {M : Type 1} → statement M
-put-byte-spec = tie.close (tie.spec slice-write-bytes same-length returns)
+put-byte-spec =
+    tie.close (tie.spec (λ c. search needs) (λ c. search needs) returns)

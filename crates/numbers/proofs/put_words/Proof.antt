@@ -1,3 +1,5 @@
+-- Invariant: writing the words from j on at q gives the whole, and the check of the kind and all words goes on from the sums over the
+-- words left. Measure: the words left.
 use Prim.Native.Nat.{ℕ, _+_, _-_, _*_, _^_, _≤_, _<_}
 use mathlib.Core.List.{List, _∷_}
 use mathlib.Core.Path.{_≡_, refl, _∙_, sym, ap}
@@ -15,52 +17,23 @@ use Rattle.numbers.proofs.put_words.Tie as tie
 
 abbrev Inv-loop : tie.InvT-loop
 Inv-loop bytes₀ words kind mark sums₀ j₀ q₀ bytes sums j q =
-    (j ≤ length words) × (q ≡ 8 * j) × (length bytes ≡ length bytes₀) × (8 * length words ≤ length bytes) × (patch 0 (wordBytes words) bytes₀ ≡ patch q (wordBytes (drop j words)) bytes)
-    × (length words ≤ 4) × (sums .a < 256 + 2 ^ 33 * j) × (sums .b < 256 + 2 ^ 40 * j) × (checkOf mark (kind ∷ wordBytes words) ≡ goOn sums (wordBytes (drop j words)))
+    (j ≤ length words) × (q ≡ 8 * j) × (length bytes ≡ length bytes₀) × (8 * length words ≤ length bytes) × (patch 0 (wordBytes words) bytes₀ ≡ patch q
+    (wordBytes (drop j words)) bytes)
+    × (length words ≤ 4) × (sums .a < 256 + 2 ^ 33 * j) × (sums .b < 256 + 2 ^ 40 * j) × (checkOf mark (kind ∷ wordBytes words) ≡ goOn sums (wordBytes
+    (drop j words)))
 
 abbrev μ-loop : tie.MeasureT-loop
 μ-loop bytes₀ words kind mark sums₀ j₀ q₀ bytes sums j q = length words - j
 
-sums-from-requires : tie.Need-sums-from-requires Inv-loop μ-loop
-sums-from-requires c κs = search needs
-
 loop-holds : tie.Need-loop-holds Inv-loop μ-loop
 loop-holds c = (search needs, search needs, search needs, search needs, refl, search needs, search needs, search needs, c .sums-from .ensures .on _)
 
-mul-w : tie.Need-mul-w Inv-loop μ-loop
-mul-w c = search needs
-
-shared-slice-read-w : tie.Need-shared-slice-read-w Inv-loop μ-loop
-shared-slice-read-w c = search needs
-
-sub-put8 : tie.Need-sub-put8 Inv-loop μ-loop
-sub-put8 c = search needs
-
-part-put8-start : tie.Need-part-put8-start Inv-loop μ-loop
-part-put8-start c = search needs
-
-part-put8-end : tie.Need-part-put8-end Inv-loop μ-loop
-part-put8-end c = search needs
-
-put8-requires : tie.Need-put8-requires Inv-loop μ-loop
-put8-requires c κs = search needs
-
-sum8-requires : tie.Need-sum8-requires Inv-loop μ-loop
-sum8-requires c κs = search needs
-
-add-j : tie.Need-add-j Inv-loop μ-loop
-add-j c = search needs
-
-add-q : tie.Need-add-q Inv-loop μ-loop
-add-q c = search needs
-
-loop-less : tie.Need-loop-less Inv-loop μ-loop
-loop-less c = search needs
-
 loop-again : tie.Need-loop-again Inv-loop μ-loop
-loop-again c = let r = c .before .before .before in
+loop-again c =
+    let c11 = c .before .before .before .before .before .before .before .before .before .before .before in
+    let r = c .before .before .before in
     let l = c .before .before .before .before .before .before .before in
-    let a = c .before .before .before .before .before .before .before .before .before .before .before .args in
+    let a = c11 .args in
     let w = a .words .now in
     let m = bytes-more w (l .loop .j) (omega arith) in
     let e = same-len-mid (l .loop .q) (length (l .loop .bytes) - l .loop .q) (l .loop .bytes) (r .put8 .last .0) (r .put8 .kept .0) in (
@@ -68,15 +41,13 @@ loop-again c = let r = c .before .before .before in
       omega arith,
       omega (arith, e),
       omega (arith, e),
-      lent-turn (be8 (getD w (l .loop .j) 0)) (wordBytes (drop (l .loop .j + 1) w)) (l .loop .bytes) _ _ (l .loop .q) 8 refl (omega arith) (l .loop .inv .4 ∙ ap (λ (v : List ℕ). patch (l .loop .q) v (l .loop .bytes)) m) (r .put8 .ensures),
+      lent-turn (be8 (getD w (l .loop .j) 0)) (wordBytes (drop (l .loop .j + 1) w)) (l .loop .bytes) _ _ (l .loop .q) 8 refl (omega arith)
+          (l .loop .inv .4 ∙ ap (λ (v : List ℕ). patch (l .loop .q) v (l .loop .bytes)) m) (r .put8 .ensures),
       omega arith,
       omega arith,
       omega arith,
       l .loop .inv .8 ∙ ap (goOn (l .loop .sums)) m ∙ c .sum8 .ensures .on (wordBytes (drop (l .loop .j + 1) w)),
     )
-
-same-length : tie.Need-same-length Inv-loop μ-loop
-same-length c = search needs
 
 returns : tie.Need-returns Inv-loop μ-loop
 returns c = let l = c .before in
@@ -89,21 +60,6 @@ returns c = let l = c .before in
 pub put-words-spec : {M : Type 1} → statement M
 put-words-spec =
     tie.close
-    (tie.spec
-    Inv-loop
-    μ-loop
-    sums-from-requires
-    loop-holds
-    mul-w
-    shared-slice-read-w
-    sub-put8
-    part-put8-start
-    part-put8-end
-    put8-requires
-    sum8-requires
-    add-j
-    add-q
-    loop-less
-    loop-again
-    same-length
-    returns)
+    (tie.spec Inv-loop μ-loop (λ c κs. search needs) loop-holds (λ c. search needs) (λ c. search needs) (λ c. search needs) (λ c. search needs)
+    (λ c. search needs) (λ c κs. search needs) (λ c κs. search needs) (λ c. search needs) (λ c. search needs) (λ c. search needs) loop-again
+    (λ c. search needs) returns)

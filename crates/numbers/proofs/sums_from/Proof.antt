@@ -3,11 +3,9 @@ use borrow.Author.Needs.{needs}
 use Rattle.numbers.proofs.sums_from.Statement.{statement}
 use Rattle.numbers.proofs.sums_from.Tie as tie
 
-wide-requires : tie.Need-wide-requires
-wide-requires c κs = search needs
-
 returns : tie.Need-returns
 returns c = record { on = begun-on _ _ _ (c .wide .ensures .0); first = search needs; second = search needs }
 
 pub sums-from-spec : {M : Type 1} → statement M
-sums-from-spec = tie.close (tie.spec wide-requires returns)
+sums-from-spec =
+    tie.close (tie.spec (λ c κs. search needs) returns)

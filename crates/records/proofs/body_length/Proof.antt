@@ -36,5 +36,4 @@ returns-8 c = sym (ap bodyRead (kind-none _ (omega arith)))
 
 pub body-length-spec : {M : Type 1} → statement M
 body-length-spec =
-    tie.close
-    (tie.spec returns returns-2 returns-3 returns-4 returns-5 returns-6 returns-7 returns-8)
+    tie.close (tie.spec returns returns-2 returns-3 returns-4 returns-5 returns-6 returns-7 returns-8)

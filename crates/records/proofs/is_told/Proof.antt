@@ -4,14 +4,9 @@ use borrow.Author.Needs.{needs}
 use Rattle.records.proofs.is_told.Statement.{statement}
 use Rattle.records.proofs.is_told.Tie as tie
 
-check-from-requires : tie.Need-check-from-requires
-check-from-requires c κs = search needs
-
-get2-requires : tie.Need-get2-requires
-get2-requires c κs = search needs
-
 returns : tie.Need-returns
 returns c = ap₂ eqb (c .before .check-from .ensures .0) (c .get2 .ensures .0)
 
 pub is-told-spec : {M : Type 1} → statement M
-is-told-spec = tie.close (tie.spec check-from-requires get2-requires returns)
+is-told-spec =
+    tie.close (tie.spec (λ c κs. search needs) (λ c κs. search needs) returns)

@@ -10,21 +10,22 @@ use Rattle.records.proofs.may_follow.Tie as tie
 returns : tie.Need-returns
 returns c = let a = c .before .before .before .args in overlaps (entryOf (a .s) (a .before)) (entryOf (a .s) (a .item)) (omega arith)
 
-sub-if2 : tie.Need-sub-if2
-sub-if2 c = search needs
-
 returns-2 : tie.Need-returns-2
-returns-2 c = let a = c .before .before .before .before .before .before .args in apart (entryOf (a .s) (a .before)) (entryOf (a .s) (a .item)) (omega arith) (omega arith)
-
-same-value-requires : tie.Need-same-value-requires
-same-value-requires c κs = search needs
+returns-2 c = let a = c .before .before .before .before .before .before .args in apart (entryOf (a .s) (a .before)) (entryOf (a .s) (a .item)) (omega arith)
+    (omega arith)
 
 returns-3 : tie.Need-returns-3
-returns-3 c = let a = c .before .before .before .before .before .before .before .before .args in touching (entryOf (a .s) (a .before)) (entryOf (a .s) (a .item)) (omega arith) (omega arith) true (sym (c .before .same-value .ensures) ∙ c .if3 .taken)
+returns-3 c =
+    let c8 = c .before .before .before .before .before .before .before .before in
+    let a = c8 .args in touching (entryOf (a .s) (a .before)) (entryOf (a .s) (a .item)) (omega arith) (omega arith) true (sym
+    (c .before .same-value .ensures) ∙ c .if3 .taken)
 
 returns-4 : tie.Need-returns-4
-returns-4 c = let a = c .before .before .before .before .before .before .before .before .args in touching (entryOf (a .s) (a .before)) (entryOf (a .s) (a .item)) (omega arith) (omega arith) false (sym (c .before .same-value .ensures) ∙ c .if3 .left)
+returns-4 c =
+    let c8 = c .before .before .before .before .before .before .before .before in
+    let a = c8 .args in touching (entryOf (a .s) (a .before)) (entryOf (a .s) (a .item)) (omega arith) (omega arith) false (sym
+    (c .before .same-value .ensures) ∙ c .if3 .left)
 
 pub may-follow-spec : {M : Type 1} → statement M
 may-follow-spec =
-    tie.close (tie.spec returns sub-if2 returns-2 same-value-requires returns-3 returns-4)
+    tie.close (tie.spec returns (λ c. search needs) returns-2 (λ c κs. search needs) returns-3 returns-4)

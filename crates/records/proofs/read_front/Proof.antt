@@ -1,5 +1,4 @@
-use mathlib.Core.Path.{_≡_, refl, sym}
-use Prim.Native.Nat.{ℕ}
+use mathlib.Core.Path.{refl, sym}
 use mathlib.Core.Path.{_∙_}
 use mathlib.Core.Option.{none, some}
 use Rattle.records.proofs.Table.{body-small, told-known, told-unknown, fits-known}
@@ -12,32 +11,18 @@ use Rattle.records.proofs.read_front.Tie as tie
 returns : tie.Need-returns
 returns c = record { refused = λ n t. front-short _ _ _ t (omega arith); good = λ z. absurd (omega arith) }
 
-get2-requires : tie.Need-get2-requires
-get2-requires c κs = search needs
-
-wide2-requires : tie.Need-wide2-requires
-wide2-requires c κs = search needs
-
 returns-2 : tie.Need-returns-2
 returns-2 c = record {
   refused = λ n t. front-mark _ _ _ t (omega arith) _ _ (c .before .before .get2 .ensures .0) (c .before .wide2 .ensures .0) (c .if2 .taken);
   good = λ z. absurd (omega arith);
 }
 
-shared-slice-read-if3 : tie.Need-shared-slice-read-if3
-shared-slice-read-if3 c = search needs
-
 returns-3 : tie.Need-returns-3
 returns-3 c = record {
-  refused = λ n t. front-kind _ _ _ t (omega arith) _ _ (c .before .before .before .before .get2 .ensures .0) (c .before .before .before .wide2 .ensures .0) (c .before .before .if2 .left) (c .if3 .taken);
+  refused = λ n t. front-kind _ _ _ t (omega arith) _ _ (c .before .before .before .before .get2 .ensures .0) (c .before .before .before .wide2 .ensures .0)
+      (c .before .before .if2 .left) (c .if3 .taken);
   good = λ z. absurd (omega arith);
 }
-
-body-length-requires : tie.Need-body-length-requires
-body-length-requires c κs = search needs
-
-enum-known-b : tie.Need-enum-known-b
-enum-known-b c = search needs
 
 enum-told : tie.Need-enum-told
 enum-told c = search needs
@@ -46,7 +31,8 @@ returns-4 : tie.Need-returns-4
 returns-4 c =
     let g = c .before .before .before .before .before .before .before in
     record {
-      refused = λ n t. front-body _ _ _ t (omega arith) _ _ (g .get2 .ensures .0) (c .before .before .before .before .before .before .wide2 .ensures .0) (c .before .before .before .before .before .if2 .left) (omega arith) none
+      refused = λ n t. front-body _ _ _ t (omega arith) _ _ (g .get2 .ensures .0) (c .before .before .before .before .before .before .wide2 .ensures .0)
+          (c .before .before .before .before .before .if2 .left) (omega arith) none
           (told-unknown _ _ (c .before .before .body-length .ensures) (c .enum-told .given .1));
       good = λ z. absurd (omega arith);
     }
@@ -56,24 +42,29 @@ add-if4 c = omega (arith, body-small _ _ (told-known _ _ _ (c .before .before .b
 
 returns-5 : tie.Need-returns-5
 returns-5 c =
-    let g = c .before .before .before .before .before .before .before .before .before in
+    let c8 = c .before .before .before .before .before .before .before .before in
+    let c9 = c8 .before in
+    let g = c9 in
     let a = g .before .before .before .args in
     let k = told-known _ _ _ (c .before .before .before .before .body-length .ensures) (c .before .before .b .given .1) in
     record {
       refused = λ n t. length-short (a .mark) (a .due) (a .bytes .now) t _ (c .if4 .taken)
-          ∙ front-body (a .mark) (a .due) (a .bytes .now) t (omega arith) _ _ (g .get2 .ensures .0) (c .before .before .before .before .before .before .before .before .wide2 .ensures .0) (c .before .before .before .before .before .before .before .if2 .left) (omega arith) (some _) k;
+          ∙ front-body (a .mark) (a .due) (a .bytes .now) t (omega arith) _ _ (g .get2 .ensures .0) (c8 .wide2 .ensures .0)
+          (c .before .before .before .before .before .before .before .if2 .left) (omega arith) (some _) k;
       good = λ z. absurd (omega arith);
     }
 
 returns-6 : tie.Need-returns-6
 returns-6 c =
-    let g = c .before .before .before .before .before .before .before .before .before in
+    let c8 = c .before .before .before .before .before .before .before .before in
+    let c9 = c8 .before in
+    let g = c9 in
     let a = g .before .before .before .args in
     let k = told-known _ _ _ (c .before .before .before .before .body-length .ensures) (c .before .before .b .given .1) in
     record {
       refused = λ n t. absurd (n refl);
       good = λ z. record {
-        marked = sym (g .get2 .ensures .0) ∙ c .before .before .before .before .before .before .before .if2 .left ∙ c .before .before .before .before .before .before .before .before .wide2 .ensures .0;
+        marked = sym (g .get2 .ensures .0) ∙ c .before .before .before .before .before .before .before .if2 .left ∙ c8 .wide2 .ensures .0;
         is-due = omega arith;
         long = λ n q. fits-known _ _ _ _ k q (c .if4 .left);
       };
@@ -82,17 +73,5 @@ returns-6 c =
 pub read-front-spec : {M : Type 1} → statement M
 read-front-spec =
     tie.close
-    (tie.spec
-    returns
-    get2-requires
-    wide2-requires
-    returns-2
-    shared-slice-read-if3
-    returns-3
-    body-length-requires
-    enum-known-b
-    enum-told
-    returns-4
-    add-if4
-    returns-5
-    returns-6)
+    (tie.spec returns (λ c κs. search needs) (λ c κs. search needs) returns-2 (λ c. search needs) returns-3 (λ c κs. search needs) (λ c. search needs)
+    enum-told returns-4 add-if4 returns-5 returns-6)

@@ -6,9 +6,6 @@ use native.Mathlib.Omega.{arith}
 use Rattle.records.proofs.read_item.Statement.{statement}
 use Rattle.records.proofs.read_item.Tie as tie
 
-read-front-requires : tie.Need-read-front-requires
-read-front-requires c κs = search needs
-
 returns : tie.Need-returns
 returns c =
     let f = c .before .read-front .ensures in
@@ -19,25 +16,10 @@ item-here-requires c κs =
     let p = c .before .before .before .pre in
     (p .two, c .before .read-front .ensures .good (c .if1 .left) .long _ (p .body))
 
-mul-is-told : tie.Need-mul-is-told
-mul-is-told c = search needs
-
-add-is-told : tie.Need-add-is-told
-add-is-told c = search needs
-
-item-sums-requires : tie.Need-item-sums-requires
-item-sums-requires c κs = search needs
-
 is-told-requires : tie.Need-is-told-requires
 is-told-requires c κs =
     let f = c .before .before .before in
     omega (arith, f .read-front .ensures .good (c .before .before .if1 .left) .long _ (f .before .before .pre .body))
-
-in-order-requires : tie.Need-in-order-requires
-in-order-requires c κs = search needs
-
-rest-verdict-requires : tie.Need-rest-verdict-requires
-rest-verdict-requires c κs = search needs
 
 returns-2 : tie.Need-returns-2
 returns-2 c =
@@ -46,7 +28,8 @@ returns-2 c =
     let a = f .before .before .args in
     item-bad _ _ (itemHere (a .s) (a .bytes .now))
     (item-judged _ _ _ (f .read-front .ensures .good (i .before .if1 .left)) (λ j. f .before .shared-slice-known .given j .fits) _ _ _ _
-    (c .before .rest-verdict .ensures) _ (previous (a .first) (a .s) (a .before)) _ (f .before .before .pre) (i .item-here .ensures) (c .before .before .before .before .item-sums .ensures) (c .before .before .before .is-told .ensures) (c .before .before .in-order .ensures))
+    (c .before .rest-verdict .ensures) _ (previous (a .first) (a .s) (a .before)) _ (f .before .before .pre) (i .item-here .ensures)
+    (c .before .before .before .before .item-sums .ensures) (c .before .before .before .is-told .ensures) (c .before .before .in-order .ensures))
     (c .if2 .taken)
 
 returns-3 : tie.Need-returns-3
@@ -56,21 +39,12 @@ returns-3 c =
     let a = f .before .before .args in
     item-good _ _ _ _
     (item-judged _ _ _ (f .read-front .ensures .good (i .before .if1 .left)) (λ j. f .before .shared-slice-known .given j .fits) _ _ _ _
-    (c .before .rest-verdict .ensures) _ (previous (a .first) (a .s) (a .before)) _ (f .before .before .pre) (i .item-here .ensures) (c .before .before .before .before .item-sums .ensures) (c .before .before .before .is-told .ensures) (c .before .before .in-order .ensures))
+    (c .before .rest-verdict .ensures) _ (previous (a .first) (a .s) (a .before)) _ (f .before .before .pre) (i .item-here .ensures)
+    (c .before .before .before .before .item-sums .ensures) (c .before .before .before .is-told .ensures) (c .before .before .in-order .ensures))
     (c .if2 .left) (i .item-here .ensures)
 
 pub read-item-spec : {M : Type 1} → statement M
 read-item-spec =
     tie.close
-    (tie.spec
-    read-front-requires
-    returns
-    item-here-requires
-    mul-is-told
-    add-is-told
-    item-sums-requires
-    is-told-requires
-    in-order-requires
-    rest-verdict-requires
-    returns-2
-    returns-3)
+    (tie.spec (λ c κs. search needs) returns item-here-requires (λ c. search needs) (λ c. search needs) (λ c κs. search needs) is-told-requires
+    (λ c κs. search needs) (λ c κs. search needs) returns-2 returns-3)

@@ -9,9 +9,6 @@ use native.Mathlib.Omega.{arith}
 use Rattle.records.proofs.read_start.Statement.{statement}
 use Rattle.records.proofs.read_start.Tie as tie
 
-read-front-requires : tie.Need-read-front-requires
-read-front-requires c κs = search needs
-
 returns : tie.Need-returns
 returns c =
     let f = c .before .read-front .ensures in
@@ -27,31 +24,10 @@ second-count-requires c κs =
     let p = c .before .before .before .before .pre in
     omega (arith, c .before .before .read-front .ensures .good (c .before .if1 .left) .long _ (p .body))
 
-mul-is-told : tie.Need-mul-is-told
-mul-is-told c = search needs
-
-add-is-told : tie.Need-add-is-told
-add-is-told c = search needs
-
-start-sums-requires : tie.Need-start-sums-requires
-start-sums-requires c κs = search needs
-
 is-told-requires : tie.Need-is-told-requires
 is-told-requires c κs =
     let f = c .before .before .before .before in
     omega (arith, f .read-front .ensures .good (c .before .before .before .if1 .left) .long _ (f .before .before .pre .body))
-
-wide-requires : tie.Need-wide-requires
-wide-requires c κs = search needs
-
-wide-requires-2 : tie.Need-wide-requires-2
-wide-requires-2 c κs = search needs
-
-within-requires : tie.Need-within-requires
-within-requires c κs = search needs
-
-rest-verdict-requires : tie.Need-rest-verdict-requires
-rest-verdict-requires c κs = search needs
 
 returns-2 : tie.Need-returns-2
 returns-2 c =
@@ -61,9 +37,11 @@ returns-2 c =
     let a = f .before .before .args in
     start-bad _ _ _ _
     (start-judged _ _ _ (f .read-front .ensures .good (s .before .if1 .left)) (λ j. f .before .shared-slice-known .given j .fits) _ _ _ _
-    (c .before .rest-verdict .ensures) (a .k) (a .limit) _ _ (f .before .before .pre) (s .get2 .ensures .0) (w .before .before .before .second-count .ensures .0)
+    (c .before .rest-verdict .ensures) (a .k) (a .limit) _ _ (f .before .before .pre) (s .get2 .ensures .0)
+    (w .before .before .before .second-count .ensures .0)
     (w .before .before .start-sums .ensures) (w .before .is-told .ensures)
-    (c .before .before .within .ensures ∙ ap₂ (λ (x y : ℕ). andb (leb x (a .limit)) (leb y (a .limit))) (w .wide .ensures) (c .before .before .before .wide2 .ensures)))
+    (c .before .before .within .ensures ∙ ap₂ (λ (x y : ℕ). andb (leb x (a .limit)) (leb y (a .limit))) (w .wide .ensures)
+    (c .before .before .before .wide2 .ensures)))
     (c .if2 .taken)
 
 returns-3 : tie.Need-returns-3
@@ -74,26 +52,15 @@ returns-3 c =
     let a = f .before .before .args in
     start-good _ _ _ _ _ _
     (start-judged _ _ _ (f .read-front .ensures .good (s .before .if1 .left)) (λ j. f .before .shared-slice-known .given j .fits) _ _ _ _
-    (c .before .rest-verdict .ensures) (a .k) (a .limit) _ _ (f .before .before .pre) (s .get2 .ensures .0) (w .before .before .before .second-count .ensures .0)
+    (c .before .rest-verdict .ensures) (a .k) (a .limit) _ _ (f .before .before .pre) (s .get2 .ensures .0)
+    (w .before .before .before .second-count .ensures .0)
     (w .before .before .start-sums .ensures) (w .before .is-told .ensures)
-    (c .before .before .within .ensures ∙ ap₂ (λ (x y : ℕ). andb (leb x (a .limit)) (leb y (a .limit))) (w .wide .ensures) (c .before .before .before .wide2 .ensures)))
+    (c .before .before .within .ensures ∙ ap₂ (λ (x y : ℕ). andb (leb x (a .limit)) (leb y (a .limit))) (w .wide .ensures)
+    (c .before .before .before .wide2 .ensures)))
     (c .if2 .left) (w .wide .ensures ∙ s .get2 .ensures .0) (c .before .before .before .wide2 .ensures ∙ w .before .before .before .second-count .ensures .0)
 
 pub read-start-spec : {M : Type 1} → statement M
 read-start-spec =
     tie.close
-    (tie.spec
-    read-front-requires
-    returns
-    get2-requires
-    second-count-requires
-    mul-is-told
-    add-is-told
-    start-sums-requires
-    is-told-requires
-    wide-requires
-    wide-requires-2
-    within-requires
-    rest-verdict-requires
-    returns-2
-    returns-3)
+    (tie.spec (λ c κs. search needs) returns get2-requires second-count-requires (λ c. search needs) (λ c. search needs) (λ c κs. search needs)
+    is-told-requires (λ c κs. search needs) (λ c κs. search needs) (λ c κs. search needs) (λ c κs. search needs) returns-2 returns-3)

@@ -4,15 +4,6 @@ use borrow.Author.Needs.{needs}
 use Rattle.records.proofs.value_word.Statement.{statement}
 use Rattle.records.proofs.value_word.Tie as tie
 
-mul-get8 : tie.Need-mul-get8
-mul-get8 c = search needs
-
-add-get8 : tie.Need-add-get8
-add-get8 c = search needs
-
-get8-requires : tie.Need-get8-requires
-get8-requires c κs = search needs
-
 returns : tie.Need-returns
 returns c = c .get8 .ensures ∙ sym (rw (lt-ltb _ _ (c .before .if1 .taken)))
 
@@ -20,4 +11,5 @@ returns-2 : tie.Need-returns-2
 returns-2 c = sym (rw (le-ltb _ _ (c .if1 .left)))
 
 pub value-word-spec : {M : Type 1} → statement M
-value-word-spec = tie.close (tie.spec mul-get8 add-get8 get8-requires returns returns-2)
+value-word-spec =
+    tie.close (tie.spec (λ c. search needs) (λ c. search needs) (λ c κs. search needs) returns returns-2)

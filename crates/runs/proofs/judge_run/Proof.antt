@@ -1,5 +1,6 @@
+-- Invariant: the first refusal of the records left, from p on, is that of the whole run. Measure: the records left.
 use Prim.Native.Nat.{ℕ, _+_, _*_, _≤_}
-use mathlib.Core.Path.{_≡_, refl, sym, ap, _∙_}
+use mathlib.Core.Path.{_≡_, refl, ap}
 use mathlib.Core.Option.{none}
 use lib.ListN.{length, drop}
 use native.Mathlib.Nat.{mul-zero}
@@ -17,7 +18,8 @@ use Rattle.runs.proofs.judge_run.Tie as tie
 abbrev Inv-loop : tie.InvT-loop
 Inv-loop bytes from mark kind s n p₀ left₀ first₀ before₀ p left first before =
     (p ≤ length bytes)
-    × ((r : Finding) → FirstOf (runRefusals mark kind s left p (previous first s before) (drop p bytes)) r → FirstOf (runRefusals mark kind s n from none (drop from bytes)) r)
+    × ((r : Finding) → FirstOf (runRefusals mark kind s left p (previous first s before) (drop p bytes)) r → FirstOf (runRefusals mark kind s n from none
+    (drop from bytes)) r)
     × (p + (8 * s + 5) * left ≡ from + (8 * s + 5) * n)
 
 abbrev μ-loop : tie.MeasureT-loop
@@ -26,26 +28,11 @@ abbrev μ-loop : tie.MeasureT-loop
 loop-holds : tie.Need-loop-holds Inv-loop μ-loop
 loop-holds c = (search needs, λ r f. f, refl)
 
-sub-read-item : tie.Need-sub-read-item Inv-loop μ-loop
-sub-read-item c = search needs
-
-part-read-item-start : tie.Need-part-read-item-start Inv-loop μ-loop
-part-read-item-start c = search needs
-
-part-read-item-end : tie.Need-part-read-item-end Inv-loop μ-loop
-part-read-item-end c = search needs
-
 read-item-requires : tie.Need-read-item-requires Inv-loop μ-loop
 read-item-requires c κs = c .before .before .before .before .pre .0
 
-enum-known-a : tie.Need-enum-known-a Inv-loop μ-loop
-enum-known-a c = search needs
-
 enum-told : tie.Need-enum-told Inv-loop μ-loop
 enum-told c = search needs
-
-item-number-requires : tie.Need-item-number-requires Inv-loop μ-loop
-item-number-requires c κs = search needs
 
 returns : tie.Need-returns Inv-loop μ-loop
 returns c =
@@ -63,15 +50,15 @@ add-p : tie.Need-add-p Inv-loop μ-loop
 add-p c = omega (arith, c .before .before .before .before .before .before .before .before .pre .0 .four)
 
 add-p-2 : tie.Need-add-p-2 Inv-loop μ-loop
-add-p-2 c = let l = c .before .before .before .before .before .before in
-    let a = c .before .before .before .before .before .before .before .before .args in
-    omega (arith, judge-fits (a .mark) (a .kind) (a .s) (l .loop .p) (a .bytes .now) (l .loop .first) (l .loop .before) _ (c .before .before .before .read-item .ensures) (c .before .before .before .before .before .before .before .before .pre .0) _ (c .before .a .given .1) (l .loop .inv .0))
-
-sub-left : tie.Need-sub-left Inv-loop μ-loop
-sub-left c = search needs
-
-loop-less : tie.Need-loop-less Inv-loop μ-loop
-loop-less c = search needs
+add-p-2 c =
+    let c8 = c .before .before .before .before .before .before .before .before in
+    let l = c .before .before .before .before .before .before in
+    let a = c8 .args in
+    omega (
+      arith,
+      judge-fits (a .mark) (a .kind) (a .s) (l .loop .p) (a .bytes .now) (l .loop .first) (l .loop .before) _
+          (c .before .before .before .read-item .ensures) (c8 .pre .0) _ (c .before .a .given .1) (l .loop .inv .0),
+    )
 
 loop-again : tie.Need-loop-again Inv-loop μ-loop
 loop-again c =
@@ -79,9 +66,11 @@ loop-again c =
     let l = c .before .before .before .before .before .before in
     let k = l .before .before in
     let a = k .args in (
-      judge-fits (a .mark) (a .kind) (a .s) (l .loop .p) (a .bytes .now) (l .loop .first) (l .loop .before) _ (r .read-item .ensures) (k .pre .0) _ (c .before .a .given .1) (l .loop .inv .0),
+      judge-fits (a .mark) (a .kind) (a .s) (l .loop .p) (a .bytes .now) (l .loop .first) (l .loop .before) _ (r .read-item .ensures) (k .pre .0) _
+          (c .before .a .given .1) (l .loop .inv .0),
       λ x f. l .loop .inv .1 x
-          (judge-more (a .mark) (a .kind) (a .s) (l .loop .p) (a .bytes .now) (l .loop .first) (l .loop .before) _ (r .read-item .ensures) (k .pre .0) (l .loop .left) _
+          (judge-more (a .mark) (a .kind) (a .s) (l .loop .p) (a .bytes .now) (l .loop .first) (l .loop .before) _ (r .read-item .ensures) (k .pre .0)
+          (l .loop .left) _
           (omega arith) (c .before .a .given .1) x f),
       omega (arith, less-one (8 * a .s + 5) (l .loop .left) (omega arith)),
     )
@@ -92,7 +81,8 @@ returns-2 c =
     let a = c .before .before .before .args in
     let z : l .loop .left ≡ 0 = omega arith in
     record {
-      first = l .loop .inv .1 _ (judge-end (a .mark) (a .kind) (a .s) (l .loop .left) (l .loop .p) (previous (l .loop .first) (a .s) (l .loop .before)) (drop (l .loop .p) (a .bytes .now)) (omega arith));
+      first = l .loop .inv .1 _ (judge-end (a .mark) (a .kind) (a .s) (l .loop .left) (l .loop .p) (previous (l .loop .first) (a .s) (l .loop .before))
+          (drop (l .loop .p) (a .bytes .now)) (omega arith));
       behind = λ y. omega (arith, ap (λ (n : ℕ). (8 * a .s + 5) * n) z, mul-zero (8 * a .s + 5));
       within = λ y. l .loop .inv .0;
     }
@@ -100,22 +90,5 @@ returns-2 c =
 pub judge-run-spec : {M : Type 1} → statement M
 judge-run-spec =
     tie.close
-    (tie.spec
-    Inv-loop
-    μ-loop
-    loop-holds
-    sub-read-item
-    part-read-item-start
-    part-read-item-end
-    read-item-requires
-    enum-known-a
-    enum-told
-    item-number-requires
-    returns
-    mul-p
-    add-p
-    add-p-2
-    sub-left
-    loop-less
-    loop-again
-    returns-2)
+    (tie.spec Inv-loop μ-loop loop-holds (λ c. search needs) (λ c. search needs) (λ c. search needs) read-item-requires (λ c. search needs) enum-told
+    (λ c κs. search needs) returns mul-p add-p add-p-2 (λ c. search needs) (λ c. search needs) loop-again returns-2)

@@ -1,3 +1,4 @@
+-- Invariant: writing the items left, whose words begin at w, at q gives the whole. Measure: the items left.
 use Prim.Native.Nat.{_+_, _-_, _*_, _≤_}
 use mathlib.Core.Path.{_≡_, sym, _∙_}
 use lib.ListN.{length, drop, length-take, length-drop}
@@ -13,34 +14,11 @@ use Rattle.runs.proofs.write_run.Statement.{statement}
 use Rattle.runs.proofs.write_run.Tie as tie
 
 abbrev Inv-loop : tie.InvT-loop
-Inv-loop words s n mark kind bytes₀ left₀ q₀ w₀ bytes left q w = (w + s * left ≤ length words) × (q + (8 * s + 5) * left ≤ length bytes) × (length bytes ≡ length bytes₀) × (patch 0 (runOf mark kind (itemsOf s n words)) bytes₀ ≡ patch q (runOf mark kind (itemsOf s left (drop w words))) bytes)
+Inv-loop words s n mark kind bytes₀ left₀ q₀ w₀ bytes left q w = (w + s * left ≤ length words) × (q + (8 * s + 5) * left ≤ length bytes) ×
+    (length bytes ≡ length bytes₀) × (patch 0 (runOf mark kind (itemsOf s n words)) bytes₀ ≡ patch q (runOf mark kind (itemsOf s left (drop w words))) bytes)
 
 abbrev μ-loop : tie.MeasureT-loop
 μ-loop words s n mark kind bytes₀ left₀ q₀ w₀ bytes left q w = left
-
-loop-holds : tie.Need-loop-holds Inv-loop μ-loop
-loop-holds c = search needs
-
-sub-write-item : tie.Need-sub-write-item Inv-loop μ-loop
-sub-write-item c = search needs
-
-part-write-item-start : tie.Need-part-write-item-start Inv-loop μ-loop
-part-write-item-start c = search needs
-
-part-write-item-end : tie.Need-part-write-item-end Inv-loop μ-loop
-part-write-item-end c = search needs
-
-add-write-item : tie.Need-add-write-item Inv-loop μ-loop
-add-write-item c = search needs
-
-mul-write-item : tie.Need-mul-write-item Inv-loop μ-loop
-mul-write-item c = search needs
-
-sub-write-item-2 : tie.Need-sub-write-item-2 Inv-loop μ-loop
-sub-write-item-2 c = search needs
-
-part-write-item-start-2 : tie.Need-part-write-item-start-2 Inv-loop μ-loop
-part-write-item-start-2 c = search needs
 
 part-write-item-end-2 : tie.Need-part-write-item-end-2 Inv-loop μ-loop
 part-write-item-end-2 c = omega (arith, less-one (c .before .before .before .before .before .args .s) (c .before .before .loop .left) (omega arith))
@@ -52,61 +30,29 @@ write-item-requires c κs = let l = c .before .before .before in
     let m = less-one (8 * a .s + 5) (l .loop .left) (omega arith) in
     (simp (length-take, length-drop) (omega arith), simp (length-take, length-drop) (omega arith))
 
-mul-q : tie.Need-mul-q Inv-loop μ-loop
-mul-q c = search needs
-
-add-q : tie.Need-add-q Inv-loop μ-loop
-add-q c = search needs
-
-add-q-2 : tie.Need-add-q-2 Inv-loop μ-loop
-add-q-2 c = search needs
-
-add-w : tie.Need-add-w Inv-loop μ-loop
-add-w c = search needs
-
-sub-left : tie.Need-sub-left Inv-loop μ-loop
-sub-left c = search needs
-
-loop-less : tie.Need-loop-less Inv-loop μ-loop
-loop-less c = search needs
-
 loop-again : tie.Need-loop-again Inv-loop μ-loop
-loop-again c = let r = c .before .before in
+loop-again c =
+    let c9 = c .before .before .before .before .before .before .before .before .before in
+    let r = c .before .before in
     let l = c .before .before .before .before .before .before in
-    let a = c .before .before .before .before .before .before .before .before .before .args in
+    let a = c9 .args in
     let k = less-one (a .s) (l .loop .left) (omega arith) in
     let m = less-one (8 * a .s + 5) (l .loop .left) (omega arith) in
-    let e = same-len-mid (l .loop .q) (length (l .loop .bytes) - l .loop .q) (l .loop .bytes) (r .write-item .last .0) (r .write-item .kept .0) in
-    (omega arith, omega (arith, e), omega (arith, e), write-turn (a .mark) (a .kind) (a .s) (a .words .now) (c .before .before .before .before .before .before .before .before .before .pre .two) (l .loop .bytes) _ _ (l .loop .w) (l .loop .q) (l .loop .left) (omega arith) (omega arith) (omega arith) (l .loop .inv .3) (r .write-item .ensures))
-
-same-length : tie.Need-same-length Inv-loop μ-loop
-same-length c = search needs
+    let e = same-len-mid (l .loop .q) (length (l .loop .bytes) - l .loop .q) (l .loop .bytes) (r .write-item .last .0) (r .write-item .kept .0) in (
+      omega arith,
+      omega (arith, e),
+      omega (arith, e),
+      write-turn (a .mark) (a .kind) (a .s) (a .words .now) (c9 .pre .two) (l .loop .bytes) _ _ (l .loop .w)
+          (l .loop .q) (l .loop .left) (omega arith) (omega arith) (omega arith) (l .loop .inv .3) (r .write-item .ensures),
+    )
 
 returns : tie.Need-returns Inv-loop μ-loop
-returns c = let l = c .before in let a = c .before .before .before .before .args in sym (l .loop .inv .3 ∙ write-end (a .mark) (a .kind) (a .s) (l .loop .left) (l .loop .q) _ (l .loop .bytes) (omega arith))
+returns c = let l = c .before in let a = c .before .before .before .before .args in sym (l .loop .inv .3 ∙ write-end (a .mark) (a .kind) (a .s)
+    (l .loop .left) (l .loop .q) _ (l .loop .bytes) (omega arith))
 
 pub write-run-spec : {M : Type 1} → statement M
 write-run-spec =
     tie.close
-    (tie.spec
-    Inv-loop
-    μ-loop
-    loop-holds
-    sub-write-item
-    part-write-item-start
-    part-write-item-end
-    add-write-item
-    mul-write-item
-    sub-write-item-2
-    part-write-item-start-2
-    part-write-item-end-2
-    write-item-requires
-    mul-q
-    add-q
-    add-q-2
-    add-w
-    sub-left
-    loop-less
-    loop-again
-    same-length
-    returns)
+    (tie.spec Inv-loop μ-loop (λ c. search needs) (λ c. search needs) (λ c. search needs) (λ c. search needs) (λ c. search needs) (λ c. search needs)
+    (λ c. search needs) (λ c. search needs) part-write-item-end-2 write-item-requires (λ c. search needs) (λ c. search needs) (λ c. search needs)
+    (λ c. search needs) (λ c. search needs) (λ c. search needs) loop-again (λ c. search needs) returns)

@@ -1,6 +1,4 @@
 use borrow.Author.Tests.{le-leb, lt-leb}
-use borrow.Author.Needs.{needs}
-use native.Mathlib.Omega.{arith}
 use Rattle.verdicts.proofs.between.Statement.{statement}
 use Rattle.verdicts.proofs.between.Tie as tie
 
@@ -11,4 +9,5 @@ returns-2 : tie.Need-returns-2
 returns-2 c = rw (lt-leb _ _ (c .if1 .left))
 
 pub between-spec : {M : Type 1} → statement M
-between-spec = tie.close (tie.spec returns returns-2)
+between-spec =
+    tie.close (tie.spec returns returns-2)

@@ -1,7 +1,6 @@
 use Rattle.verdicts.proofs.Rooms.{no-first, first-only, no-second, full-first, room-second}
 use Rattle.verdicts.proofs.Two.{not-one}
 use native.Mathlib.Omega.{arith}
-use borrow.Author.Needs.{needs}
 use Rattle.verdicts.proofs.out_refusal.Statement.{statement}
 use Rattle.verdicts.proofs.out_refusal.Tie as tie
 
@@ -18,7 +17,8 @@ returns-2 : tie.Need-returns-2
 returns-2 c =
     let k = c .before .before .before .before in
     let a = k .args in
-    first-only (a .form .layout) (a .form .runs) (a .first) (a .second) (a .n) (a .m) (k .pre .shape) (c .before .before .before .if1 .left) (c .before .if2 .taken) _
+    first-only (a .form .layout) (a .form .runs) (a .first) (a .second) (a .n) (a .m) (k .pre .shape) (c .before .before .before .if1 .left)
+    (c .before .if2 .taken) _
     (c .room-number .ensures)
 
 returns-3 : tie.Need-returns-3
@@ -36,7 +36,8 @@ returns-4 c =
     let k = c .before .before .before .before .before .before in
     let a = k .args in
     full-first (a .form .layout) (a .form .runs) (a .first) (a .second) (a .n) (a .m) (k .pre .shape) (c .before .before .before .before .before .if1 .left)
-    (not-one _ _ (k .pre .shape) (c .before .before .before .if2 .left) .0) (c .before .before .if3 .left) _ (c .before .room-number2 .ensures) (c .if4 .taken)
+    (not-one _ _ (k .pre .shape) (c .before .before .before .if2 .left) .0) (c .before .before .if3 .left) _ (c .before .room-number2 .ensures)
+    (c .if4 .taken)
 
 room-number-requires-3 : tie.Need-room-number-requires-3
 room-number-requires-3 c κs = (c .before .before .before .before .before .before .pre .first .two, omega arith)
@@ -45,18 +46,11 @@ returns-5 : tie.Need-returns-5
 returns-5 c =
     let k = c .before .before .before .before .before .before .before in
     let a = k .args in
-    room-second (a .form .layout) (a .form .runs) (a .first) (a .second) (a .n) (a .m) (k .pre .shape) (c .before .before .before .before .before .before .if1 .left)
-    (not-one _ _ (k .pre .shape) (c .before .before .before .before .if2 .left) .0) (c .before .before .before .if3 .left) _ (c .before .before .room-number2 .ensures) (c .before .if4 .left) _ (c .room-number3 .ensures)
+    room-second (a .form .layout) (a .form .runs) (a .first) (a .second) (a .n) (a .m) (k .pre .shape)
+    (c .before .before .before .before .before .before .if1 .left)
+    (not-one _ _ (k .pre .shape) (c .before .before .before .before .if2 .left) .0) (c .before .before .before .if3 .left) _
+    (c .before .before .room-number2 .ensures) (c .before .if4 .left) _ (c .room-number3 .ensures)
 
 pub out-refusal-spec : {M : Type 1} → statement M
 out-refusal-spec =
-    tie.close
-    (tie.spec
-    returns
-    room-number-requires
-    returns-2
-    returns-3
-    room-number-requires-2
-    returns-4
-    room-number-requires-3
-    returns-5)
+    tie.close (tie.spec returns room-number-requires returns-2 returns-3 room-number-requires-2 returns-4 room-number-requires-3 returns-5)

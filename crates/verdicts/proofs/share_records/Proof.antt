@@ -1,3 +1,4 @@
+-- Invariant: the two runs share a number exactly where what is left of them does. Measure: the ranges left of both.
 use Prim.Native.Nat.{_+_, _*_, _≤_}
 use mathlib.Core.Path.{refl}
 use lib.ListN.{length}
@@ -9,13 +10,19 @@ use Rattle.verdicts.proofs.share_records.Statement.{statement}
 use Rattle.verdicts.proofs.share_records.Tie as tie
 
 abbrev Inv-loop : tie.InvT-loop
-Inv-loop bytes first p n second q m i₀ left₀ j₀ others₀ i left j others = (i + 21 * left ≤ length bytes) × (j + 21 * others ≤ length bytes) × Left (in-bytes first bytes) (in-bytes second bytes) n p m q i left j others
+Inv-loop bytes first p n second q m i₀ left₀ j₀ others₀ i left j others = (i + 21 * left ≤ length bytes) × (j + 21 * others ≤ length bytes) × Left
+    (in-bytes first bytes) (in-bytes second bytes) n p m q i left j others
 
 abbrev μ-loop : tie.MeasureT-loop
 μ-loop bytes first p n second q m i₀ left₀ j₀ others₀ i left j others = left + others
 
 loop-holds : tie.Need-loop-holds Inv-loop μ-loop
-loop-holds c = let a = c .before .args in let s = c .before .pre in (s .held, s .held-too, all-left (in-bytes (a .first) (a .bytes .now)) (in-bytes (a .second) (a .bytes .now)) (a .n) (a .p) (a .m) (a .q) (a .n) (a .m) refl refl (s .sound) (s .sound-too))
+loop-holds c = let a = c .before .args in let s = c .before .pre in (
+  s .held,
+  s .held-too,
+  all-left (in-bytes (a .first) (a .bytes .now)) (in-bytes
+      (a .second) (a .bytes .now)) (a .n) (a .p) (a .m) (a .q) (a .n) (a .m) refl refl (s .sound) (s .sound-too),
+)
 
 returns : tie.Need-returns Inv-loop μ-loop
 returns c = let a = c .before .before .before .before .args in
@@ -23,68 +30,39 @@ returns c = let a = c .before .before .before .before .args in
     let v = in-bytes (a .second) (a .bytes .now) in
     no-others u v (c .before .before .loop .inv .2) (c .if1 .taken)
 
-add-get8 : tie.Need-add-get8 Inv-loop μ-loop
-add-get8 c = search needs
-
-get8-requires : tie.Need-get8-requires Inv-loop μ-loop
-get8-requires c κs = search needs
-
-add-get8-2 : tie.Need-add-get8-2 Inv-loop μ-loop
-add-get8-2 c = search needs
-
-get8-requires-2 : tie.Need-get8-requires-2 Inv-loop μ-loop
-get8-requires-2 c κs = search needs
-
-add-i : tie.Need-add-i Inv-loop μ-loop
-add-i c = search needs
-
-sub-left : tie.Need-sub-left Inv-loop μ-loop
-sub-left c = search needs
-
-loop-less : tie.Need-loop-less Inv-loop μ-loop
-loop-less c = search needs
-
 loop-again : tie.Need-loop-again Inv-loop μ-loop
 loop-again c = let a = c .before .before .before .before .before .before .before .args in
     let u = in-bytes (a .first) (a .bytes .now) in
-    let v = in-bytes (a .second) (a .bytes .now) in
-   
-    (omega arith, search needs, go-left u v (c .before .before .before .before .before .loop .inv .2) (omega arith) (omega arith) _ _ (c .before .before .get8 .ensures) (c .before .get82 .ensures) (c .if2 .taken))
-
-add-get8-3 : tie.Need-add-get8-3 Inv-loop μ-loop
-add-get8-3 c = search needs
-
-get8-requires-3 : tie.Need-get8-requires-3 Inv-loop μ-loop
-get8-requires-3 c κs = search needs
-
-add-get8-4 : tie.Need-add-get8-4 Inv-loop μ-loop
-add-get8-4 c = search needs
-
-get8-requires-4 : tie.Need-get8-requires-4 Inv-loop μ-loop
-get8-requires-4 c κs = search needs
-
-add-j : tie.Need-add-j Inv-loop μ-loop
-add-j c = search needs
-
-sub-others : tie.Need-sub-others Inv-loop μ-loop
-sub-others c = search needs
-
-loop-less-2 : tie.Need-loop-less-2 Inv-loop μ-loop
-loop-less-2 c = search needs
+    let v = in-bytes (a .second) (a .bytes .now) in (
+      omega arith,
+      search needs,
+      go-left u v (c .before .before .before .before .before .loop .inv .2) (omega arith) (omega arith) _ _
+          (c .before .before .get8 .ensures) (c .before .get82 .ensures) (c .if2 .taken),
+    )
 
 loop-again-2 : tie.Need-loop-again-2 Inv-loop μ-loop
-loop-again-2 c = let a = c .before .before .before .before .before .before .before .before .before .before .args in
+loop-again-2 c =
+    let c8 = c .before .before .before .before .before .before .before .before in
+    let c10 = c8 .before .before in
+    let a = c10 .args in
     let u = in-bytes (a .first) (a .bytes .now) in
-    let v = in-bytes (a .second) (a .bytes .now) in
-   
-    (search needs, omega arith, go-right u v (c .before .before .before .before .before .before .before .before .loop .inv .2) (omega arith) (omega arith) _ _ (c .before .before .get83 .ensures) (c .before .get84 .ensures) (c .if3 .taken))
+    let v = in-bytes (a .second) (a .bytes .now) in (
+      search needs,
+      omega arith,
+      go-right u v (c8 .loop .inv .2) (omega arith) (omega arith) _ _ (c .before .before .get83 .ensures)
+          (c .before .get84 .ensures) (c .if3 .taken),
+    )
 
 returns-2 : tie.Need-returns-2 Inv-loop μ-loop
-returns-2 c = let a = c .before .before .before .before .before .before .before .before .before .before .args in
+returns-2 c =
+    let c8 = c .before .before .before .before .before .before .before .before in
+    let c10 = c8 .before .before in
+    let a = c10 .args in
     let u = in-bytes (a .first) (a .bytes .now) in
     let v = in-bytes (a .second) (a .bytes .now) in
-   
-    found u v (c .before .before .before .before .before .before .before .before .loop .inv .2) (omega arith) (omega arith) _ _ _ _ (c .before .before .before .before .before .get8 .ensures) (c .before .before .before .before .get82 .ensures) (c .before .before .get83 .ensures) (c .before .get84 .ensures) (c .before .before .before .if2 .left) (c .if3 .left)
+    found u v (c8 .loop .inv .2) (omega arith) (omega arith) _ _ _ _ (c .before .before .before .before .before .get8 .ensures)
+    (c .before .before .before .before .get82 .ensures) (c .before .before .get83 .ensures) (c .before .get84 .ensures)
+    (c .before .before .before .if2 .left) (c .if3 .left)
 
 returns-3 : tie.Need-returns-3 Inv-loop μ-loop
 returns-3 c = let a = c .before .before .before .args in
@@ -95,26 +73,6 @@ returns-3 c = let a = c .before .before .before .args in
 pub share-records-spec : {M : Type 1} → statement M
 share-records-spec =
     tie.close
-    (tie.spec
-    Inv-loop
-    μ-loop
-    loop-holds
-    returns
-    add-get8
-    get8-requires
-    add-get8-2
-    get8-requires-2
-    add-i
-    sub-left
-    loop-less
-    loop-again
-    add-get8-3
-    get8-requires-3
-    add-get8-4
-    get8-requires-4
-    add-j
-    sub-others
-    loop-less-2
-    loop-again-2
-    returns-2
-    returns-3)
+    (tie.spec Inv-loop μ-loop loop-holds returns (λ c. search needs) (λ c κs. search needs) (λ c. search needs) (λ c κs. search needs)
+    (λ c. search needs) (λ c. search needs) (λ c. search needs) loop-again (λ c. search needs) (λ c κs. search needs) (λ c. search needs)
+    (λ c κs. search needs) (λ c. search needs) (λ c. search needs) (λ c. search needs) loop-again-2 returns-2 returns-3)
