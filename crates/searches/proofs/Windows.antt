@@ -121,7 +121,10 @@ find ws s off (suc n) x = go (find ws s off n x) (decLt (getD ws (s * n + off) 0
         split (yes p) d =
             record { index = f .index; first = record { within = omega arith; before = f .first .before; from = λ h. f .first .from p } }
         split (no p) (yes q) =
-            record { index = suc n; first = record { within = omega arith; before = λ k h. last k h (decLt k n) (omega arith) q; from = λ h. absurd (omega arith) } }
+            record {
+              index = suc n;
+              first = record { within = omega arith; before = λ k h. last k h (decLt k n) (omega arith) q; from = λ h. absurd (omega arith) };
+            }
         split (no p) (no q) =
             record { index = n; first = record { within = omega arith; before = λ k h. f .first .before k (omega arith); from = λ h. omega arith } }
 
