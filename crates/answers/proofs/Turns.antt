@@ -41,7 +41,7 @@ in-turn : (fs gs : List Finding) (lent : List (List ℕ)) (x : Outcome) → inTu
 in-turn [] gs lent x = refl
 in-turn (f ∷ fs) gs lent x = ap (judged (f .number) (f .place) lent) (in-turn fs gs lent x)
 
-clear-both : (fs gs : List Finding) → Clear fs → Clear gs → Clear (fs ++ gs)
+pub clear-both : (fs gs : List Finding) → Clear fs → Clear gs → Clear (fs ++ gs)
 clear-both [] gs c d = d
 clear-both (f ∷ fs) gs c d = (c .0, clear-both fs gs (c .1) d)
 

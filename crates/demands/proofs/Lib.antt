@@ -11,4 +11,5 @@ pub mod Fits
 pub mod Stored
 pub mod Bulletins
 pub mod Bytes
+pub mod Forms
 pub mod Table

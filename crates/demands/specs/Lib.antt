@@ -3,3 +3,4 @@ pub mod Questions
 pub mod Changes
 pub mod Fits
 pub mod Stored
+pub mod Bytes

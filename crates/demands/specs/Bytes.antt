@@ -1,0 +1,76 @@
+-- BYTES: reading accepts exactly the byte forms, writing gives back the bytes read; the C host's question is reading and then membership.
+use mathlib.Core.Path.{_≡_}
+use mathlib.Core.Bool.{true}
+use mathlib.Core.List.{List, [], _∷_}
+use Prim.Native.Nat.{ℕ, _+_, _*_, _≤_, _<_}
+use lib.ListN.{length, getD, take, drop}
+use Rattle.entries.specs.Entries.{Entry}
+use Rattle.entries.specs.Build.{pick}
+use Rattle.answers.specs.Answers.{given, refused, outcome, refuse, Keeps}
+use Rattle.answers.specs.Steps.{Clear}
+use Rattle.blocks.specs.Blocks.{setLayout, mapLayout, entriesOf}
+use Rattle.numbers.specs.Numbers.{Bytes, patch}
+use Rattle.runs.specs.Runs.{lengths}
+use Rattle.verdicts.specs.declared.Form.{Form}
+use Rattle.verdicts.specs.Forms.{ofSet, ofMap, ofBulletin, formOf, formRefusals, outRefusals}
+use Rattle.verdicts.proofs.Whole.{Formed}
+use Rattle.forms.specs.Calls.{storedIn, heldIn, readCall, readSetCall, writeCall, writeSetCall, writeMapCall, writeBulletinCall, memberOfFormCall}
+use Rattle.demands.specs.Plain.{Iff, In, leaves}
+
+-- the form of a set, of a map, of a bulletin
+pub data OfThree : Form → Type 0 where
+  of-set : OfThree ofSet
+  of-map : OfThree ofMap
+  of-bulletin : OfThree ofBulletin
+
+-- what accepted reading has read: the bytes are the form of these runs (`Formed`: as many as the form has, each sound, within the limit, of
+-- 64-bit words, a bulletin's two without a common number), every output has words and room, and each is left with the stored form of its run
+pub record Read (f : Form) (b : List ℕ) (outs ws : List (List ℕ)) : Type 0 where
+  pub runs : List (List Entry)
+  pub form : Formed f b runs
+  pub room : Clear (outRefusals (f .layout) (lengths outs) (lengths runs))
+  pub left : ws ≡ storedIn outs runs
+
+-- [D4, Y2, Y3, Y4, Y5, Y6, Y7, Y8, Y9, Y12, Y13, Y15] READING is accepted exactly if the bytes are a byte form and the outputs have room
+abbrev pub ReadExactly : Type 0
+ReadExactly = {f : Form} → OfThree f → (b : List ℕ) → Bytes b → (outs ws : List (List ℕ)) → Iff (readCall f b outs ≡ outcome (given []) ws) (Read f b outs ws)
+
+-- [Y14, D9] and a form is told by all its bytes: bytes that are refused nowhere are the form of what was read, from the first record to
+-- the last
+abbrev pub WholeForm : Type 0
+WholeForm = {f : Form} → OfThree f → (b : List ℕ) → Bytes b → (outs ws : List (List ℕ)) → readCall f b outs ≡ outcome (given []) ws
+    → (r : Read f b outs ws) → b ≡ formOf f (r .runs)
+
+-- [D4, Y1] writing into enough bytes gives back the bytes read
+abbrev pub ReadWritten : Type 0
+ReadWritten = {f : Form} → OfThree f → (b : List ℕ) (outs ws : List (List ℕ)) (bytes : List ℕ) (p : ℕ) → Bytes b → length outs ≡ f .runs
+    → readCall f b outs ≡ outcome (given []) ws → p + length b ≤ length bytes
+    → writeCall f ws bytes p ≡ outcome (given (length b ∷ [])) (patch p b bytes ∷ [])
+
+-- [D4, Y11] and reading what was written gives the same entries
+abbrev pub WrittenRead : Type 0
+WrittenRead = {f : Form} → OfThree f → (ws : List (List ℕ)) (bytes bytes′ : List ℕ) (outs : List (List ℕ)) (p n : ℕ) → length ws ≡ f .runs
+    → writeCall f ws bytes p ≡ outcome (given (n ∷ [])) (bytes′ ∷ []) → Clear (outRefusals (f .layout) (lengths outs) (lengths (heldIn (f .layout) ws)))
+    → readCall f (take n (drop p bytes′)) outs ≡ outcome (given []) (storedIn outs (heldIn (f .layout) ws))
+
+-- [Y10, Y16] the length that writing answers is 7+21n, 7+29n, 9+21(r+w) of word 0 of the blocks; every byte but those of the form stays
+abbrev pub WriteSizes : Type 0
+WriteSizes = (p n : ℕ) (bytes bytes′ : List ℕ)
+    → ((w : List ℕ) → writeSetCall w bytes p ≡ outcome (given (n ∷ [])) (bytes′ ∷ []) → (n ≡ 7 + 21 * getD w 0 0)
+    × (bytes′ ≡ patch p (formOf ofSet (entriesOf (setLayout .width) w ∷ [])) bytes))
+    × ((w : List ℕ) → writeMapCall w bytes p ≡ outcome (given (n ∷ [])) (bytes′ ∷ []) → (n ≡ 7 + 29 * getD w 0 0)
+    × (bytes′ ≡ patch p (formOf ofMap (entriesOf (mapLayout .width) w ∷ [])) bytes))
+    × ((r w : List ℕ) → writeBulletinCall r w bytes p ≡ outcome (given (n ∷ [])) (bytes′ ∷ []) → (n ≡ 9 + 21 * (getD r 0 0 + getD w 0 0))
+    × (bytes′ ≡ patch p (formOf ofBulletin (entriesOf (setLayout .width) r ∷ entriesOf (setLayout .width) w ∷ [])) bytes))
+
+-- [R0] refused, no word and no byte is changed
+abbrev pub BytesKeep : Type 0
+BytesKeep = ((f : Form) (b : List ℕ) (outs : List (List ℕ)) → Keeps outs (readCall f b outs))
+    × ((f : Form) (ws : List (List ℕ)) (bytes : List ℕ) (p : ℕ) → Keeps (bytes ∷ []) (writeCall f ws bytes p))
+
+-- [H1, H2] THE C HOST'S QUESTION: where reading the same bytes is accepted, 1 or 0 as the set that it leaves has the number; where reading
+-- refuses the bytes, 16 plus that refusal's number
+abbrev pub HostQuestion : Type 0
+HostQuestion = (b : List ℕ) (x : ℕ) → Bytes b
+    → ((out w : List ℕ) → readSetCall b out ≡ leaves w → memberOfFormCall b x ≡ pick (In w x) 1 0)
+    × ((n p : ℕ) → readCall ofSet b [] ≡ refuse n p [] → memberOfFormCall b x ≡ 16 + n)
