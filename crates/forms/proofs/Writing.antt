@@ -10,7 +10,7 @@ use lib.ListN.{length, getD, take, drop, length-drop, length-append}
 use borrow.Rule.Slice.PartMut.{putMid}
 use Rattle.entries.specs.Entries.{Entry}
 use Rattle.entries.specs.Bulletins.{shareb}
-use Rattle.answers.specs.Answers.{Answer, given, refused, outcome, at, applies, lastNumber}
+use Rattle.answers.specs.Answers.{given, outcome, at, applies}
 use Rattle.answers.specs.Steps.{Clear, FirstOf}
 use Rattle.answers.specs.Says.{writtenSays, refusalOf}
 use Rattle.answers.specs.declared.Finding.{Finding}
