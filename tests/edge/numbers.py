@@ -43,8 +43,8 @@ def sizes_due():
     """Each number that numbers.c writes, from the definitions and laws."""
     blocks, records = text_of("crates/blocks/specs/*.antt"), text_of("crates/records/specs/*.antt")
     laws = text_of("crates/demands/proofs/*.antt")
-    (ranges,), (entries,) = only(r"^setLimit = (\d+)$", blocks), only(r"^mapLimit = (\d+)$", blocks)
-    if "\ncapacity s limit L = min ((L - 1) / s) limit\n" not in blocks:
+    (range_words, ranges), (entry_words, entries) = only(r"^setLayout = layout (\d+) (\d+)$", blocks), only(r"^mapLayout = layout (\d+) (\d+)$", blocks)
+    if "\ncapacity l L = min ((L - 1) / l .width) (l .limit)\n" not in blocks:
         sys.exit("numbers.py: capacity is no longer defined as the header says")
     body = {int(kind, 16): int(size) for kind, size in re.findall(r"\(eqb kind (0x\w\w)\) \(some (\d+)\)", records)}
     record = {kind: 5 + size for kind, size in body.items()}  # the mark, the kind and the check are five bytes
@@ -56,10 +56,10 @@ def sizes_due():
     return {
         "MOST_RANGES": ranges,
         "MOST_ENTRIES": entries,
-        "SET_WORDS(1000)": 1 + 2 * 1000,
-        "MAP_WORDS(1000)": 1 + 3 * 1000,
-        "SET_CAPACITY(100)": min((100 - 1) // 2, ranges),
-        "MAP_CAPACITY(100)": min((100 - 1) // 3, entries),
+        "SET_WORDS(1000)": 1 + range_words * 1000,
+        "MAP_WORDS(1000)": 1 + entry_words * 1000,
+        "SET_CAPACITY(100)": min((100 - 1) // range_words, ranges),
+        "MAP_CAPACITY(100)": min((100 - 1) // entry_words, entries),
         "SET_CAPACITY(100000)": ranges,
         "MAP_CAPACITY(100000)": entries,
         "SET_START_BYTES": record[0x01],

@@ -107,11 +107,12 @@ pub accepted-as : (place : ℕ) (x : Judged) (after due : List (List ℕ)) → x
     → outcome (judgedSays x) after ≡ outcome (given []) due
 accepted-as place x after due e q = ap₂ (λ (y : Judged) (l : List (List ℕ)). outcome (judgedSays y) l) e q
 
--- REFUSED: nothing lent is changed
+-- [R0, D1] refused: nothing lent is changed, by one verdict,
 pub judged-keeps : (v p : ℕ) (lent : List (List ℕ)) (o : Outcome) → Keeps lent o → Keeps lent (judged v p lent o)
 judged-keeps zero p lent o k = k
 judged-keeps (suc v) p lent o k = refl
 
+-- [R0, D1] and by all in turn
 pub turn-keeps : (fs : List Finding) (lent : List (List ℕ)) (o : Outcome) → Keeps lent o → Keeps lent (inTurn fs lent o)
 turn-keeps [] lent o k = k
 turn-keeps (f ∷ fs) lent o k = judged-keeps (f .number) (f .place) lent (inTurn fs lent o) (turn-keeps fs lent o k)
@@ -125,7 +126,7 @@ pub turn-small : (fs : List Finding) (lent : List (List ℕ)) (o : Outcome) → 
 turn-small [] lent o a s = s
 turn-small (f ∷ fs) lent o a s = judged-small (f .number) (f .place) lent (inTurn fs lent o) (a .0) (turn-small fs lent o (a .1) s)
 
--- ACCEPTED: no refusal applies, and then it is
+-- accepted: no refusal applies, and then it is
 pub refused≢given : {n p : ℕ} {l k : List (List ℕ)} {xs : List ℕ} → outcome (refused n p) l ≡ outcome (given xs) k → ⊥
 refused≢given e = let z : _≡_ {A = ℕ} 0 1 = cc in omega arith
 
@@ -160,8 +161,8 @@ pub applies-small : (t : Bool) (n : ℕ) → n ≤ lastNumber → applies t n �
 applies-small true n l = l
 applies-small false n l = omega arith
 
--- REFUSED EXACTLY WHEN: a call that is given where no refusal applies is refused with the number and the place of finding i where
--- that is the first that applies,
+-- [R16, R17, D1] refused exactly when: a call that is given where no refusal applies is refused with the number and the place of finding i
+-- where that is the first that applies,
 pub refused-at : (fs : List Finding) (lent : List (List ℕ)) (x : Outcome) (i : ℕ) → Applies fs i
     → inTurn fs lent x ≡ outcome (refused (numberAt fs i) (placeAt fs i)) lent
 refused-at [] lent x i a = absurd (a .here refl)
@@ -173,7 +174,7 @@ refused-at (f ∷ fs) lent x zero a = go (f .number) (a .here)
 refused-at (f ∷ fs) lent x (suc i) a =
     rw (a .before 0 (omega arith)) (refused-at fs lent x i (record { before = λ k h. a .before (suc k) (omega arith); here = a .here }))
 
--- and is refused with no other: the refusal is that of the first that applies
+-- [R17, D1] and is refused with no other: the refusal is that of the first that applies
 pub refused-named : (fs : List Finding) (lent : List (List ℕ)) (xs : List ℕ) (after : List (List ℕ)) (n p : ℕ) (left : List (List ℕ))
     → inTurn fs lent (outcome (given xs) after) ≡ outcome (refused n p) left → Named fs n p
 refused-named [] lent xs after n p left e = absurd (refused≢given (sym e))
@@ -215,6 +216,7 @@ pub turn-bare : (fs : List Finding) (lent : List (List ℕ)) (o : Outcome) → b
 turn-bare [] lent o = refl
 turn-bare (f ∷ fs) lent o = go (f .number) (turn-bare fs lent o)
   where
-    go : (v : ℕ) → bare (inTurn fs lent o) ≡ inTurn fs lent (bare o) → bare (judged v (f .place) lent (inTurn fs lent o)) ≡ judged v (f .place) lent (inTurn fs lent (bare o))
+    go : (v : ℕ) → bare (inTurn fs lent o) ≡ inTurn fs lent (bare o) → bare (judged v (f .place) lent (inTurn fs lent o))
+        ≡ judged v (f .place) lent (inTurn fs lent (bare o))
     go zero e = e
     go (suc v) e = refl

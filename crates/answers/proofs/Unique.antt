@@ -24,7 +24,8 @@ use Rattle.answers.specs.declared.Placed.the-variants as placed
 use Rattle.answers.specs.declared.Written.{Written}
 use Rattle.answers.specs.declared.Written.the-variants as written
 use Rattle.answers.specs.Answers.{Answer, given, refused, Outcome, outcome}
-use Rattle.answers.specs.Says.{numberOf, refusalOf, judgedSays, truthSays, foundSays, rangedSays, sizedSays, partedSays, decidedSays, placedSays, writtenSays}
+use Rattle.answers.specs.Says.{numberOf, refusalOf, judgedSays, truthSays, foundSays, rangedSays, sizedSays, partedSays, decidedSays}
+use Rattle.answers.specs.Says.{placedSays, writtenSays}
 use Rattle.answers.proofs.Numbers.{number-reason}
 
 abbrev answerOf : Outcome → Answer
@@ -33,7 +34,7 @@ answerOf (outcome a lent) = a
 abbrev lentOf : Outcome → List (List ℕ)
 lentOf (outcome a lent) = lent
 
--- for any kind of answer whose cases can be told apart by what they say
+-- [D8] for any kind of answer whose cases can be told apart by what they say
 pub only : {A : Type 0} (says : A → Answer) (back : Answer → A) → ((r : A) → back (says r) ≡ r) → (due : Outcome) (r s : A) (k l : List (List ℕ))
     → outcome (says r) k ≡ due → outcome (says s) l ≡ due → (r ≡ s) × (k ≡ l)
 only says back undo due r s k l p q =

@@ -1,4 +1,4 @@
--- Answers in the paper's numbers, and outcomes: what a call answers and what it leaves in everything lent to it.
+-- Answers in the numbers of the table of refusals, and outcomes: what a call answers and what it leaves in everything lent to it.
 use mathlib.Core.Path.{_≡_}
 use mathlib.Core.Bool.{Bool, true, false}
 use mathlib.Core.Option.{Option, none, some}
@@ -8,11 +8,11 @@ use lib.Dec.{eqb}
 use Rattle.entries.specs.Build.{pick}
 use Rattle.answers.specs.declared.Finding.{Finding}
 
--- the highest number of the table of refusals: «15 NoSpace»
+-- the highest number of the table of refusals, that of NoSpace
 abbrev pub lastNumber : ℕ
 lastNumber = 15
 
--- given, with the values that the question asks for; or refused: «A refusal returns its number and a place.»
+-- [R0] given, with the values that the question asks for; or refused, with a number and a place
 pub data Answer : Type 0 where
   given : List ℕ → Answer
   refused : ℕ → ℕ → Answer
@@ -21,7 +21,7 @@ pub data Answer : Type 0 where
 pub data Outcome : Type 0 where
   outcome : Answer → List (List ℕ) → Outcome
 
--- refused with a number and a place: «It changes nothing lent to the call, even where a call has two blocks to write.»
+-- [R0] refused with a number and a place: everything lent is as it was, even where a call has two blocks to write
 abbrev pub refuse : ℕ → ℕ → List (List ℕ) → Outcome
 refuse number place lent = outcome (refused number place) lent
 
@@ -34,7 +34,7 @@ judged (suc v) position lent x = refuse (suc v) position lent
 abbrev pub at : ℕ → ℕ → Finding
 at place number = record { number = number; place = place }
 
--- «If several apply, the first in this order is given»: the refusals that may apply, in their order, and what follows if none does
+-- [R17] the refusals that may apply, in their order, of which the first is given; and what follows if none does
 abbrev pub inTurn : List Finding → List (List ℕ) → Outcome → Outcome
 inTurn [] lent x = x
 inTurn (f ∷ fs) lent x = judged (f .number) (f .place) lent (inTurn fs lent x)
@@ -54,7 +54,7 @@ abbrev pub optional : Option ℕ → Answer
 optional (some n) = given (n ∷ [])
 optional none = given []
 
--- «empty, or the size less one»
+-- [S3] empty, or the size less one
 abbrev pub lessOne : ℕ → Answer
 lessOne n = pick (eqb n 0) (given []) (given ((n - 1) ∷ []))
 
@@ -62,12 +62,12 @@ lessOne n = pick (eqb n 0) (given []) (given ((n - 1) ∷ []))
 abbrev pub applies : Bool → ℕ → ℕ
 applies t number = pick t number 0
 
--- what is handed back where a call is accepted, and what where it is refused
+-- [R20] what is handed back where a call is accepted, and what where it is refused
 abbrev pub handed : {A : Type 0} → Outcome → A → A → A
 handed (outcome (given xs) lent) part empty = part
 handed (outcome (refused n p) lent) part empty = empty
 
--- «It changes nothing lent to the call»: a refused outcome leaves what was lent
+-- [R0] a refused outcome leaves what was lent
 abbrev pub Keeps : List (List ℕ) → Outcome → Type 0
 Keeps lent (outcome (given xs) after) = Unit {0}
 Keeps lent (outcome (refused n p) after) = after ≡ lent

@@ -1,4 +1,4 @@
--- The paper's number and values for each case of an answer.
+-- The table's number, and the values, for each case of an answer.
 use mathlib.Core.List.{[], _∷_}
 use Prim.Native.Nat.{ℕ, zero, suc}
 use lib.Dec.{eqb}
@@ -27,7 +27,8 @@ use Rattle.answers.specs.declared.Written.{Written}
 use Rattle.answers.specs.declared.Written.the-variants as written
 use Rattle.answers.specs.Answers.{Answer, given, refused}
 
--- «no. | name»
+-- [R1, R2, R3, R4, R5, R6, R7, R8, R9, R10, R11, R12, R13, R14, R15]
+-- [G7] the table's number of each reason
 abbrev pub numberOf : Reason → ℕ
 numberOf NoBlock = 1
 numberOf Count = 2
@@ -45,52 +46,57 @@ numberOf Trailing = 13
 numberOf Overlap = 14
 numberOf NoSpace = 15
 
+-- [R0, G7] a refusal: its number and its place
 abbrev pub refusalSays : Refusal → Answer
 refusalSays f = refused (numberOf (f .reason)) (f .place)
 
+-- [G7] accepted, with no value; or refused
 abbrev pub judgedSays : Judged → Answer
 judgedSays judged.Accepted = given []
 judgedSays (judged.Refused f) = refusalSays f
 
+-- [G7] yes is 1, no is 0
 abbrev pub truthSays : Truth → Answer
 truthSays truth.Yes = given (1 ∷ [])
 truthSays truth.No = given (0 ∷ [])
 truthSays (truth.Refused f) = refusalSays f
 
+-- [G7] the number, or no value
 abbrev pub foundSays : Found → Answer
 foundSays (found.Number n) = given (n ∷ [])
 foundSays found.Nothing = given []
 foundSays (found.Refused f) = refusalSays f
 
+-- [G7] low and high, or no value
 abbrev pub rangedSays : Ranged → Answer
 rangedSays (ranged.Range low high) = given (low ∷ high ∷ [])
 rangedSays ranged.Nothing = given []
 rangedSays (ranged.Refused f) = refusalSays f
 
--- «Size: empty, or the size less one»
+-- [S3, G7] no value of the empty set, else the size less one
 abbrev pub sizedSays : Sized → Answer
 sizedSays sized.Empty = given []
 sizedSays (sized.LessOne n) = given (n ∷ [])
 sizedSays (sized.Refused f) = refusalSays f
 
--- a part of a block: its place and its length
+-- [G7] a part of a block: its place and its length; no value where there is none
 abbrev pub partedSays : Parted → Answer
 partedSays (parted.Part place words) = given (place ∷ words ∷ [])
 partedSays parted.Nothing = given []
 partedSays (parted.Refused f) = refusalSays f
 
--- the deciding entry: its place and its length, and the position of its block
+-- [G7] the deciding entry: its place and its length, and the position of its block; no value where there is none
 abbrev pub decidedSays : Decided → Answer
 decidedSays (decided.Entry place words position) = given (place ∷ words ∷ position ∷ [])
 decidedSays decided.Nothing = given []
 decidedSays (decided.Refused f) = refusalSays f
 
--- the place s of a fit: «a reservation, which inserts s to s+k-1 and returns s»
+-- [F4, G7] the place s of a fit, which a reservation returns too
 abbrev pub placedSays : Placed → Answer
 placedSays (placed.At s) = given (s ∷ [])
 placedSays (placed.Refused f) = refusalSays f
 
--- «its length is returned»
+-- [G7] the length of the form that was written
 abbrev pub writtenSays : Written → Answer
 writtenSays (written.Length n) = given (n ∷ [])
 writtenSays (written.Refused f) = refusalSays f
@@ -114,9 +120,11 @@ reasonOf number =
     (pick (eqb number 14) Overlap
     NoSpace)))))))))))))
 
+-- the refusal of a number at a place
 abbrev pub refusalOf : ℕ → ℕ → Refusal
 refusalOf number place = record { reason = reasonOf number; place = place }
 
+-- accepted for 0, else the refusal of that number
 abbrev pub judgedOf : ℕ → ℕ → Judged
 judgedOf zero place = judged.Accepted
 judgedOf (suc v) place = judged.Refused (refusalOf (suc v) place)

@@ -2,7 +2,7 @@
 ghost use mathlib.Core.Path.{_≡_};
 ghost use Rattle.answers.specs.Says.{numberOf, refusalOf, judgedOf};
 
-// Why a call was refused. The paper's number of each is `numberOf` in specs/Says.
+// Why a call was refused. The table's number of each is `numberOf` in specs/Says.
 pub enum Reason {
     NoBlock,
     Count,
@@ -94,7 +94,7 @@ pub enum Written {
     Refused(Refusal),
 }
 
-// The refusal with a number of the table, 1 to 15. A number that is not in the table gives the table's last refusal, NoSpace.
+// [G7] The refusal with a number of the table, 1 to 15. A number that is not in the table gives the table's last refusal, NoSpace.
 pub fn refusal_of(number: u8, place: usize) -> Refusal
     ensures { λ r. ⌜ r ≡ refusalOf number place ⌝ }
 {
@@ -118,7 +118,7 @@ pub fn refusal_of(number: u8, place: usize) -> Refusal
     Refusal { reason, place }
 }
 
-// Accepted for 0, else the refusal with that number, as `refusal_of` gives it.
+// [G7] Accepted for 0, else the refusal with that number, as `refusal_of` gives it.
 pub fn judged_of(number: u8, place: usize) -> Judged
     ensures { λ r. ⌜ r ≡ judgedOf number place ⌝ }
 {
@@ -128,7 +128,7 @@ pub fn judged_of(number: u8, place: usize) -> Judged
     Judged::Refused(refusal_of(number, place))
 }
 
-// The paper's number of a reason.
+// [G7] The table's number of a reason.
 pub fn number_of(reason: Reason) -> u8
     ensures { λ r. ⌜ r ≡ numberOf reason ⌝ }
 {

@@ -23,7 +23,7 @@ plain-shaped [] f = tt
 plain-shaped (e ∷ es) f = (ap (λ (v : List ℕ). 2 + length v) (f .0), plain-shaped es (f .1))
 
 module _ (s : ℕ) (two : 2 ≤ s) (L : ℕ) (es : List Entry) (h : Shaped s es) where
-  -- the entries of a stored block are those that were stored
+  -- [B1, B2, B7] the entries of a stored block are those that were stored
   pub entries-stored : entriesOf s (blockOf L es) ≡ es
   unfolding blockOf
   entries-stored = read-back s two es (replicate (L - (1 + length (wordsOf es))) 0) h
@@ -41,7 +41,7 @@ module _ (s : ℕ) (two : 2 ≤ s) (L : ℕ) (es : List Entry) (h : Shaped s es)
   unfolding blockOf
   head-stored = refl
 
--- and it is a sound block, if they are sound and within the capacity
+-- [B4, B5, S13] and it is a sound block, if they are sound and within the capacity
 pub sound-stored : (l : Layout) → 2 ≤ l .width → (L : ℕ) (es : List Entry) → Shaped (l .width) es → 0 < L → length es ≤ capacity l L → Sound es
     → verdict l (blockOf L es) ≡ 0
 sound-stored l two L es h p q t =
@@ -52,11 +52,11 @@ sound-stored l two L es h p q t =
       sound = rw (entries-stored (l .width) two L es h) t;
     })
 
--- every word after the stored form is 0
+-- [B8] every word after the stored form is 0
 abbrev pub Zeros : ℕ → List ℕ → Type 0
 Zeros s w = (j : ℕ) → 1 + s * getD w 0 0 ≤ j → getD w j 0 ≡ 0
 
--- a sound block with zeros after it is the block of its entries
+-- [B8, D3] a sound block with zeros after it is the block of its entries
 pub block-is : (l : Layout) (w : List ℕ) → 2 ≤ l .width → SoundBlock l w → Zeros (l .width) w → w ≡ blockOf (length w) (entriesOf (l .width) w)
 block-is l w two b z =
     drop-cons w 0 0 (b .some)

@@ -37,6 +37,7 @@ true-after p q h = rw (lt-ltb (p .high) (q .low) (h .0)) (go (eqb (q .low) (suc 
     go true e false f = refl
     go true e true f = absurd (h .1 (eqb-true (q .low) (suc (p .high)) e) (words-true (p .value) (q .value) f))
 
+-- [B4, B5] the test of soundness holds exactly of sound lists
 pub sound-true : (es : List Entry) → soundb es ≡ true → Sound es
 sound-true [] h = tt
 sound-true (e ∷ es) h =
@@ -58,6 +59,7 @@ true-sound (e ∷ es) s = rw (le-leb (e .low) (e .high) (s .0), link es (s .1)) 
 
 -- verdict 0 exactly of sound blocks
 module _ (l : Layout) (w : List ℕ) where
+  -- [R1, R2, R3]
   pub verdict-sound : verdict l w ≡ 0 → SoundBlock l w
   unfolding verdict
   verdict-sound v = go (eqb (length w) 0) refl (ltb (capacity l (length w)) (getD w 0 0)) refl (soundb (entriesOf (l .width) w)) refl v
@@ -74,6 +76,7 @@ module _ (l : Layout) (w : List ℕ) where
             sound = sound-true (entriesOf (l .width) w) g;
           }
 
+  -- [R1, R2, R3]
   pub sound-verdict : SoundBlock l w → verdict l w ≡ 0
   unfolding verdict
   sound-verdict b =
@@ -97,7 +100,7 @@ module _ (l : Layout) (w : List ℕ) where
   pub verdict-small : verdict l w ≤ lastNumber
   verdict-small = omega (arith, verdict-most)
 
--- a count within the capacity has its words
+-- [B3] a count within the capacity has its words
 pub room-words : (l : Layout) (L n : ℕ) → 0 < L → n ≤ capacity l L → 1 + l .width * n ≤ L
 room-words l L n p h =
     let k : n ≤ (L - 1) / l .width = omega arith in

@@ -13,66 +13,74 @@ use Rattle.blocks.specs.declared.Layout.{Layout}
 abbrev pub layout : ℕ → ℕ → Layout
 layout s limit = record { width = s; limit = limit }
 
--- the layouts of 01's two kinds of blocks: two words a range of a set, three an entry of a map
+-- [B2, B3] a set: two words a range, at most 4,095 of them
 abbrev pub setLayout : Layout
 setLayout = layout 2 4095
 
+-- [B2, B3] a map: three words an entry, at most 2,730 of them
 abbrev pub mapLayout : Layout
 mapLayout = layout 3 2730
 
--- the limits alone
+-- the limit of a set alone
 abbrev pub setLimit : ℕ
 setLimit = setLayout .limit
 
+-- the limit of a map alone
 abbrev pub mapLimit : ℕ
 mapLimit = mapLayout .limit
 
--- «capacity for L words, L at least 1 | lesser of floor((L-1)/2) and 4,095 | lesser of floor((L-1)/3) and 2,730»
+-- [B3] the capacity of a block of L words, L at least 1: the lesser of floor((L-1)/2) and 4,095 for a set, of floor((L-1)/3) and 2,730
+-- for a map
 abbrev pub capacity : Layout → ℕ → ℕ
 capacity l L = min ((L - 1) / l .width) (l .limit)
 
--- «item i (from 0) | words 1+2i, 2+2i: low, high | words 1+3i, 2+3i, 3+3i: low, high, value»
+-- [B2] the item that begins a list of words: low, high, and the value's words
 abbrev pub itemOf : ℕ → List ℕ → Entry
 itemOf s ws = entry (getD ws 0 0) (getD ws 1 0) (take (s - 2) (drop 2 ws))
 
+-- [B2] n items, one after another
 abbrev pub itemsOf : ℕ → ℕ → List ℕ → List Entry
 itemsOf s zero ws = []
 itemsOf s (suc n) ws = itemOf s ws ∷ itemsOf s n (drop s ws)
 
--- The entries that a block says: «word 0 | n, the number of ranges | n, the number of entries». «Later words are not read.»
+-- [B1, B7] The entries that a block says: word 0 is how many there are, and they begin behind it. Later words are not read.
 abbrev pub entriesOf : ℕ → List ℕ → List Entry
 entriesOf s w = itemsOf s (getD w 0 0) (drop 1 w)
 
+-- [B2] the words of entries
 abbrev pub wordsOf : List Entry → List ℕ
 wordsOf [] = []
 wordsOf (e ∷ es) = e .low ∷ e .high ∷ (e .value ++ wordsOf es)
 
--- The block of L words that says es: «The stored form is word 0 and the items»; «every later word is 0, to the block's end».
+-- [B7, B8] The block of L words that says es: the stored form is word 0 and the items, and every later word is 0.
 unfoldable pub blockOf : ℕ → List Entry → List ℕ
 blockOf L es = length es ∷ (wordsOf es ++ replicate (L - (1 + length (wordsOf es))) 0)
 
--- `Sound` of entries/specs/Entries as a test (`sound-true`, `true-sound` in proofs/Judging)
+-- [B4, B5] `Sound` of entries/specs/Entries as a test (`sound-true`, `true-sound` in proofs/Judging): q may stand right after p,
 abbrev pub afterb : Entry → Entry → Bool
 afterb p q = andb (ltb (p .high) (q .low)) (not (andb (eqb (q .low) (suc (p .high))) (sameWords (p .value) (q .value))))
 
+-- the first of a list, if there is one, may stand right after p,
 abbrev pub linkb : Entry → List Entry → Bool
 linkb p [] = true
 linkb p (q ∷ qs) = afterb p q
 
+-- e has its low at most its high, and es may stand after it,
 abbrev pub fine : Entry → List Entry → Bool
 fine e es = andb (leb (e .low) (e .high)) (linkb e es)
 
+-- and all of them
 abbrev pub soundb : List Entry → Bool
 soundb [] = true
 soundb (e ∷ es) = andb (fine e es) (soundb es)
 
--- «1 NoBlock: a block has no words; 2 Count: an input's word 0 is above its capacity; 3 Order: an input is otherwise not sound»,
--- in this order; 0 for a sound block
+-- [R1, R2, R3] 1 for a block with no words, 2 where word 0 is above the capacity, 3 where it is otherwise not sound, in this order; 0 for
+-- a sound block
 unfoldable pub verdict : Layout → List ℕ → ℕ
 verdict l w =
     pick (eqb (length w) 0) 1 (pick (ltb (capacity l (length w)) (getD w 0 0)) 2 (pick (soundb (entriesOf (l .width) w)) 0 3))
 
--- the same said of sound blocks (`verdict-sound`, `sound-verdict` in proofs/Judging)
+-- [B4, B5] a sound block: the same said of verdict 0 (`verdict-sound`, `sound-verdict` in proofs/Judging)
 pub record SoundBlock (l : Layout) (w : List ℕ) : Type 0 where
   pub some : 0 < length w
   pub fits : getD w 0 0 ≤ capacity l (length w)

@@ -9,30 +9,32 @@ use Rattle.answers.specs.declared.Finding.{Finding}
 use Rattle.blocks.specs.declared.Layout.{Layout}
 use Rattle.blocks.specs.Blocks.{capacity, blockOf, verdict}
 
--- the block at a position, read: «for each input block in turn 1, 2, 3»
+-- [R16, R17] the block at a position, read: 1, 2, 3
 abbrev pub input : ℕ → Layout → List ℕ → Finding
 input position l w = at position (verdict l w)
 
--- the block of so many words at a position, written: «then 1 for each output in turn». «An output's old words are not judged.»
+-- [R1, R18] 1 for a block with no words, to be written: its old words are not judged
 abbrev pub noBlock : ℕ → ℕ
 noBlock words = applies (eqb words 0) 1
 
+-- [R16, R17] the block of so many words at a position, to be written
 abbrev pub output : ℕ → ℕ → Finding
 output position words = at position (noBlock words)
 
--- «4 Backwards: a range given as an argument has low above high»
+-- [R4] a range given as an argument has low above high
 abbrev pub backwards : ℕ → ℕ → Finding
 backwards a b = at 0 (applies (ltb b a) 4)
 
--- the entries es into a block of so many words at a position: «5 Room: the result has more items than the written block's
--- capacity». «Room looks at the result only.»
+-- [R5, R19] 5 where the result es has more items than the capacity of the block of so many words to be written: room looks at the
+-- result only
 abbrev pub noRoom : Layout → ℕ → List Entry → ℕ
 noRoom l words es = applies (ltb (capacity l words) (length es)) 5
 
+-- [R5, R16] the same at the block's position
 abbrev pub room : ℕ → Layout → ℕ → List Entry → Finding
 room position l words es = at position (noRoom l words es)
 
--- accepted with no value, and the block w says es
+-- [B8] accepted with no value, and the block w says es, with 0 in every word behind
 abbrev pub holding : List ℕ → List Entry → Outcome
 holding w es = outcome (given []) (blockOf (length w) es ∷ [])
 

@@ -231,7 +231,8 @@ pub fn fold(
     withdrawn: &mut [u64],
 ) -> Judged
     ensures { λ r. ⌜ outcome (judgedSays r) (now (released .exit) ∷ now (withdrawn .exit) ∷ []) ≡ foldCall
-        (now (released1 .entry)) (now (withdrawn1 .entry)) (now (released2 .entry)) (now (withdrawn2 .entry)) (now (released .entry)) (now (withdrawn .entry)) ⌝ }
+        (now (released1 .entry)) (now (withdrawn1 .entry)) (now (released2 .entry)) (now (withdrawn2 .entry))
+        (now (released .entry)) (now (withdrawn .entry)) ⌝ }
 {
     let found = fold_refusal(
         released1,

@@ -7,6 +7,8 @@ pub mod Questions
 pub mod MapQuestions
 pub mod Changes
 pub mod Exactly
+pub mod Fits
+pub mod Stored
 pub mod Bulletins
 pub mod Bytes
 pub mod Table

@@ -253,7 +253,7 @@ set-window-means w a b s order = window-means setLayout (omega arith) w a b s or
 past-M : (w : List ℕ) → Lent w → (x : ℕ) → pastM ≤ x → In w x ≡ false
 past-M w lent x h = ap has (bounded 2 w lent x h)
 
-upto-M : (w v : List ℕ) → Lent w → Lent v → ((x : ℕ) → x ≤ M → In w x ≡ In v x) → (x : ℕ) → In w x ≡ In v x
+pub upto-M : (w v : List ℕ) → Lent w → Lent v → ((x : ℕ) → x ≤ M → In w x ≡ In v x) → (x : ℕ) → In w x ≡ In v x
 upto-M w v p q h x = split x (λ l. h x l) (λ l. past-M w p x l ∙ sym (past-M v q x l))
 
 asked-two : (w v : List ℕ) → SoundSet w → SoundSet v → (answer : List Entry → List Entry → Answer)

@@ -1,5 +1,5 @@
--- The worked numbers of 01 that are marked *: each a call and the outcome that the paper gives it, in one table, proved against the
--- definitions by one statement. A wrong row would be reported by its index.
+-- The worked numbers of the requirements that are marked *, and a row or more for every other call on blocks: each a call and the outcome
+-- that is due, in one table, proved against the definitions by one statement. A wrong row would be reported by its index.
 use mathlib.Core.Path.{_≡_, refl}
 use mathlib.Core.Bool.{Bool, true, false}
 use mathlib.Core.List.{List, [], _∷_, _++_}
@@ -16,6 +16,16 @@ use Rattle.sets.specs.Calls.{memberCall, sizeCall, leastNonMemberCall, insertCa
 use Rattle.fits.specs.Fits.{gaps, placeIn}
 use Rattle.fits.specs.Calls.{fitCall, reserveCall, firstFitCall, bestFitCall, reserveFirstCall, reserveBestCall}
 use Rattle.maps.specs.Calls.{assignCall}
+use Rattle.entries.specs.Sets.{symmetricDifference}
+use Rattle.entries.specs.Maps.{overlay, restriction, domain}
+use Rattle.answers.specs.declared.Reason.the-variants.{Overlap}
+use Rattle.answers.specs.Says.{numberOf, refusalSays, judgedSays, refusalOf, judgedOf}
+use Rattle.searches.specs.Parts.{partSays}
+use Rattle.searches.specs.Calls.{windowCall, windowAtCall, windowRefusalCall, entryPart}
+use Rattle.sets.specs.Calls.{makeEmptyCall, rangeAtCall, leastMemberCall, setWindowCall, setWindowAtCall, setWindowRefusalCall}
+use Rattle.sets.specs.Calls.{equalCall, withinCall, disjointCall, intersectionCall, differenceCall, symmetricDifferenceCall}
+use Rattle.maps.specs.Calls.{lookUpCall, eraseCall, overlayCall, restrictionCall, domainCall, mapWindowCall, mapWindowAtCall, mapWindowRefusalCall}
+use Rattle.maps.specs.Calls.{decidingSays, siteOverFactoryCall, siteOverFactoryAtCall, siteRefusalCall}
 use Rattle.bulletins.specs.Calls.{applyCall, foldCall}
 use Rattle.numbers.specs.Check.{fletcher, checkOf}
 use Rattle.records.specs.Records.{bodyLength, said, saying, recordVerdict}
@@ -77,73 +87,152 @@ I = 0xC5 ∷ 0x3A ∷ 0x01 ∷ 0x00 ∷ 0x00 ∷ 0x03 ∷ 0x01 ∷ []
 
 abbrev table : List Case
 table =
-    -- A: empty, insert 5..9
+    -- [N-A, B1, B2] empty, insert 5..9
     case (insertCall (0 ∷ 0 ∷ 0 ∷ []) 5 9) (accepted (1 ∷ 5 ∷ 9 ∷ []))
-    -- B: {5..9} insert 10..12; C: insert 11..12 instead; the words after the stored form are not read, and are 0 afterwards
+    -- [N-B, N-C, B7, B8] {5..9} insert 10..12; insert 11..12 instead; the words after the stored form are not read, and are 0 afterwards
     ∷ case (insertCall (1 ∷ 5 ∷ 9 ∷ 7 ∷ 7 ∷ []) 10 12) (accepted (1 ∷ 5 ∷ 12 ∷ 0 ∷ 0 ∷ []))
     ∷ case (insertCall (1 ∷ 5 ∷ 9 ∷ 7 ∷ 7 ∷ []) 11 12) (accepted (2 ∷ 5 ∷ 9 ∷ 11 ∷ 12 ∷ []))
-    -- D: {0..M} remove 7..7
+    -- [N-D] {0..M} remove 7..7
     ∷ case (removeCall (1 ∷ 0 ∷ M ∷ 0 ∷ 0 ∷ []) 7 7) (accepted (2 ∷ 0 ∷ 6 ∷ 8 ∷ M ∷ []))
-    -- E: complement of empty, its size less one, no non-member at or above 0
+    -- [N-E, R18] complement of empty, its size less one, no non-member at or above 0
     ∷ case (complementCall (0 ∷ []) (9 ∷ 9 ∷ 9 ∷ [])) (accepted (1 ∷ 0 ∷ M ∷ []))
     ∷ case (sizeCall (1 ∷ 0 ∷ M ∷ [])) (answer (M ∷ []))
     ∷ case (leastNonMemberCall (1 ∷ 0 ∷ M ∷ []) 0) (answer [])
-    -- F: {0..3, 8..9, 12..M}, window 0..M: k = 2 first fit 4, best fit 10; k = 3 both 4; k = 5 refusal 7
+    -- [N-F, F1, R7] {0..3, 8..9, 12..M}, window 0..M: k = 2 first fit 4, best fit 10; k = 3 both 4; k = 5 refusal 7
     ∷ case (firstFitCall F 0 M 2) (answer (4 ∷ []))
     ∷ case (bestFitCall F 0 M 2) (answer (10 ∷ []))
     ∷ case (firstFitCall F 0 M 3) (answer (4 ∷ []))
     ∷ case (bestFitCall F 0 M 3) (answer (4 ∷ []))
     ∷ case (firstFitCall F 0 M 5) (outcome (refused 7 0) [])
     ∷ case (bestFitCall F 0 M 5) (outcome (refused 7 0) [])
-    -- the reservation of the best fit of 2 fills the gap 10..11 and leaves 0 in the words that come free
+    -- [F4] the reservation of the best fit of 2 fills the gap 10..11 and leaves 0 in the words that come free
     ∷ case (reserveBestCall F 0 M 2) (outcome (given (10 ∷ [])) ((2 ∷ 0 ∷ 3 ∷ 8 ∷ M ∷ 0 ∷ 0 ∷ []) ∷ []))
-    -- three words holding {5..9}: the first fit 0 is refused for want of room though 4 would join; 4 where the window begins there
+    -- [F5, R0] three words holding {5..9}: the first fit 0 is refused for want of room though 4 would join; 4 where the window begins there
     ∷ case (reserveFirstCall (1 ∷ 5 ∷ 9 ∷ []) 0 M 1) (refusing 5 0 (1 ∷ 5 ∷ 9 ∷ []))
     ∷ case (reserveFirstCall (1 ∷ 5 ∷ 9 ∷ []) 4 M 1) (outcome (given (4 ∷ [])) ((1 ∷ 4 ∷ 9 ∷ []) ∷ []))
-    -- the longest run that can be asked for, in a gap of 2^64 numbers; 4 comes before 6
+    -- [F1, R17] the longest run that can be asked for, in a gap of 2^64 numbers; 4 comes before 6
     ∷ case (bestFitCall (0 ∷ []) 0 M M) (answer (0 ∷ []))
     ∷ case (firstFitCall (0 ∷ []) 5 4 0) (outcome (refused 4 0) [])
-    -- G: {0..9 is 1}: assign 2 to 3..5 gives three entries; then assign 1 to 3..5 gives {0..9 is 1}
+    -- [N-G] {0..9 is 1}: assign 2 to 3..5 gives three entries; then assign 1 to 3..5 gives {0..9 is 1}
     ∷ case (assignCall (1 ∷ 0 ∷ 9 ∷ 1 ∷ 0 ∷ 0 ∷ 0 ∷ 0 ∷ 0 ∷ 0 ∷ []) 3 5 2) (accepted (3 ∷ 0 ∷ 2 ∷ 1 ∷ 3 ∷ 5 ∷ 2 ∷ 6 ∷ 9 ∷ 1 ∷ []))
     ∷ case (assignCall (3 ∷ 0 ∷ 2 ∷ 1 ∷ 3 ∷ 5 ∷ 2 ∷ 6 ∷ 9 ∷ 1 ∷ []) 3 5 1) (accepted (1 ∷ 0 ∷ 9 ∷ 1 ∷ 0 ∷ 0 ∷ 0 ∷ 0 ∷ 0 ∷ 0 ∷ []))
-    -- H: {5..9}, read and written; with its last byte 1F refused 11 at 7
+    -- [N-H, R11] {5..9}, read and written; with its last byte 1F refused 11 at 7
     ∷ case (readSetCall H (7 ∷ 7 ∷ 7 ∷ 7 ∷ 7 ∷ [])) (accepted (1 ∷ 5 ∷ 9 ∷ 0 ∷ 0 ∷ []))
     ∷ case (writeSetCall (1 ∷ 5 ∷ 9 ∷ []) (replicate 30 7) 1) (outcome (given (28 ∷ [])) ((7 ∷ (H ++ (7 ∷ []))) ∷ []))
     ∷ case (readSetCall (take 27 H ++ (0x1F ∷ [])) (7 ∷ 7 ∷ 7 ∷ [])) (refusing 11 7 (7 ∷ 7 ∷ 7 ∷ []))
-    -- I: the empty set, read and written
+    -- [N-I] the empty set, read and written
     ∷ case (readSetCall I (7 ∷ [])) (accepted (0 ∷ []))
     ∷ case (writeSetCall (0 ∷ []) (replicate 7 7) 0) (outcome (given (7 ∷ [])) (I ∷ []))
-    -- J: earlier releases 1..4; later releases 9..9 and withdraws 3..3
+    -- [N-J] earlier releases 1..4; later releases 9..9 and withdraws 3..3
     ∷ case (foldCall (1 ∷ 1 ∷ 4 ∷ []) (0 ∷ []) (1 ∷ 9 ∷ 9 ∷ []) (1 ∷ 3 ∷ 3 ∷ []) (7 ∷ 7 ∷ 7 ∷ 7 ∷ 7 ∷ 7 ∷ 7 ∷ 7 ∷ []) (7 ∷ 7 ∷ 7 ∷ 7 ∷ []))
     (outcome (given []) ((3 ∷ 1 ∷ 2 ∷ 4 ∷ 4 ∷ 9 ∷ 9 ∷ 0 ∷ []) ∷ (1 ∷ 3 ∷ 3 ∷ 0 ∷ []) ∷ []))
-    -- the later bulletin of J applied to 1..4; one that releases and withdraws 4; no room for what is withdrawn changes neither block
+    -- [U1, R14, R0] the later bulletin of J applied to 1..4; one that releases and withdraws 4; no room for what is withdrawn changes
+    -- neither block
     ∷ case (applyCall (1 ∷ 1 ∷ 4 ∷ []) (1 ∷ 9 ∷ 9 ∷ []) (1 ∷ 3 ∷ 3 ∷ []) (7 ∷ 7 ∷ 7 ∷ 7 ∷ 7 ∷ 7 ∷ 7 ∷ [])) (accepted (3 ∷ 1 ∷ 2 ∷ 4 ∷ 4 ∷ 9 ∷ 9 ∷ []))
     ∷ case (applyCall (0 ∷ []) (1 ∷ 1 ∷ 4 ∷ []) (1 ∷ 4 ∷ 9 ∷ []) (7 ∷ 7 ∷ [])) (refusing 14 0 (7 ∷ 7 ∷ []))
     ∷ case (foldCall (1 ∷ 1 ∷ 4 ∷ []) (0 ∷ []) (1 ∷ 9 ∷ 9 ∷ []) (1 ∷ 3 ∷ 3 ∷ []) (7 ∷ 7 ∷ 7 ∷ 7 ∷ 7 ∷ 7 ∷ 7 ∷ []) (7 ∷ 7 ∷ []))
     (outcome (refused 5 5) ((7 ∷ 7 ∷ 7 ∷ 7 ∷ 7 ∷ 7 ∷ 7 ∷ []) ∷ (7 ∷ 7 ∷ []) ∷ []))
-    -- K: words 1, 9, 5
+    -- [N-K, R0, R3] words 1, 9, 5
     ∷ case (memberCall (1 ∷ 9 ∷ 5 ∷ []) 7) (outcome (refused 3 0) [])
     ∷ case (insertCall (1 ∷ 9 ∷ 5 ∷ []) 1 2) (refusing 3 0 (1 ∷ 9 ∷ 5 ∷ []))
-    -- blocks that are not sound: no words; a count above the capacity of one word, of three, and M in every word; M as a high that is not last
+    -- [B3, B4, R1, R2, R3] blocks that are not sound: no words; a count above the capacity of one word, of three, and M in every word; M
+    -- as a high that is not last
     ∷ case (memberCall [] 7) (outcome (refused 1 0) [])
     ∷ case (memberCall (0 ∷ []) 7) (answer (0 ∷ []))
     ∷ case (memberCall (1 ∷ []) 7) (outcome (refused 2 0) [])
     ∷ case (memberCall (2 ∷ 1 ∷ 2 ∷ []) 7) (outcome (refused 2 0) [])
     ∷ case (memberCall (M ∷ M ∷ M ∷ []) 7) (outcome (refused 2 0) [])
     ∷ case (memberCall (2 ∷ 0 ∷ M ∷ 5 ∷ 6 ∷ []) 7) (outcome (refused 3 0) [])
-    -- at 0 and at M: insert 0..M into anything; remove M..M from {0..M}; complements of {0..0} and {M..M}; {0..5} and {6..M} are one range
+    -- [S13] at 0 and at M: insert 0..M into anything; remove M..M from {0..M}; complements of {0..0} and {M..M}; {0..5} and {6..M} are
+    -- one range
     ∷ case (insertCall (2 ∷ 3 ∷ 4 ∷ 8 ∷ M ∷ []) 0 M) (accepted (1 ∷ 0 ∷ M ∷ 0 ∷ 0 ∷ []))
     ∷ case (removeCall (1 ∷ 0 ∷ M ∷ []) M M) (accepted (1 ∷ 0 ∷ lessM ∷ []))
     ∷ case (complementCall (1 ∷ 0 ∷ 0 ∷ []) (7 ∷ 7 ∷ 7 ∷ [])) (accepted (1 ∷ 1 ∷ M ∷ []))
     ∷ case (complementCall (1 ∷ M ∷ M ∷ []) (7 ∷ 7 ∷ 7 ∷ [])) (accepted (1 ∷ 0 ∷ lessM ∷ []))
     ∷ case (unionCall (1 ∷ 0 ∷ 5 ∷ []) (1 ∷ 6 ∷ M ∷ []) (7 ∷ 7 ∷ 7 ∷ [])) (accepted (1 ∷ 0 ∷ M ∷ []))
-    -- L: three words holding {5..9}
+    -- [N-L, R5, R19] three words holding {5..9}
     ∷ case (insertCall (1 ∷ 5 ∷ 9 ∷ []) 11 11) (refusing 5 0 (1 ∷ 5 ∷ 9 ∷ []))
     ∷ case (insertCall (1 ∷ 5 ∷ 9 ∷ []) 10 10) (accepted (1 ∷ 5 ∷ 10 ∷ []))
+    -- [B4, B5, B6] touching ranges are no sound set; touching entries with other values are a sound map, with the same value not; the value 0 is
+    -- a value, and a number in no entry has none
+    ∷ case (memberCall (2 ∷ 0 ∷ 4 ∷ 5 ∷ 9 ∷ []) 7) (outcome (refused 3 0) [])
+    ∷ case (lookUpCall (2 ∷ 0 ∷ 4 ∷ 0 ∷ 5 ∷ 9 ∷ 1 ∷ []) 5) (answer (1 ∷ []))
+    ∷ case (lookUpCall (2 ∷ 0 ∷ 4 ∷ 1 ∷ 5 ∷ 9 ∷ 1 ∷ []) 5) (outcome (refused 3 0) [])
+    ∷ case (lookUpCall (2 ∷ 0 ∷ 4 ∷ 0 ∷ 5 ∷ 9 ∷ 1 ∷ []) 4) (answer (0 ∷ []))
+    ∷ case (lookUpCall (2 ∷ 0 ∷ 4 ∷ 0 ∷ 5 ∷ 9 ∷ 1 ∷ []) 10) (answer [])
+    -- [S8, R1, R18] make empty: of a block that is not sound, and of one with no words
+    ∷ case (makeEmptyCall (9 ∷ 9 ∷ 9 ∷ [])) (accepted (0 ∷ 0 ∷ 0 ∷ []))
+    ∷ case (makeEmptyCall []) (refusing 1 0 [])
+    -- [S2, S4] the range at an index, and past the last; the least member at or above a number, and past the last
+    ∷ case (rangeAtCall F 1) (answer (8 ∷ 9 ∷ []))
+    ∷ case (rangeAtCall F 3) (answer [])
+    ∷ case (leastMemberCall F 4) (answer (8 ∷ []))
+    ∷ case (leastMemberCall (1 ∷ 5 ∷ 9 ∷ []) 10) (answer [])
+    -- [S6, R20] a window as a part of its block, a window in a gap, and one that is backwards, with its companion
+    ∷ case (outcome (partSays (setWindowCall F 9 12)) []) (answer (3 ∷ 4 ∷ []))
+    ∷ case (setWindowAtCall F 9 12) (answer (3 ∷ 4 ∷ []))
+    ∷ case (setWindowAtCall F 10 11) (answer [])
+    ∷ case (outcome (partSays (setWindowCall F 5 4)) []) (answer [])
+    ∷ case (setWindowAtCall F 5 4) (outcome (refused 4 0) [])
+    ∷ case (setWindowRefusalCall F 5 4) (outcome (refused 4 0) [])
+    ∷ case (setWindowRefusalCall F 9 12) (answer [])
+    -- [S7, R16] of two sets; the second is refused at 1
+    ∷ case (equalCall (1 ∷ 5 ∷ 9 ∷ []) (1 ∷ 5 ∷ 9 ∷ 7 ∷ 7 ∷ [])) (answer (1 ∷ []))
+    ∷ case (withinCall (1 ∷ 5 ∷ 9 ∷ []) F) (answer (0 ∷ []))
+    ∷ case (withinCall (1 ∷ 8 ∷ 9 ∷ []) F) (answer (1 ∷ []))
+    ∷ case (disjointCall (1 ∷ 4 ∷ 7 ∷ []) F) (answer (1 ∷ []))
+    ∷ case (disjointCall (1 ∷ 4 ∷ 8 ∷ []) F) (answer (0 ∷ []))
+    ∷ case (equalCall (0 ∷ []) (1 ∷ 9 ∷ 5 ∷ [])) (outcome (refused 3 1) [])
+    -- [S11, S13, S14, R5] {0..5, 10..20} and {4..12}, with as many ranges as there can be; in too few words
+    ∷ case (intersectionCall (2 ∷ 0 ∷ 5 ∷ 10 ∷ 20 ∷ []) (1 ∷ 4 ∷ 12 ∷ []) (7 ∷ 7 ∷ 7 ∷ 7 ∷ 7 ∷ [])) (accepted (2 ∷ 4 ∷ 5 ∷ 10 ∷ 12 ∷ []))
+    ∷ case (differenceCall (2 ∷ 0 ∷ 5 ∷ 10 ∷ 20 ∷ []) (1 ∷ 4 ∷ 12 ∷ []) (7 ∷ 7 ∷ 7 ∷ 7 ∷ 7 ∷ [])) (accepted (2 ∷ 0 ∷ 3 ∷ 13 ∷ 20 ∷ []))
+    ∷ case (symmetricDifferenceCall (2 ∷ 0 ∷ 5 ∷ 10 ∷ 20 ∷ []) (1 ∷ 4 ∷ 12 ∷ []) (7 ∷ 7 ∷ 7 ∷ 7 ∷ 7 ∷ 7 ∷ 7 ∷ [])) (accepted (3 ∷ 0 ∷ 3 ∷ 6 ∷ 9 ∷ 13 ∷ 20 ∷ []))
+    ∷ case (symmetricDifferenceCall (2 ∷ 0 ∷ 5 ∷ 10 ∷ 20 ∷ []) (1 ∷ 4 ∷ 12 ∷ []) (7 ∷ 7 ∷ 7 ∷ 7 ∷ 7 ∷ [])) (refusing 5 2 (7 ∷ 7 ∷ 7 ∷ 7 ∷ 7 ∷ []))
+    -- [S15] the same block as both inputs
+    ∷ case (symmetricDifferenceCall (2 ∷ 0 ∷ 5 ∷ 10 ∷ 20 ∷ []) (2 ∷ 0 ∷ 5 ∷ 10 ∷ 20 ∷ []) (7 ∷ 7 ∷ [])) (accepted (0 ∷ 0 ∷ []))
+    ∷ case (intersectionCall (2 ∷ 0 ∷ 5 ∷ 10 ∷ 20 ∷ []) (2 ∷ 0 ∷ 5 ∷ 10 ∷ 20 ∷ []) (7 ∷ 7 ∷ 7 ∷ 7 ∷ 7 ∷ [])) (accepted (2 ∷ 0 ∷ 5 ∷ 10 ∷ 20 ∷ []))
+    -- [R16, R17] an input that is not sound comes before an output of no words; that is refused at its own position
+    ∷ case (unionCall (0 ∷ []) (1 ∷ 9 ∷ 5 ∷ []) []) (refusing 3 1 [])
+    ∷ case (unionCall (0 ∷ []) (0 ∷ []) []) (refusing 1 2 [])
+    -- [R4, R6] a range that is backwards; a run of no numbers
+    ∷ case (insertCall (0 ∷ 0 ∷ 0 ∷ []) 5 4) (refusing 4 0 (0 ∷ 0 ∷ 0 ∷ []))
+    ∷ case (firstFitCall (0 ∷ []) 4 5 0) (outcome (refused 6 0) [])
+    -- [M3, M4, M5, M6] erase; overlay, with as many entries as there can be; restriction; the numbers that have a value
+    ∷ case (eraseCall (1 ∷ 0 ∷ 9 ∷ 1 ∷ 0 ∷ 0 ∷ 0 ∷ []) 3 5) (accepted (2 ∷ 0 ∷ 2 ∷ 1 ∷ 6 ∷ 9 ∷ 1 ∷ []))
+    ∷ case (overlayCall (1 ∷ 3 ∷ 5 ∷ 2 ∷ []) (1 ∷ 0 ∷ 9 ∷ 1 ∷ []) (7 ∷ 7 ∷ 7 ∷ 7 ∷ 7 ∷ 7 ∷ 7 ∷ 7 ∷ 7 ∷ 7 ∷ []))
+    (accepted (3 ∷ 0 ∷ 2 ∷ 1 ∷ 3 ∷ 5 ∷ 2 ∷ 6 ∷ 9 ∷ 1 ∷ []))
+    ∷ case (restrictionCall (1 ∷ 0 ∷ 9 ∷ 1 ∷ []) (1 ∷ 4 ∷ 20 ∷ []) (7 ∷ 7 ∷ 7 ∷ 7 ∷ [])) (accepted (1 ∷ 4 ∷ 9 ∷ 1 ∷ []))
+    ∷ case (domainCall (2 ∷ 0 ∷ 4 ∷ 0 ∷ 5 ∷ 9 ∷ 1 ∷ []) (7 ∷ 7 ∷ 7 ∷ [])) (accepted (1 ∷ 0 ∷ 9 ∷ []))
+    -- [M7, R20] a window of a map, and the companion of one whose block is refused
+    ∷ case (outcome (partSays (mapWindowCall (2 ∷ 0 ∷ 4 ∷ 0 ∷ 5 ∷ 9 ∷ 1 ∷ []) 6 6)) []) (answer (4 ∷ 3 ∷ []))
+    ∷ case (mapWindowAtCall (2 ∷ 0 ∷ 4 ∷ 0 ∷ 5 ∷ 9 ∷ 1 ∷ []) 6 6) (answer (4 ∷ 3 ∷ []))
+    ∷ case (mapWindowRefusalCall (1 ∷ []) 1 2) (outcome (refused 2 0) [])
+    -- [M8, R20] site over factory: the site map decides, the factory map does, neither; the factory map is refused at 1
+    ∷ case (outcome (decidingSays (siteOverFactoryCall (1 ∷ 3 ∷ 5 ∷ 2 ∷ []) (2 ∷ 0 ∷ 4 ∷ 0 ∷ 5 ∷ 9 ∷ 1 ∷ []) 4)) []) (answer (1 ∷ 3 ∷ 0 ∷ []))
+    ∷ case (outcome (decidingSays (siteOverFactoryCall (1 ∷ 3 ∷ 5 ∷ 2 ∷ []) (2 ∷ 0 ∷ 4 ∷ 0 ∷ 5 ∷ 9 ∷ 1 ∷ []) 7)) []) (answer (4 ∷ 3 ∷ 1 ∷ []))
+    ∷ case (siteOverFactoryAtCall (1 ∷ 3 ∷ 5 ∷ 2 ∷ []) (2 ∷ 0 ∷ 4 ∷ 0 ∷ 5 ∷ 9 ∷ 1 ∷ []) 7) (answer (4 ∷ 3 ∷ 1 ∷ []))
+    ∷ case (siteOverFactoryAtCall (1 ∷ 3 ∷ 5 ∷ 2 ∷ []) (2 ∷ 0 ∷ 4 ∷ 0 ∷ 5 ∷ 9 ∷ 1 ∷ []) 10) (answer [])
+    ∷ case (outcome (decidingSays (siteOverFactoryCall (0 ∷ []) (1 ∷ []) 7)) []) (answer [])
+    ∷ case (siteOverFactoryAtCall (0 ∷ []) (1 ∷ []) 7) (outcome (refused 2 1) [])
+    ∷ case (siteRefusalCall (0 ∷ []) (1 ∷ [])) (outcome (refused 2 1) [])
+    ∷ case (siteRefusalCall (1 ∷ 3 ∷ 5 ∷ 2 ∷ []) (2 ∷ 0 ∷ 4 ∷ 0 ∷ 5 ∷ 9 ∷ 1 ∷ [])) (answer [])
+    -- [U4] bulletins neither of which releases what the other withdraws, folded in either order
+    ∷ case (foldCall (1 ∷ 1 ∷ 2 ∷ []) (1 ∷ 5 ∷ 5 ∷ []) (1 ∷ 8 ∷ 9 ∷ []) (1 ∷ 12 ∷ 12 ∷ []) (7 ∷ 7 ∷ 7 ∷ 7 ∷ 7 ∷ []) (7 ∷ 7 ∷ 7 ∷ 7 ∷ 7 ∷ []))
+    (outcome (given []) ((2 ∷ 1 ∷ 2 ∷ 8 ∷ 9 ∷ []) ∷ (2 ∷ 5 ∷ 5 ∷ 12 ∷ 12 ∷ []) ∷ []))
+    ∷ case (foldCall (1 ∷ 8 ∷ 9 ∷ []) (1 ∷ 12 ∷ 12 ∷ []) (1 ∷ 1 ∷ 2 ∷ []) (1 ∷ 5 ∷ 5 ∷ []) (7 ∷ 7 ∷ 7 ∷ 7 ∷ 7 ∷ []) (7 ∷ 7 ∷ 7 ∷ 7 ∷ 7 ∷ []))
+    (outcome (given []) ((2 ∷ 1 ∷ 2 ∷ 8 ∷ 9 ∷ []) ∷ (2 ∷ 5 ∷ 5 ∷ 12 ∷ 12 ∷ []) ∷ []))
+    -- [G7] the refusal and the answer of a number, and the number of a reason
+    ∷ case (outcome (refusalSays (refusalOf 11 7)) []) (outcome (refused 11 7) [])
+    ∷ case (outcome (judgedSays (judgedOf 5 2)) []) (outcome (refused 5 2) [])
+    ∷ case (outcome (judgedSays (judgedOf 0 2)) []) (answer [])
+    ∷ case (answer (numberOf Overlap ∷ [])) (answer (14 ∷ []))
     ∷ []
 
 pub worked : wrong 0 table ≡ []
 unfolding editCall verdict put blockOf memberCall sizeCall leastNonMemberCall unionCall complementCall complement union intersection difference
     fitCall reserveCall placeIn gaps shareb applyCall foldCall readCall writeCall formOf formRefusals formEntries runsOf runsIn runsRefusals
     runOf runRefusals entriesIn said saying recordVerdict bodyLength checkOf fletcher
+    makeEmptyCall rangeAtCall leastMemberCall windowCall windowAtCall windowRefusalCall equalCall withinCall disjointCall intersectionCall
+    differenceCall symmetricDifferenceCall symmetricDifference lookUpCall overlayCall overlay restrictionCall restriction domainCall domain
+    siteOverFactoryCall siteOverFactoryAtCall siteRefusalCall entryPart
 worked = refl

@@ -1,3 +1,5 @@
 pub mod Plain
 pub mod Questions
 pub mod Changes
+pub mod Fits
+pub mod Stored

@@ -15,10 +15,10 @@ use Rattle.blocks.specs.Calls.{input, backwards, room, holding}
 abbrev pub edited : Layout → List ℕ → ℕ → ℕ → Option Value → List Entry
 edited l w a b o = put (entriesOf (l .width) w) a b o
 
--- 1, 2, 3 of the block, then 4, then 5
+-- [R17] 1, 2, 3 of the block, then 4, then 5
 abbrev pub editRefusals : Layout → List ℕ → ℕ → ℕ → List Entry → List Finding
 editRefusals l w a b es = input 0 l w ∷ backwards a b ∷ room 0 l (length w) es ∷ []
 
--- o on a..b, in a block of any layout
+-- [S9, S10, M2, M3] o on a..b, in a block of any layout
 unfoldable pub editCall : Layout → List ℕ → ℕ → ℕ → Option Value → Outcome
 editCall l w a b o = inTurn (editRefusals l w a b (edited l w a b o)) (w ∷ []) (holding w (edited l w a b o))

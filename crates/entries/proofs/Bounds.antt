@@ -155,8 +155,10 @@ module _ (f : Option Value → Option Value → Option Value) (z : f none none �
 -- a set changes at both ends of each range: a bound by all changes
 pub no-cut : (es : List Entry) → Sound es → (x : ℕ) → prev (valueAt es) x ≡ valueAt es x → NotIn x (cutsOf es)
 no-cut [] s x n = tt
-no-cut (e ∷ es) s zero n =
-    (λ p. none≢some _ _ refl (n ∙ val-in e es zero (omega arith) (omega arith)), (omega arith, no-cut es (s .2) zero (sym (none-upto e es (s .1) (s .2) zero (omega arith)))))
+no-cut (e ∷ es) s zero n = (
+  λ p. none≢some _ _ refl (n ∙ val-in e es zero (omega arith) (omega arith)),
+  (omega arith, no-cut es (s .2) zero (sym (none-upto e es (s .1) (s .2) zero (omega arith)))),
+)
 no-cut (e ∷ es) s (suc y) n = (not-low, (not-end, no-cut es (s .2) (suc y) (rest (decLe (suc y) (e .high)))))
   where
     not-low : suc y ≢ e .low
@@ -165,7 +167,8 @@ no-cut (e ∷ es) s (suc y) n = (not-low, (not-end, no-cut es (s .2) (suc y) (re
     not-end : suc y ≢ suc (e .high)
     not-end p =
         let k : y ≡ e .high = omega arith in
-        no-join e es (s .1) (s .2) (ap (λ (z : ℕ). valueAt es (suc z)) (sym k) ∙ sym (val-past e es (suc y) (omega arith)) ∙ sym n ∙ val-in e es y (omega arith) (omega arith))
+        no-join e es (s .1) (s .2)
+        (ap (λ (z : ℕ). valueAt es (suc z)) (sym k) ∙ sym (val-past e es (suc y) (omega arith)) ∙ sym n ∙ val-in e es y (omega arith) (omega arith))
 
     rest : Dec (suc y ≤ e .high) → valueAt es y ≡ valueAt es (suc y)
     rest (yes p) = none-upto e es (s .1) (s .2) y (omega arith) ∙ sym (none-upto e es (s .1) (s .2) (suc y) p)
@@ -180,7 +183,8 @@ pub length-cuts : (es : List Entry) → length (cutsOf es) ≡ 2 * length es
 length-cuts [] = refl
 length-cuts (e ∷ es) = omega (arith, length-cuts es)
 
-pub change-bound : (F : ℕ → Option Value) (es : List Entry) (cs : List ℕ) → Plain es → ListOf F es → ((x : ℕ) → NotIn x cs → prev F x ≡ F x) → 2 * length es ≤ length cs
+pub change-bound : (F : ℕ → Option Value) (es : List Entry) (cs : List ℕ) → Plain es → ListOf F es → ((x : ℕ) → NotIn x cs → prev F x ≡ F x)
+    → 2 * length es ≤ length cs
 change-bound F es cs f l h =
     let k = rising-length (cutsOf es) cs (rising-cuts es f (l .sound)) (λ x n. no-cut es (l .sound) x (carry x (h x n))) in
     omega (arith, length-cuts es)

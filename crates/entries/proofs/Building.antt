@@ -44,7 +44,13 @@ glued x h (some v) (e ∷ es) le b s = go (eqb (suc h) (e .low)) refl (sameWords
   where
     apart : After (entry x h v) e → Glued x h (some v) (e ∷ es) (entry x h v ∷ e ∷ es)
     apart a =
-        record { sound = (le, a, s); begins = omega arith; within = λ y p q. val-in (entry x h v) (e ∷ es) y p q; beyond = λ y p. val-past (entry x h v) (e ∷ es) y p }
+        record {
+          sound = (le, a, s);
+          begins = omega arith;
+          within = λ y p q. val-in (entry x h v) (e ∷ es) y p q;
+          beyond = λ y p. val-past (entry x h v)
+              (e ∷ es) y p;
+        }
 
     joined : suc h ≡ e .low → v ≡ e .value → Glued x h (some v) (e ∷ es) (entry x (e .high) v ∷ es)
     joined k w = record {
@@ -99,7 +105,7 @@ walked F N end c (d ∷ ds) r k = put (walked F N end d ds (r .1) (λ y p n. k y
             ∙ sym (constant F c y p (λ z a b. k z a (omega arith, notin-below (suc z) (d ∷ ds) (omega arith) (r .1))))
         at y p (no q) = g .beyond y (omega arith) ∙ w .from y (omega arith)
 
--- the law of `build`
+-- [S13] the law of `build`
 pub built : (F : ℕ → Option Value) (N : ℕ) (cs : List ℕ) → Ends F N → Changes F cs → ListOf F (build F cs)
 built F N cs end k = go (sort (0 ∷ cs)) (sort-rising (0 ∷ cs)) (λ x. sort-notin x (0 ∷ cs))
   where

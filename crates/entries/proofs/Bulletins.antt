@@ -38,14 +38,14 @@ and-comm = taut2 _ _ tt
 amend-swap : (r₁ w₁ r₂ w₂ : Bool) → andb r₁ w₂ ≡ false → andb r₂ w₁ ≡ false → amend r₁ r₂ w₂ ≡ amend r₂ r₁ w₁
 amend-swap r₁ w₁ r₂ w₂ p q = simp (less-apart r₁ w₂ p, less-apart r₂ w₁ q) (or-comm r₁ r₂)
 
--- no number in common
+-- [U1] no number in common
 abbrev pub Apart : List Entry → List Entry → Type 0
 Apart a b = (x : ℕ) → andb (member a x) (member b x) ≡ false
 
 pub apart-sym : (a b : List Entry) → Apart a b → Apart b a
 apart-sym a b h x = and-comm (member b x) (member a x) ∙ h x
 
--- what `amended` names
+-- [U2, U3] what `amended` names
 pub amended-is : (s r w : List Entry) → SetOf (λ x. amend (member s x) (member r x) (member w x)) (amended s r w)
 amended-is s r w = record {
   sound = (union-is (difference s w) r) .sound;
@@ -56,7 +56,7 @@ amended-is s r w = record {
 pub amended-bound : (s r w : List Entry) → Sound s → Sound r → Sound w → length (amended s r w) ≤ length s + length r + length w
 amended-bound s r w p q n = omega (arith, union-bound (difference s w) r ((difference-is s w) .sound) q, difference-bound s w p n)
 
--- the fold has the effect of both in turn; of a bulletin's own sets for s, it is the grouping of three
+-- [D5, D6] the fold has the effect of both in turn; of a bulletin's own sets for s, it is the grouping of three
 pub amended-amended : (s r₁ w₁ r₂ w₂ : List Entry) → amended s (amended r₁ r₂ w₂) (amended w₁ w₂ r₂) ≡ amended (amended s r₁ w₁) r₂ w₂
 amended-amended s r₁ w₁ r₂ w₂ = set-canonical _ _ (left .sound) (right .sound) (left .plain) (right .plain) same
   where
@@ -74,18 +74,19 @@ amended-amended s r₁ w₁ r₂ w₂ = set-canonical _ _ (left .sound) (right .
         ∙ ap (λ (a : Bool). amend a (member r₂ x) (member w₂ x)) (sym (amended-is s r₁ w₁ .members x))
         ∙ sym (right .members x)
 
--- the fold of two bulletins is a bulletin
+-- [U1, U3] the fold of two bulletins is a bulletin
 pub amended-apart : (r₁ w₁ r₂ w₂ : List Entry) → Apart r₁ w₁ → Apart r₂ w₂ → Apart (amended r₁ r₂ w₂) (amended w₁ w₂ r₂)
 amended-apart r₁ w₁ r₂ w₂ p q x =
     ap₂ andb (amended-is r₁ r₂ w₂ .members x) (amended-is w₁ w₂ r₂ .members x)
     ∙ amend-apart (member r₁ x) (member w₁ x) (member r₂ x) (member w₂ x)
     ∙ ap₂ (λ (a b : Bool). orb (andb a (not (orb (member r₂ x) (member w₂ x)))) b) (p x) (q x)
 
--- neither releases what the other withdraws: half of a fold in either order
+-- [U4] neither releases what the other withdraws: half of a fold in either order
 pub amended-swap : (r₁ w₁ r₂ w₂ : List Entry) → Apart r₁ w₂ → Apart r₂ w₁ → amended r₁ r₂ w₂ ≡ amended r₂ r₁ w₁
 amended-swap r₁ w₁ r₂ w₂ p q =
     set-canonical _ _ (amended-is r₁ r₂ w₂ .sound) (amended-is r₂ r₁ w₁ .sound) (amended-is r₁ r₂ w₂ .plain) (amended-is r₂ r₁ w₁ .plain)
-    (λ x. amended-is r₁ r₂ w₂ .members x ∙ amend-swap (member r₁ x) (member w₁ x) (member r₂ x) (member w₂ x) (p x) (q x) ∙ sym (amended-is r₂ r₁ w₁ .members x))
+    (λ x. amended-is r₁ r₂ w₂ .members x ∙ amend-swap (member r₁ x) (member w₁ x) (member r₂ x) (member w₂ x) (p x) (q x)
+    ∙ sym (amended-is r₂ r₁ w₁ .members x))
 
 same-withdrawn : (r w r′ w′ : Bool) → andb r w ≡ false → andb r′ w′ ≡ false → r ≡ r′ → amend true r w ≡ amend true r′ w′ → w ≡ w′
 same-withdrawn true true r′ w′ p q e h = cc
@@ -99,9 +100,12 @@ same-withdrawn false false false true p q e h = sym h
 same-withdrawn false false false false p q e h = refl
 
 -- two bulletins with the same effect on every number, listed before (true) or not (false), name the same numbers
-module _ (r w r′ w′ : List Entry) (p : Apart r w) (q : Apart r′ w′) (h : (listed : Bool) (x : ℕ) → amend listed (member r x) (member w x) ≡ amend listed (member r′ x) (member w′ x)) where
+module _ (r w r′ w′ : List Entry) (p : Apart r w) (q : Apart r′ w′)
+    (h : (listed : Bool) (x : ℕ) → amend listed (member r x) (member w x) ≡ amend listed (member r′ x) (member w′ x)) where
+  -- [D7]
   pub effect-released : (x : ℕ) → member r x ≡ member r′ x
   effect-released x = h false x
 
+  -- [D7]
   pub effect-withdrawn : (x : ℕ) → member w x ≡ member w′ x
   effect-withdrawn x = same-withdrawn (member r x) (member w x) (member r′ x) (member w′ x) (p x) (q x) (effect-released x) (h true x)

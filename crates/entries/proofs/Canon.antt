@@ -57,6 +57,7 @@ tails e f es fs s t q h x = go (decLe x (e .high))
 entry-path : (e f : Entry) → e .low ≡ f .low → e .high ≡ f .high → e .value ≡ f .value → e ≡ f
 entry-path e f p q r = λ i. record { low = p i; high = q i; value = r i }
 
+-- [D3] two sound lists that give every number the same value are one list
 pub canonical : (es fs : List Entry) → Sound es → Sound fs → ((x : ℕ) → valueAt es x ≡ valueAt fs x) → es ≡ fs
 canonical [] [] s t h = refl
 canonical [] (f ∷ fs) s t h = absurd (none≢some none (f .value) refl (h (f .low) ∙ val-in f fs _ (omega arith) (t .0)))
@@ -65,7 +66,8 @@ canonical (e ∷ es) (f ∷ fs) s t h =
     let l₁ = low-le e f es fs s t h in
     let l₂ = low-le f e fs es t s (λ x. sym (h x)) in
     let l : e .low ≡ f .low = omega arith in
-    let w : some (e .value) ≡ some (f .value) = sym (val-in e es (e .low) (omega arith) (s .0)) ∙ h (e .low) ∙ val-in f fs (e .low) (omega arith) (omega arith) in
+    let w : some (e .value) ≡ some (f .value) =
+    sym (val-in e es (e .low) (omega arith) (s .0)) ∙ h (e .low) ∙ val-in f fs (e .low) (omega arith) (omega arith) in
     let v : e .value ≡ f .value = cc in
     let h₁ = high-le e f es fs s t l v h in
     let h₂ = high-le f e fs es t s (sym l) (sym v) (λ x. sym (h x)) in

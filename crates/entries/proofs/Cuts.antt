@@ -57,7 +57,8 @@ pub insert-notin : (x c : ℕ) (cs : List ℕ) → NotIn x (insert c cs) → Not
 insert-notin x c [] h = h
 insert-notin x c (d ∷ ds) h = go (insert-notin x c ds) (ltb c d) (eqb c d) refl h
   where
-    go : (NotIn x (insert c ds) → NotIn x (c ∷ ds)) → (t u : Bool) → eqb c d ≡ u → NotIn x (pick t (c ∷ d ∷ ds) (pick u (d ∷ ds) (d ∷ insert c ds))) → NotIn x (c ∷ d ∷ ds)
+    go : (NotIn x (insert c ds) → NotIn x (c ∷ ds)) → (t u : Bool) → eqb c d ≡ u → NotIn x (pick t (c ∷ d ∷ ds) (pick u (d ∷ ds) (d ∷ insert c ds)))
+        → NotIn x (c ∷ d ∷ ds)
     go ih true u f n = n
     go ih false true f n = (omega (arith, eqb-true c d f), n)
     go ih false false f n = ((ih (n .1)) .0, (n .0, (ih (n .1)) .1))

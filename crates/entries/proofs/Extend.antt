@@ -62,7 +62,8 @@ module _ (F : ℕ → Option Value) (x h : ℕ) (le : x ≤ h) where
         where
           go : Dec (l .high < x) → l .high < x
           go (yes p) = p
-          go (no p) = absurd (none≢some _ _ (u .above (l .high) (omega arith)) (value-right a l [] (u .sound) (l .high) ok ∙ val-in l [] (l .high) ok (omega arith)))
+          go (no p) = absurd (none≢some _ _ (u .above (l .high) (omega arith))
+              (value-right a l [] (u .sound) (l .high) ok ∙ val-in l [] (l .high) ok (omega arith)))
 
       apart : (suc (l .high) ≡ x → l .value ≢ v) → Upto F (suc h) (a ++ (l ∷ entry x h v ∷ []))
       apart n = rw append-assoc at (step-new F x h le (a ++ l ∷ []) v u k (seam-snoc a l (entry x h v ∷ []) (before, λ e. n (sym e))))

@@ -55,7 +55,8 @@ module _ (d : Entry) where
   free-under (e ∷ es) x (suc i) s n h =
       rw (within-past (e .low) (e .high) x (n .before zero (omega arith))) (free-under es x i (s .2) (tail e es x i n) (λ p. h (omega arith)))
 
-  pub free-in : (es : List Entry) (x i : ℕ) → Plain es → Sound es → Passed d es x i → i < length es → (getD es i d) .low ≤ x → leastFree es x ≡ suc ((getD es i d) .high)
+  pub free-in : (es : List Entry) (x i : ℕ) → Plain es → Sound es → Passed d es x i → i < length es → (getD es i d) .low ≤ x → leastFree es x
+      ≡ suc ((getD es i d) .high)
   free-in [] x i f s n h l = absurd (omega arith)
   free-in (e ∷ es) x zero f s n h l =
       rw (within-in (e .low) (e .high) x l (n .from h)) (free-here es (suc (e .high)) (s .2) (λ p. apart es f s p))

@@ -80,13 +80,15 @@ module _ (d : Entry) where
   none-drop (e ∷ es) zero s x h = none-under e es s x (h (omega arith))
   none-drop (e ∷ es) (suc j) s x h = none-drop es j (s .2) x (λ q. h (omega arith))
 
-  pub none-take : (es : List Entry) (i : ℕ) → Sound es → i ≤ length es → (x : ℕ) → ((k : ℕ) → suc k ≡ i → (getD es k d) .high < x) → valueAt (take i es) x ≡ none
+  pub none-take : (es : List Entry) (i : ℕ) → Sound es → i ≤ length es → (x : ℕ) → ((k : ℕ) → suc k ≡ i → (getD es k d) .high < x) → valueAt (take i es) x
+      ≡ none
   none-take es zero s le x h = refl
   none-take [] (suc i) s le x h = refl
   none-take (e ∷ es) (suc zero) s le x h = val-past e [] x (h zero refl)
   none-take (e ∷ []) (suc (suc i)) s le x h = absurd (omega arith)
   none-take (e ∷ f ∷ es) (suc (suc i)) s le x h =
-      val-past e (take (suc i) (f ∷ es)) x (omega (arith, rises (e ∷ f ∷ es) s zero (suc i) (omega arith) (omega arith), sound-ok (e ∷ f ∷ es) s (suc i) (omega arith), h (suc i) refl))
+      val-past e (take (suc i) (f ∷ es)) x
+      (omega (arith, rises (e ∷ f ∷ es) s zero (suc i) (omega arith) (omega arith), sound-ok (e ∷ f ∷ es) s (suc i) (omega arith), h (suc i) refl))
       ∙ none-take (f ∷ es) (suc i) (s .2) (omega arith) x (λ k p. h (suc k) (omega arith))
 
   -- THE SPLICE by index: items i .. j-1 replaced by n
@@ -101,7 +103,8 @@ module _ (d : Entry) where
       ap (λ (l : List Entry). valueAt l x) (sym (take-append-drop i es)) ∙ value-append (take i es) (drop i es) x
       ∙ ap (orElse (valueAt (take i es) x)) (none-drop es i s x h) ∙ orElse-none (valueAt (take i es) x)
 
-  pub cut-right : (es : List Entry) (j : ℕ) → Sound es → j ≤ length es → (x : ℕ) → ((k : ℕ) → suc k ≡ j → (getD es k d) .high < x) → valueAt es x ≡ valueAt (drop j es) x
+  pub cut-right : (es : List Entry) (j : ℕ) → Sound es → j ≤ length es → (x : ℕ) → ((k : ℕ) → suc k ≡ j → (getD es k d) .high < x) → valueAt es x
+      ≡ valueAt (drop j es) x
   cut-right es j s le x h =
       ap (λ (l : List Entry). valueAt l x) (sym (take-append-drop j es)) ∙ value-append (take j es) (drop j es) x
       ∙ ap (λ (o : Option Value). orElse o (valueAt (drop j es) x)) (none-take es j s le x h)

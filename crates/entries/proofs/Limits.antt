@@ -1,4 +1,4 @@
--- The limits of 01 on the number of ranges and entries, each from `start-bound` or `change-bound`.
+-- The limits on the number of ranges and entries, each from `start-bound` or `change-bound`.
 use mathlib.Core.Path.{_≡_, refl, sym, _∙_, ap, ap₂}
 use mathlib.Core.Logic.{_≢_}
 use mathlib.Core.Bool.{Bool, true, false}
@@ -14,7 +14,8 @@ use Rattle.entries.specs.Entries.{Value, Entry, orElse, valueAt, Sound, 
 use Rattle.entries.specs.Maps.{domain, keepIf, overlay, restriction}
 use Rattle.entries.proofs.Building.{built}
 use Rattle.entries.proofs.Operations.{endOf, value-ends, value-changes, combined}
-use Rattle.entries.proofs.Bounds.{StartsIn, lows, ends, length-lows, length-ends, prev, Down, Up, starts, stops, start-bound, bound, change-bound, still, length-cuts}
+use Rattle.entries.proofs.Bounds.{StartsIn, lows, ends, length-lows, length-ends, prev, Down, Up, starts, stops, start-bound, bound}
+use Rattle.entries.proofs.Bounds.{change-bound, still, length-cuts}
 use Rattle.entries.specs.Build.{with, put, andb, cutsOf, combine}
 use Rattle.entries.proofs.Put.{put-is, with-in, with-under, with-past}
 use Rattle.entries.proofs.Plain.{plain-marks}
@@ -65,22 +66,27 @@ abbrev setF : (Bool → Bool → Bool) → Option Value → Option Value → Opt
 setF g o p = mark (g (has o) (has p))
 
 module _ (a b : List Entry) (sa : Sound a) (sb : Sound b) where
+  -- [S14]
   pub union-bound : length (union a b) ≤ length a + length b
   unfolding union
   union-bound =
       let k = bound (setF orb) refl a b (lows a ++ lows b) (setOp orb a b) (combined (setF orb) refl a b) (λ x n.
       let m = notin-append x (lows a) (lows b) n in
-      mark-down _ _ (or-imp _ _ _ _ (down-imp (prev (valueAt a) x) (valueAt a x) (starts a sa x (m .0))) (down-imp (prev (valueAt b) x) (valueAt b x) (starts b sb x (m .1))))) in
+      mark-down _ _ (or-imp _ _ _ _ (down-imp (prev (valueAt a) x) (valueAt a x) (starts a sa x (m .0)))
+      (down-imp (prev (valueAt b) x) (valueAt b x) (starts b sb x (m .1))))) in
       omega (arith, length-append (lows a) (lows b), length-lows a, length-lows b)
 
+  -- [S14]
   pub difference-bound : length (difference a b) ≤ length a + length b
   unfolding difference
   difference-bound =
       let k = bound (setF lessb) refl a b (lows a ++ ends b) (setOp lessb a b) (combined (setF lessb) refl a b) (λ x n.
       let m = notin-append x (lows a) (ends b) n in
-      mark-down _ _ (less-imp _ _ _ _ (down-imp (prev (valueAt a) x) (valueAt a x) (starts a sa x (m .0))) (up-imp (prev (valueAt b) x) (valueAt b x) (stops b sb x (m .1))))) in
+      mark-down _ _ (less-imp _ _ _ _ (down-imp (prev (valueAt a) x) (valueAt a x) (starts a sa x (m .0)))
+      (up-imp (prev (valueAt b) x) (valueAt b x) (stops b sb x (m .1))))) in
       omega (arith, length-append (lows a) (ends b), length-lows a, length-ends b)
 
+  -- [S14]
   pub symmetric-bound : length (symmetricDifference a b) ≤ length a + length b
   unfolding symmetricDifference
   symmetric-bound =
@@ -109,6 +115,7 @@ module _ (a b : List Entry) (sa : Sound a) (sb : Sound b) where
   over-down (some a) p none p′ d c e v q = absurd (none≢some none a refl (c a refl))
 
   -- a is the upper, b the lower
+  -- [M4] at most twice the upper's count plus the lower's
   pub overlay-bound : length (overlay a b) ≤ 2 * length a + length b
   unfolding overlay
   overlay-bound =
@@ -138,7 +145,9 @@ module _ (e f : Entry) (a b : List Entry) (sa : Sound (e ∷ a)) (sb : Sound (f 
 
   plain : (x : ℕ) → NotIn x (lows (e ∷ a)) → NotIn x (lows (f ∷ b)) → P x
   unfolding P
-  plain x m n = mark-down _ _ (and-imp _ _ _ _ (down-imp (prev (valueAt (e ∷ a)) x) (valueAt (e ∷ a) x) (starts (e ∷ a) sa x m)) (down-imp (prev (valueAt (f ∷ b)) x) (valueAt (f ∷ b) x) (starts (f ∷ b) sb x n)))
+  plain x m n = mark-down _ _
+      (and-imp _ _ _ _ (down-imp (prev (valueAt (e ∷ a)) x) (valueAt (e ∷ a) x) (starts (e ∷ a) sa x m))
+      (down-imp (prev (valueAt (f ∷ b)) x) (valueAt (f ∷ b) x) (starts (f ∷ b) sb x n)))
 
   nothing : (o p : Option Value) (t : Bool) → Down (setF andb o p) (mark (andb t false))
   nothing o p true v q = absurd (none≢some none v refl q)
@@ -159,6 +168,7 @@ module _ (e f : Entry) (a b : List Entry) (sa : Sound (e ∷ a)) (sb : Sound (f 
       let w : valueAt (e ∷ a) x ≡ none = none-under e a sa x (omega arith) in
       rw w (nothing (prev (valueAt (e ∷ a)) x) (prev (valueAt (f ∷ b)) x) false)
 
+  -- [S14]
   pub intersection-bound : length (intersection (e ∷ a) (f ∷ b)) ≤ length (e ∷ a) + length (f ∷ b) - 1
   unfolding intersection P
   intersection-bound = go (decLe (e .low) (f .low))
@@ -168,12 +178,15 @@ module _ (e f : Entry) (a b : List Entry) (sa : Sound (e ∷ a)) (sb : Sound (f 
 
       go : Dec (e .low ≤ f .low) → length es ≤ length (e ∷ a) + length (f ∷ b) - 1
       go (yes h) =
-          let k = bound (setF andb) refl (e ∷ a) (f ∷ b) (lows a ++ lows (f ∷ b)) es (combined (setF andb) refl (e ∷ a) (f ∷ b)) (λ x n. first h x n (ℕ-discrete x (e .low))) in
+          let k = bound (setF andb) refl (e ∷ a) (f ∷ b) (lows a ++ lows (f ∷ b)) es (combined (setF andb) refl (e ∷ a) (f ∷ b))
+          (λ x n. first h x n (ℕ-discrete x (e .low))) in
           omega (arith, length-append (lows a) (lows (f ∷ b)), length-lows a, length-lows b)
       go (no h) =
-          let k = bound (setF andb) refl (e ∷ a) (f ∷ b) (lows (e ∷ a) ++ lows b) es (combined (setF andb) refl (e ∷ a) (f ∷ b)) (λ x n. second (omega arith) x n (ℕ-discrete x (f .low))) in
+          let k = bound (setF andb) refl (e ∷ a) (f ∷ b) (lows (e ∷ a) ++ lows b) es (combined (setF andb) refl (e ∷ a) (f ∷ b))
+          (λ x n. second (omega arith) x n (ℕ-discrete x (f .low))) in
           omega (arith, length-append (lows (e ∷ a)) (lows b), length-lows a, length-lows b)
 
+-- [S14]
 pub complement-bound : (a : List Entry) → Sound a → length (complement a) ≤ length a + 1
 unfolding imp
 complement-bound a sa =
@@ -194,7 +207,8 @@ complement-bound a sa =
 
 -- AN EDIT: o on a..b. Nothing starts but at a, right after b, or where it started before.
 module _ (es : List Entry) (a b : ℕ) (ab : a ≤ b) (o : Option Value) (s : Sound es) where
-  put-down : (x : ℕ) → NotIn x (lows es) → x ≢ a → (x ≡ suc b → Down (prev (with es a b o) x) (with es a b o x)) → Down (prev (with es a b o) x) (with es a b o x)
+  put-down : (x : ℕ) → NotIn x (lows es) → x ≢ a → (x ≡ suc b → Down (prev (with es a b o) x) (with es a b o x))
+      → Down (prev (with es a b o) x) (with es a b o x)
   put-down zero n p q = λ v r. starts es s zero n v (sym (with-under es a b o zero (omega arith)) ∙ r)
   put-down (suc y) n p q = go (decLe (suc y) b) (decLt (suc y) a) (ℕ-discrete (suc y) (suc b))
     where
@@ -205,12 +219,14 @@ module _ (es : List Entry) (a b : ℕ) (ab : a ≤ b) (o : Option Value) (s : So
       go (no k) (no h) (no e) v r = with-past es a b o y (omega arith) ∙ starts es s (suc y) n v (sym (with-past es a b o (suc y) (omega arith)) ∙ r)
 
   -- «Assign v to a..b .. at most n+2 entries after»
+  -- [M2] at most n+2 entries after an assignment
   pub put-bound : length (put es a b o) ≤ length es + 2
   put-bound =
-      let k = start-bound (with es a b o) (put es a b o) (a ∷ suc b ∷ lows es) (put-is es a b o) (λ x n. put-down x (n .1 .1) (n .0) (λ e. absurd (n .1 .0 e))) in
+      let k = start-bound (with es a b o) (put es a b o) (a ∷ suc b ∷ lows es) (put-is es a b o)
+      (λ x n. put-down x (n .1 .1) (n .0) (λ e. absurd (n .1 .0 e))) in
       omega (arith, length-lows es)
 
--- «Erase a..b; at most n+1», and «remove n+1»
+-- [S14, M3] at most n+1 items after a removal or an erasure
 pub erase-bound : (es : List Entry) (a b : ℕ) → a ≤ b → Sound es → length (put es a b none) ≤ length es + 1
 erase-bound es a b ab s =
     let k = start-bound (with es a b none) (put es a b none) (suc b ∷ lows es) (put-is es a b none) (λ x n. go x n (ℕ-discrete x a)) in
@@ -220,10 +236,11 @@ erase-bound es a b ab s =
     go x n (no p) = put-down es a b ab none s x (n .1) p (λ e. absurd (n .0 e))
     go x n (yes p) = λ v r. absurd (none≢some _ _ (with-in es a b none x (omega arith) (omega arith)) r)
 
--- «insert .. n+1»
+-- [S14] at most n+1 ranges after an insertion
 pub insert-bound : (es : List Entry) (a b : ℕ) → a ≤ b → Sound es → Plain es → length (put es a b (some [])) ≤ length es + 1
 insert-bound es a b ab s f =
-    let k = start-bound (with es a b (some [])) (put es a b (some [])) (a ∷ lows es) (put-is es a b (some [])) (λ x n. put-down es a b ab (some []) s x (n .1) (n .0) (λ e. joined x e)) in
+    let k = start-bound (with es a b (some [])) (put es a b (some [])) (a ∷ lows es) (put-is es a b (some []))
+    (λ x n. put-down es a b ab (some []) s x (n .1) (n .0) (λ e. joined x e)) in
     omega (arith, length-lows es)
   where
     joined : (x : ℕ) → x ≡ suc b → Down (prev (with es a b (some [])) x) (with es a b (some []) x)
@@ -235,8 +252,10 @@ insert-bound es a b ab s f =
 -- the set of numbers that have a value: no more ranges than entries
 pub domain-lists : (es : List Entry) → ListOf (λ x. mark (member es x)) (domain es)
 unfolding domain
-domain-lists es = built (λ x. mark (member es x)) (endOf es) (cutsOf es) (λ y h. ap (λ (o : Option Value). mark (has o)) (value-ends es y h)) (λ y n. ap (λ (o : Option Value). mark (has o)) (value-changes es y n))
+domain-lists es = built (λ x. mark (member es x)) (endOf es) (cutsOf es) (λ y h. ap (λ (o : Option Value). mark (has o)) (value-ends es y h))
+    (λ y n. ap (λ (o : Option Value). mark (has o)) (value-changes es y n))
 
+-- [M6]
 pub domain-bound : (es : List Entry) → Sound es → length (domain es) ≤ length es
 unfolding imp
 domain-bound es s =

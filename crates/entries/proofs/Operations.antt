@@ -31,8 +31,9 @@ pub value-ends : (es : List Entry) (y : ℕ) → endOf es ≤ y → valueAt es y
 value-ends [] y h = refl
 value-ends (e ∷ es) y h = rw (at-past e y (omega arith)) (value-ends es y (omega arith))
 
--- the law of `combine`
-pub combined : (f : Option Value → Option Value → Option Value) → f none none ≡ none → (a b : List Entry) → ListOf (λ x. f (valueAt a x) (valueAt b x)) (combine f a b)
+-- [M4, M5] the law of `combine`
+pub combined : (f : Option Value → Option Value → Option Value) → f none none ≡ none → (a b : List Entry)
+    → ListOf (λ x. f (valueAt a x) (valueAt b x)) (combine f a b)
 combined f z a b = built (λ x. f (valueAt a x) (valueAt b x)) (max (endOf a) (endOf b)) (cutsOf a ++ cutsOf b)
     (λ y h. ap₂ f (value-ends a y (omega arith)) (value-ends b y (omega arith)) ∙ z)
     (λ y n. let m = notin-append (suc y) (cutsOf a) (cutsOf b) n in ap₂ f (value-changes a y (m .0)) (value-changes b y (m .1)))

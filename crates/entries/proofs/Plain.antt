@@ -1,4 +1,4 @@
--- Lists that carry no value: sets. Their soundness is 01's rule for set blocks, and two that have the same members are equal.
+-- Lists that carry no value: sets. Their soundness is the rule for set blocks, and two that have the same members are equal.
 use mathlib.Core.Path.{_≡_, refl, sym, _∙_, ap}
 use mathlib.Core.Bool.{Bool, true, false}
 use mathlib.Core.Option.{Option, none, some}
@@ -11,12 +11,12 @@ use Rattle.entries.proofs.Sides.{Side, under, inside, past, side, val-u
 use Rattle.entries.specs.Sets.{Plain, has, mark, member}
 use Rattle.entries.proofs.Canon.{canonical, none≢some}
 
--- «each low but the first is at least the high before it plus 2»
+-- [B4] each low but the first is at least the high before it plus 2
 abbrev pub Gap : Entry → List Entry → Type 0
 Gap p [] = Unit {0}
 Gap p (q ∷ qs) = p .high + 2 ≤ q .low
 
--- «each low is at most its high, and each low but the first is at least the high before it plus 2»
+-- [B4] each low is at most its high, and each low but the first is at least the high before it plus 2
 abbrev pub SetSound : List Entry → Type 0
 SetSound [] = Unit {0}
 SetSound (e ∷ es) = (e .low ≤ e .high) × Gap e es × SetSound es
@@ -29,7 +29,7 @@ gap-of p (q ∷ qs) f l = go (decLt (suc (p .high)) (q .low))
     go (yes h) = omega arith
     go (no h) = absurd (l .1 (omega arith) (f .0 ∙ sym (f .1 .0)))
 
--- soundness of a list without values is 01's rule for set blocks, either way
+-- [B4] soundness of a list without values is the rule for set blocks, either way
 pub plain-sound : (es : List Entry) → Plain es → Sound es → SetSound es
 plain-sound [] f s = tt
 plain-sound (e ∷ es) f s = (s .0, gap-of e es f (s .1), plain-sound es (f .1) (s .2))
@@ -87,6 +87,6 @@ mark-has es f x = go (valueAt es x) (plain-marks es f x)
     go none m = refl
     go (some a) m = ap some (sym (m a refl))
 
--- two sound sets with the same members are one list
+-- [D3] two sound sets with the same members are one list
 pub set-canonical : (es fs : List Entry) → Sound es → Sound fs → Plain es → Plain fs → ((x : ℕ) → member es x ≡ member fs x) → es ≡ fs
 set-canonical es fs s t f g h = canonical es fs s t (λ x. has-path (valueAt es x) (valueAt fs x) (plain-marks es f x) (plain-marks fs g x) (h x))

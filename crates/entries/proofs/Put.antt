@@ -32,6 +32,7 @@ with-past es a b o x h = go (leb a x)
     go true = rw (lt-leb x b h)
     go false = refl
 
+-- [S9, S10, M2, M3, D2] an edit is o on a..b, and leaves all other numbers
 pub put-is : (es : List Entry) (a b : ℕ) (o : Option Value) → ListOf (with es a b o) (put es a b o)
 unfolding put
 put-is es a b o = built (with es a b o) (max (suc b) (endOf es)) (a ∷ suc b ∷ cutsOf es)
@@ -208,8 +209,11 @@ module _ (d : Entry) (es : List Entry) (s : Sound es) (i j lo hi : ℕ) (l : Lef
     names : (x : ℕ) → Side core x → valueAt whole x ≡ with es a b (some v) x
     names x (under h) = value-left (trimEnd lo (take i es)) core (trimStart hi (drop j es)) whole-sound x h ∙ left-under x h
         ∙ sym (with-under es a b (some v) x (omega (arith, p .below)))
-    names x (inside h k) = value-right (trimEnd lo (take i es)) core (trimStart hi (drop j es)) whole-sound x h ∙ val-in core (trimStart hi (drop j es)) x h k ∙ in-core x h k (side (entry a b v) x)
-    names x (past h) = value-right (trimEnd lo (take i es)) core (trimStart hi (drop j es)) whole-sound x (omega (arith, p .below, q .above)) ∙ val-past core (trimStart hi (drop j es)) x h ∙ right-past x h
+    names x (inside h k) =
+        value-right (trimEnd lo (take i es)) core (trimStart hi (drop j es)) whole-sound x h ∙ val-in core (trimStart hi (drop j es)) x h k
+        ∙ in-core x h k (side (entry a b v) x)
+    names x (past h) = value-right (trimEnd lo (take i es)) core (trimStart hi (drop j es)) whole-sound x (omega (arith, p .below, q .above))
+        ∙ val-past core (trimStart hi (drop j es)) x h ∙ right-past x h
         ∙ sym (with-past es a b (some v) x (omega (arith, q .above)))
 
     pub put-some : ListOf (with es a b (some v)) whole
@@ -223,16 +227,20 @@ module _ (d : Entry) (es : List Entry) (s : Sound es) (i j lo hi : ℕ) (l : Lef
     rest-sound : Sound rest
     rest-sound = sound-append (trimEnd lo (take i es)) (trimStart hi (drop j es)) left-sound right-sound
         (trim-seam d lo es i (trimStart hi (drop j es)) (l .within)
-        (λ k h. start-link d (cap lo (getD es k d)) hi es j (λ m. (omega (arith, l .lows k (omega arith)), λ e. absurd (omega (arith, l .lows k (omega arith)))))))
+        (λ k h. start-link d (cap lo (getD es k d)) hi es j
+        (λ m. (omega (arith, l .lows k (omega arith)), λ e. absurd (omega (arith, l .lows k (omega arith)))))))
 
     keep : (x : ℕ) → Side (entry lo hi (d .value)) x → valueAt rest x ≡ with es lo hi none x
     keep x (under h) = value-append (trimEnd lo (take i es)) (trimStart hi (drop j es)) x
-        ∙ ap (orElse (valueAt (trimEnd lo (take i es)) x)) (start-none hi (drop j es) right-sound x (omega arith)) ∙ orElse-none (valueAt (trimEnd lo (take i es)) x)
+        ∙ ap (orElse (valueAt (trimEnd lo (take i es)) x)) (start-none hi (drop j es) right-sound x (omega arith))
+        ∙ orElse-none (valueAt (trimEnd lo (take i es)) x)
         ∙ left-under x h ∙ sym (with-under es lo hi none x h)
     keep x (inside h k) = value-append (trimEnd lo (take i es)) (trimStart hi (drop j es)) x
-        ∙ ap₂ orElse (trim-none lo (take i es) (sound-take d es i s) (lows-take d es i lo (l .within) (l .lows)) x h) (start-none hi (drop j es) right-sound x k) ∙ sym (with-in es lo hi none x h k)
+        ∙ ap₂ orElse (trim-none lo (take i es) (sound-take d es i s) (lows-take d es i lo (l .within) (l .lows)) x h)
+        (start-none hi (drop j es) right-sound x k) ∙ sym (with-in es lo hi none x h k)
     keep x (past h) = value-append (trimEnd lo (take i es)) (trimStart hi (drop j es)) x
-        ∙ ap (λ (o : Option Value). orElse o (valueAt (trimStart hi (drop j es)) x)) (trim-none lo (take i es) (sound-take d es i s) (lows-take d es i lo (l .within) (l .lows)) x (omega arith))
+        ∙ ap (λ (o : Option Value). orElse o (valueAt (trimStart hi (drop j es)) x))
+        (trim-none lo (take i es) (sound-take d es i s) (lows-take d es i lo (l .within) (l .lows)) x (omega arith))
         ∙ right-past x h ∙ sym (with-past es lo hi none x h)
 
     pub put-none : ListOf (with es lo hi none) rest
@@ -240,10 +248,12 @@ module _ (d : Entry) (es : List Entry) (s : Sound es) (i j lo hi : ℕ) (l : Lef
 
 -- whether the value joins what ends right before a..b, and what begins right after
 module _ (d : Entry) (es : List Entry) (s : Sound es) where
-  pub cut-here : (i a : ℕ) (v : Value) → Left d es i a → ((k : ℕ) → suc k ≡ i → a ≤ suc ((getD es k d) .high) → (getD es k d) .value ≢ v) → JoinsLeft d es i a a v
+  pub cut-here : (i a : ℕ) (v : Value) → Left d es i a → ((k : ℕ) → suc k ≡ i → a ≤ suc ((getD es k d) .high) → (getD es k d) .value ≢ v)
+      → JoinsLeft d es i a a v
   cut-here i a v l n = record { left = l; below = omega arith; joined = λ x p q. absurd (omega arith); apart = n }
 
-  pub join-before : (i a : ℕ) (v : Value) → Left d es (suc i) a → a ≤ suc ((getD es i d) .high) → (getD es i d) .value ≡ v → JoinsLeft d es i ((getD es i d) .low) a v
+  pub join-before : (i a : ℕ) (v : Value) → Left d es (suc i) a → a ≤ suc ((getD es i d) .high) → (getD es i d) .value ≡ v
+      → JoinsLeft d es i ((getD es i d) .low) a v
   join-before i a v l h e =
       record {
         left = record {
@@ -264,7 +274,8 @@ module _ (d : Entry) (es : List Entry) (s : Sound es) where
   pub cut-there : (j b : ℕ) (v : Value) → Right d es j b → (j < length es → (getD es j d) .low ≤ suc b → (getD es j d) .value ≢ v) → JoinsRight d es j b b v
   cut-there j b v r n = record { right = r; above = omega arith; joined = λ x p q. absurd (omega arith); apart = n }
 
-  pub join-after : (j b : ℕ) (v : Value) → Right d es j b → j < length es → (getD es j d) .low ≤ suc b → (getD es j d) .value ≡ v → JoinsRight d es (suc j) ((getD es j d) .high) b v
+  pub join-after : (j b : ℕ) (v : Value) → Right d es j b → j < length es → (getD es j d) .low ≤ suc b → (getD es j d) .value ≡ v
+      → JoinsRight d es (suc j) ((getD es j d) .high) b v
   join-after j b v r m h e =
       record {
         right = record {

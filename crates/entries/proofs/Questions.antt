@@ -16,12 +16,13 @@ use Rattle.entries.specs.Sets.{has, member}
 use Rattle.entries.specs.Build.{pick, andb}
 use Rattle.entries.specs.Entries.{Value, Entry, Sound}
 
--- an entry by its index
+-- [S2] an entry by its index
 pub range-in : (es : List Entry) (i : ℕ) (d : Entry) → i < length es → rangeAt es i ≡ some (getD es i d)
 range-in [] i d h = absurd (omega arith)
 range-in (e ∷ es) zero d h = refl
 range-in (e ∷ es) (suc i) d h = range-in es i d (omega arith)
 
+-- [S2]
 pub range-out : (es : List Entry) (i : ℕ) → length es ≤ i → rangeAt es i ≡ none
 range-out [] i h = refl
 range-out (e ∷ es) zero h = absurd (omega arith)
@@ -95,15 +96,28 @@ count-sum : (r m k : ℕ → Bool) (N : ℕ) → ((x : ℕ) → bit (r x) ≡ bi
 count-sum r m k zero h = refl
 count-sum r m k (suc x) h = omega (arith, h x, count-sum r m k x h)
 
--- the size is the number of members
+-- [S3] the size is the number of members
 pub size-counts : (es : List Entry) (N : ℕ) → Sound es → Under N es → sizeOf es ≡ count (member es) N
 size-counts [] N s u = sym (count-none (member []) N (λ x p. refl))
 size-counts (e ∷ es) N s u =
-    omega (arith, count-sum (member (e ∷ es)) (within (e .low) (e .high)) (member es) N (λ x. apart x (side e x)), count-range (e .low) (e .high) N (s .0) (u .0), size-counts es N (s .2) (u .1))
+    omega (
+      arith,
+      count-sum (member (e ∷ es)) (within (e .low) (e .high)) (member es) N (λ x. apart x (side e x)),
+      count-range (e .low) (e .high) N (s .0)
+          (u .0),
+      size-counts es N (s .2) (u .1),
+    )
   where
     apart : (x : ℕ) → Side e x → bit (member (e ∷ es) x) ≡ bit (within (e .low) (e .high) x) + bit (member es x)
     apart x (under h) = omega (arith, ap (λ (o : Option Value). bit (has o)) (val-under e es x h), ap bit (within-under (e .low) (e .high) x h))
-    apart x (inside h k) = omega (arith, ap (λ (o : Option Value). bit (has o)) (val-in e es x h k), ap (λ (o : Option Value). bit (has o)) (none-upto e es (s .1) (s .2) x k), ap bit (within-in (e .low) (e .high) x h k))
+    apart x (inside h k) =
+        omega (
+          arith,
+          ap (λ (o : Option Value). bit (has o)) (val-in e es x h k),
+          ap (λ (o : Option Value). bit (has o))
+              (none-upto e es (s .1) (s .2) x k),
+          ap bit (within-in (e .low) (e .high) x h k),
+        )
     apart x (past h) = omega (arith, ap (λ (o : Option Value). bit (has o)) (val-past e es x h), ap bit (within-past (e .low) (e .high) x h))
 
 -- LEAST. y is the least number at or above x that a test accepts; or there is none.
@@ -116,6 +130,7 @@ abbrev pub LeastOf : (ℕ → Bool) → ℕ → Option ℕ → Type 0
 LeastOf m x (some y) = Least m x y
 LeastOf m x none = (z : ℕ) → x ≤ z → m z ≡ false
 
+-- [S4]
 pub least-member : (es : List Entry) (x : ℕ) → Sound es → LeastOf (member es) x (leastMember es x)
 least-member [] x s = λ z h. refl
 least-member (e ∷ es) x s = go (leb x (e .high)) refl (leastMember es x) (least-member es x (s .2))
@@ -135,6 +150,7 @@ least-member (e ∷ es) x s = go (leb x (e .high)) refl (leastMember es x) (leas
     }
     go false q o k = on (leb-false x (e .high) q) o k
 
+-- [S5]
 pub least-free : (es : List Entry) (x : ℕ) → Sound es → Least (λ z. not (member es z)) x (leastFree es x)
 least-free [] x s = record { from = omega arith; is = refl; least = λ z p q. absurd (omega arith) }
 least-free (e ∷ es) x s = go (side e x) (λ y. least-free es y (s .2))

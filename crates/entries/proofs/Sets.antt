@@ -38,21 +38,26 @@ set-of m es l = record {
 pub set-unique : (m : ℕ → Bool) (es fs : List Entry) → SetOf m es → SetOf m fs → es ≡ fs
 set-unique m es fs s t = set-canonical es fs (s .sound) (t .sound) (s .plain) (t .plain) (λ x. s .members x ∙ sym (t .members x))
 
+-- [S13, S15] for any two lists, the same one too
 pub setOp-is : (g : Bool → Bool → Bool) → g false false ≡ false → (a b : List Entry) → SetOf (λ x. g (member a x) (member b x)) (setOp g a b)
 setOp-is g z a b = set-of (λ x. g (member a x) (member b x)) (setOp g a b) (combined (λ o p. mark (g (has o) (has p))) (ap mark z) a b)
 
+-- [S11]
 pub union-is : (a b : List Entry) → SetOf (λ x. orb (member a x) (member b x)) (union a b)
 unfolding union
 union-is = setOp-is orb refl
 
+-- [S11]
 pub intersection-is : (a b : List Entry) → SetOf (λ x. andb (member a x) (member b x)) (intersection a b)
 unfolding intersection
 intersection-is = setOp-is andb refl
 
+-- [S11]
 pub difference-is : (a b : List Entry) → SetOf (λ x. lessb (member a x) (member b x)) (difference a b)
 unfolding difference
 difference-is = setOp-is lessb refl
 
+-- [S11]
 pub symmetric-is : (a b : List Entry) → SetOf (λ x. xorb (member a x) (member b x)) (symmetricDifference a b)
 unfolding symmetricDifference
 symmetric-is = setOp-is xorb refl
@@ -71,5 +76,6 @@ complement-lists a = built (λ x. mark (lessb (leb x M) (member a x))) (suc M) (
     changes : Changes (λ x. mark (lessb (leb x M) (member a x))) (suc M ∷ cutsOf a)
     changes y n = ap₂ (λ (t u : Bool). mark (lessb t u)) (same y (n .0) (decLt y M)) (ap has (value-changes a y (n .1)))
 
+-- [S12]
 pub complement-is : (a : List Entry) → SetOf (λ x. lessb (leb x M) (member a x)) (complement a)
 complement-is a = set-of (λ x. lessb (leb x M) (member a x)) (complement a) (complement-lists a)

@@ -37,7 +37,7 @@ at-past e x h = go (leb (e .low) x)
     go true = rw (lt-leb x (e .high) h)
     go false = refl
 
--- the clauses of `valueAt` by where x stands
+-- [B2, B6, S1, M1] the clauses of `valueAt` by where x stands
 pub val-in : (e : Entry) (es : List Entry) (x : ℕ) → e .low ≤ x → x ≤ e .high → valueAt (e ∷ es) x ≡ some (e .value)
 val-in e es x h k = rw (at-in e x h k)
 

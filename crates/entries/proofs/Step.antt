@@ -74,4 +74,5 @@ module _ (F : ℕ → Option Value) (x h : ℕ) (le : x ≤ h) where
 
       go : (y : ℕ) → y < suc h → Dec (y < x) → valueAt (a ++ e ∷ []) y ≡ F y
       go y p (yes r) = value-append a (e ∷ []) y ∙ ap (orElse (valueAt a y)) (alike y r (side l y)) ∙ sym (value-append a (l ∷ []) y) ∙ u .below y r
-      go y p (no r) = value-append a (e ∷ []) y ∙ rw (empty y (omega arith), val-in e [] y (omega (arith, ok)) (omega arith)) (sym (k y (omega arith) (omega arith)))
+      go y p (no r) = value-append a (e ∷ []) y
+          ∙ rw (empty y (omega arith), val-in e [] y (omega (arith, ok)) (omega arith)) (sym (k y (omega arith) (omega arith)))

@@ -53,7 +53,9 @@ module _ (d : Entry) where
   below-take [] a (suc i) s n = refl
   below-take (e ∷ es) a (suc i) s n =
       rw (lt-ltb (e .high) a (n .before zero (omega arith)))
-      (ap (λ (l : List Entry). e ∷ l) (below-take es a i (s .2) (record { within = omega (arith, n .within); before = λ k p. n .before (suc k) (omega arith); from = λ p. n .from (omega arith) })))
+      (ap (λ (l : List Entry). e ∷ l)
+      (below-take es a i (s .2)
+      (record { within = omega (arith, n .within); before = λ k p. n .before (suc k) (omega arith); from = λ p. n .from (omega arith) })))
 
   module _ (a b : ℕ) (ab : a ≤ b) where
     late : (es : List Entry) → Sound es → (zero < length es → b < (getD es zero d) .low) → meeting a b es ≡ []
@@ -69,9 +71,11 @@ module _ (d : Entry) where
         let g : a ≤ e .high = h (omega arith) in
         rw (meets-in a b e (n .before zero (omega arith)) g)
         (ap (λ (l : List Entry). e ∷ l)
-        (inner es j (s .2) (λ p. omega (arith, next-low e es a s g p, sound-ok d es (s .2) zero p)) (record { within = omega (arith, n .within); before = λ k p. n .before (suc k) (omega arith); from = λ p. n .from (omega arith) })))
+        (inner es j (s .2) (λ p. omega (arith, next-low e es a s g p, sound-ok d es (s .2) zero p))
+        (record { within = omega (arith, n .within); before = λ k p. n .before (suc k) (omega arith); from = λ p. n .from (omega arith) })))
 
     -- the window is the part between the two
+    -- [S6, M7] the entries that meet the window are those from i up to j
     pub meeting-part : (es : List Entry) (i j : ℕ) → Sound es → Passed es a i → Begun es b j → meeting a b es ≡ take (j - i) (drop i es)
     meeting-part es zero j s m n = let k : j - 0 ≡ j = omega arith in rw k (inner es j s (m .from) n)
     meeting-part [] (suc i) j s m n = absurd (omega (arith, m .within))

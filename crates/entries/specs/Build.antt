@@ -8,10 +8,12 @@ use Prim.Native.Nat.{ℕ, suc, _-_}
 use lib.Dec.{ltb, leb, eqb}
 use Rattle.entries.specs.Entries.{Value, Entry, entry, valueAt}
 
+-- the first of two where a test holds, else the second
 abbrev pub pick : {A : Type 0} → Bool → A → A → A
 pick true a b = a
 pick false a b = b
 
+-- both hold
 abbrev pub andb : Bool → Bool → Bool
 andb true b = b
 andb false b = false
@@ -28,6 +30,7 @@ abbrev pub insert : ℕ → List ℕ → List ℕ
 insert c [] = c ∷ []
 insert c (d ∷ ds) = pick (ltb c d) (c ∷ d ∷ ds) (pick (eqb c d) (d ∷ ds) (d ∷ insert c ds))
 
+-- the same for all of a list
 abbrev pub sort : List ℕ → List ℕ
 sort [] = []
 sort (c ∷ cs) = insert c (sort cs)
@@ -37,6 +40,7 @@ abbrev pub join : Bool → ℕ → ℕ → Value → Entry → List Entry → Li
 join true x h v e es = entry x (e .high) v ∷ es
 join false x h v e es = entry x h v ∷ e ∷ es
 
+-- the same where the segment has a value; where it has none it is left out
 abbrev pub glue : ℕ → ℕ → Option Value → List Entry → List Entry
 glue x h none es = es
 glue x h (some v) [] = entry x h v ∷ []
@@ -48,6 +52,7 @@ walk F [] = []
 walk F (c ∷ []) = []
 walk F (c ∷ d ∷ ds) = glue c (d - 1) (F c) (walk F (d ∷ ds))
 
+-- the list of F, which may change its value only at 0 and at the numbers cs
 abbrev pub build : (ℕ → Option Value) → List ℕ → List Entry
 build F cs = walk F (sort (0 ∷ cs))
 
@@ -64,6 +69,6 @@ combine f es fs = build (λ x. f (valueAt es x) (valueAt fs x)) (cutsOf es ++ cu
 abbrev pub with : List Entry → ℕ → ℕ → Option Value → ℕ → Option Value
 with es a b o x = pick (andb (leb a x) (leb x b)) o (valueAt es x)
 
--- Every edit in place: the list of es with o on a..b. Insert and assign put a value, remove and erase put none.
+-- [S9, S10, M2, M3] Every edit in place: the list of es with o on a..b. Insert and assign put a value, remove and erase put none.
 unfoldable pub put : List Entry → ℕ → ℕ → Option Value → List Entry
 put es a b o = build (with es a b o) (a ∷ suc b ∷ cutsOf es)

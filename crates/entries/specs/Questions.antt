@@ -1,4 +1,4 @@
--- The questions of 01 about a list of entries, each as its sentence says it.
+-- The questions about a list of entries, each as its requirement says it.
 use mathlib.Core.Bool.{Bool, true, false}
 use mathlib.Core.Option.{Option, none, some}
 use mathlib.Core.List.{List, [], _∷_}
@@ -7,23 +7,23 @@ use lib.Dec.{leb, ltb}
 use Rattle.entries.specs.Entries.{Entry}
 use Rattle.entries.specs.Build.{pick, andb}
 
--- «The range at index i, or none if i is at least n.»
+-- [S2] the range at index i, or none if i is at least n
 abbrev pub rangeAt : List Entry → ℕ → Option Entry
 rangeAt [] i = none
 rangeAt (e ∷ es) zero = some e
 rangeAt (e ∷ es) (suc i) = rangeAt es i
 
--- how many numbers the ranges hold (`size-counts` in proofs/Questions: as many as there are members)
+-- [S3] how many numbers the ranges hold (`size-counts` in proofs/Questions: as many as there are members)
 abbrev pub sizeOf : List Entry → ℕ
 sizeOf [] = 0
 sizeOf (e ∷ es) = (suc (e .high) - e .low) + sizeOf es
 
--- «The least member at or above x, or none» (`least-member`)
+-- [S4] the least member at or above x, or none (`least-member`)
 abbrev pub leastMember : List Entry → ℕ → Option ℕ
 leastMember [] x = none
 leastMember (e ∷ es) x = pick (leb x (e .high)) (some (max x (e .low))) (leastMember es x)
 
--- the least number at or above x that is no member; it may be above M (`least-free`)
+-- [S5] the least number at or above x that is no member; it may be above M (`least-free`)
 abbrev pub leastFree : List Entry → ℕ → ℕ
 leastFree [] x = x
 leastFree (e ∷ es) x = leastFree es (pick (andb (leb (e .low) x) (leb x (e .high))) (suc (e .high)) x)
@@ -33,7 +33,7 @@ abbrev pub filter : (Entry → Bool) → List Entry → List Entry
 filter keep [] = []
 filter keep (e ∷ es) = pick (keep e) (e ∷ filter keep es) (filter keep es)
 
--- «all ranges that share a number with a..b»
+-- [S6] all ranges that share a number with a..b
 abbrev pub meeting : ℕ → ℕ → List Entry → List Entry
 meeting a b = filter (λ e. andb (leb (e .low) b) (leb a (e .high)))
 

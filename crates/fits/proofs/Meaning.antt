@@ -16,11 +16,11 @@ use Rattle.fits.proofs.Runs.{all, run-around, listed-gap, gap-listed}
 use Rattle.fits.proofs.Asking.{atPlace, fit-asked}
 use Rattle.fits.proofs.Chosen.{Chose, First, Shortest, chose-first, chose-shortest}
 
--- `gaps` ARE EXACTLY THE GAPS.
+-- [F1] `gaps` are exactly the gaps
 pub gaps-are : (a b : ℕ) (es : List Entry) (l h : ℕ) → (In l h (gaps a b es) → IsGap a b es l h) × (IsGap a b es l h → In l h (gaps a b es))
 gaps-are a b es l h = (listed-gap a b es l h, gap-listed a b es l h)
 
--- FIRST FIT, for any allowed starts
+-- First fit, for any allowed starts
 pub first-at : (up : ℕ → ℕ) (Allowed : ℕ → Type 0) → LeastUp up Allowed → (a b k : ℕ) (es : List Entry) → 1 ≤ k
     → FirstAt Allowed a b k es (placeIn up firstGap a b k es)
 unfolding placeIn
@@ -50,7 +50,7 @@ first-at up Allowed u a b k es one =
             let r = run-around a b es t (t + k - 1) q in
             omega (arith, c .least (r .l) (r .h) (r .listed) (fitting t ok r), u .least (r .l) t (r .low) ok)
 
--- BEST FIT, for any allowed starts
+-- Best fit, for any allowed starts
 pub best-at : (up : ℕ → ℕ) (Allowed : ℕ → Type 0) → LeastUp up Allowed → (a b k : ℕ) (es : List Entry) → 1 ≤ k
     → BestAt Allowed a b k es (placeIn up shortestGap a b k es)
 unfolding placeIn
@@ -72,10 +72,11 @@ best-at up Allowed u a b k es one =
       lowest = λ l h t i q e. c .lowest l h (gap-listed a b es l h i) (fitting l h t q) e;
     }
 
--- TODAY every start is allowed.
+-- Today every start is allowed.
 any : LeastUp anywhere (λ s. Unit {0})
 any = record { above = λ s. omega arith; allowed = λ s. tt; least = λ s t p q. p }
 
+-- [F2]
 pub first-fit : (a b k : ℕ) (es : List Entry) → 1 ≤ k → FirstOf a b k es (firstFit a b k es)
 first-fit a b k es one = go (firstFit a b k es) (first-at anywhere (λ s. Unit {0}) any a b k es one)
   where
@@ -83,6 +84,7 @@ first-fit a b k es one = go (firstFit a b k es) (first-at anywhere (λ s. Unit {
     go none n = λ t q. n t tt q
     go (some s) c = record { run = c .run; least = λ t q. c .least t tt q }
 
+-- [F3]
 pub best-fit : (a b k : ℕ) (es : List Entry) → 1 ≤ k → BestOf a b k es (bestFit a b k es)
 best-fit a b k es one = go (bestFit a b k es) (best-at anywhere (λ s. Unit {0}) any a b k es one)
   where
@@ -103,7 +105,7 @@ best-fit a b k es one = go (bestFit a b k es) (best-at anywhere (λ s. Unit {0})
           lowest = λ l h i m q. omega (arith, e, c .lowest l h l i (run l h m) (omega (arith, e)));
         }
 
--- THE MEANING DETERMINES THE ANSWER: so it is none exactly if there is no such s, and no such gap.
+-- [F2, F3] the meaning determines the answer: so it is none exactly if there is no such s, and no such gap
 pub first-only : (a b k : ℕ) (es : List Entry) (o p : Option ℕ) → FirstOf a b k es o → FirstOf a b k es p → o ≡ p
 first-only a b k es none none f g = refl
 first-only a b k es none (some t) f g = absurd (f t (g .run))
@@ -137,7 +139,7 @@ module _ (up : ℕ → ℕ) (a b k : ℕ) (es : List Entry) where
       go [] q = refl
       go (g ∷ gs) q = let z : _≡_ {A = ℕ} 0 1 = cc in absurd (omega arith)
 
--- «7 NoGap: no free run as asked exists in the window», exactly, of both questions where nothing is refused before.
+-- [R7] refused with 7 exactly if no free run as asked for exists in the window, of both questions where nothing is refused before
 module _ (w : List ℕ) (a b k : ℕ) (sound : SoundBlock setLayout w) (order : a ≤ b) (one : 1 ≤ k) where
   abbrev NoRun : Type 0
   NoRun = (t : ℕ) → FreeRun a b (entriesOf 2 w) t (t + k - 1) → ⊥
@@ -158,9 +160,11 @@ module _ (w : List ℕ) (a b k : ℕ) (sound : SoundBlock setLayout w) (order : 
   run-none : NoRun → firstFit a b k (entriesOf 2 w) ≡ none
   run-none n = first-only a b k (entriesOf 2 w) (firstFit a b k (entriesOf 2 w)) none (first-fit a b k (entriesOf 2 w) one) n
 
+  -- [R7]
   pub first-no-gap : (firstFitCall w a b k ≡ refuse 7 0 [] → NoRun) × (NoRun → firstFitCall w a b k ≡ refuse 7 0 [])
   first-no-gap = (λ e. none-run (no-place firstFit e), λ n. place-no firstFit (run-none n))
 
+  -- [R7]
   pub best-no-gap : (bestFitCall w a b k ≡ refuse 7 0 [] → NoRun) × (NoRun → bestFitCall w a b k ≡ refuse 7 0 [])
   best-no-gap = (
     λ e. none-run (best-none anywhere a b k (entriesOf 2 w) (no-place bestFit e)),

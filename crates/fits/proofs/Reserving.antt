@@ -47,7 +47,7 @@ module _ (fit : ℕ → ℕ → ℕ → List Entry → Option ℕ) (w : List ℕ
       go (some t) z h = let i : t ≡ s = cc in ap some i
 
   -- a reservation at the place that the question answers
-  reserved-at : (s : ℕ) → Chosen s → reserveCall fit w a b k ≡ reserving w s k
+  pub reserved-at : (s : ℕ) → Chosen s → reserveCall fit w a b k ≡ reserving w s k
   unfolding reserveCall
   reserved-at s c =
       clear-turn (askRefusals w a b k) (w ∷ []) (rest (fit a b k (entriesOf 2 w))) (c .clear) ∙ ap rest (c .place)
@@ -57,6 +57,7 @@ module _ (fit : ℕ → ℕ → ℕ → List Entry → Option ℕ) (w : List ℕ
 
   -- A RESERVATION IS THE QUESTION FOLLOWED BY THE INSERTION. Where the question answers s it inserts s to s+k-1, with that call's block
   -- and refusal, and answers s; else it refuses as the question does, and changes nothing.
+  -- [F4, F5] the reservation of a place that the question answers is the insertion there, which judges room for that place only
   pub reserve-inserts : (s : ℕ) → fitCall fit w a b k ≡ answered s
       → reserveCall fit w a b k ≡ answering s (editCall setLayout w s (s + k - 1) (some []))
   unfolding editCall
@@ -72,6 +73,7 @@ module _ (fit : ℕ → ℕ → ℕ → List Entry → Option ℕ) (w : List ℕ
       go zero l = refl
       go (suc n) l = refl
 
+  -- [F4]
   pub reserve-refuses : (n p : ℕ) → fitCall fit w a b k ≡ outcome (refused n p) [] → reserveCall fit w a b k ≡ outcome (refused n p) (w ∷ [])
   unfolding fitCall reserveCall
   reserve-refuses n p e = go (askRefusals w a b k) (fit a b k (entriesOf 2 w)) e

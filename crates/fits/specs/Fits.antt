@@ -10,7 +10,7 @@ use Rattle.entries.specs.Build.{pick}
 use Rattle.entries.specs.Sets.{difference}
 use Rattle.entries.specs.Questions.{filter}
 
--- «A gap is a run of non-members in the window that can't be made longer there»: the ranges of the window a..b without the members
+-- [F1] the runs of non-members in the window that cannot be made longer there: the ranges of the window a..b without the members
 -- (`gaps-are` in proofs/Meaning: these are exactly those runs)
 unfoldable pub gaps : ℕ → ℕ → List Entry → List Entry
 gaps a b es = difference (entry a b [] ∷ []) es
@@ -28,11 +28,12 @@ abbrev pub firstGap : List Entry → Option Entry
 firstGap [] = none
 firstGap (g ∷ gs) = some g
 
--- Best fit takes «the shortest gap», «the lowest such gap on a tie».
+-- the shorter of two gaps, the first on a tie
 abbrev pub shorter : Entry → Option Entry → Entry
 shorter g none = g
 shorter g (some h) = pick (leb (numbers g) (numbers h)) g h
 
+-- Best fit takes the shortest gap, the lowest such gap on a tie.
 abbrev pub shortestGap : List Entry → Option Entry
 shortestGap [] = none
 shortestGap (g ∷ gs) = some (shorter g (shortestGap gs))
@@ -50,10 +51,10 @@ placeIn up choose a b k es = startIn up (choose (filter (fits up k) (gaps a b es
 abbrev pub anywhere : ℕ → ℕ
 anywhere s = s
 
--- «First fit: the least s such that s to s+k-1 all lie in the window and are non-members.» (`first-fit` in proofs/Meaning)
+-- [F2] the least s such that s to s+k-1 all lie in the window and are non-members (`first-fit` in proofs/Meaning)
 abbrev pub firstFit : ℕ → ℕ → ℕ → List Entry → Option ℕ
 firstFit = placeIn anywhere firstGap
 
--- «Best fit: the low end of the shortest gap of at least k numbers, the lowest such gap on a tie.» (`best-fit` in proofs/Meaning)
+-- [F3] the low end of the shortest gap of at least k numbers, the lowest such gap on a tie (`best-fit` in proofs/Meaning)
 abbrev pub bestFit : ℕ → ℕ → ℕ → List Entry → Option ℕ
 bestFit = placeIn anywhere shortestGap

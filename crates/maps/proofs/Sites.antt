@@ -20,7 +20,8 @@ use Rattle.searches.specs.Parts.{part, noPart, wordsAt, IsPart}
 use Rattle.searches.specs.Calls.{entryPart}
 use Rattle.searches.specs.Steps.{EntryOf}
 use Rattle.maps.specs.declared.Deciding.{Deciding}
-use Rattle.maps.specs.Calls.{mapEntries, partIn, atPosition, deciding, decidingSays, siteRefusals, siteRefusalCall, siteOverFactoryCall, siteOverFactoryAtCall}
+use Rattle.maps.specs.Calls.{mapEntries, partIn, atPosition, deciding, decidingSays, siteRefusals, siteRefusalCall, siteOverFactoryCall}
+use Rattle.maps.specs.Calls.{siteOverFactoryAtCall}
 use Rattle.maps.specs.Steps.{DecidingOf}
 
 -- by whether the site map has a value
@@ -93,7 +94,7 @@ decidingIn (outcome (refused n p) lent) = partIn 0 noPart
 abbrev pub wordsOfTwo : List ℕ → List ℕ → Deciding → List ℕ
 wordsOfTwo site factory d = wordsAt (atPosition (d .position) site factory) (part (d .place) (d .length))
 
--- the offset, the length and the position name the words that are handed back
+-- [M8] the offset, the length and the position name the words that are handed back
 pub part-of-deciding : (site factory : List ℕ) (x : ℕ)
     → wordsOfTwo site factory (decidingIn (siteOverFactoryAtCall site factory x)) ≡ wordsOfTwo site factory (siteOverFactoryCall site factory x)
 unfolding siteOverFactoryAtCall siteOverFactoryCall
@@ -113,7 +114,7 @@ part-of-deciding site factory x = go (verdict mapLayout site) (verdict mapLayout
     go zero (suc u) = refl
     go (suc v) u = refl
 
--- the companion question answers the same refusals: C needs no call for it
+-- [R20] the companion question answers the same refusals: C needs no call for it
 pub deciding-companion : (site factory : List ℕ) (x : ℕ) → bare (siteOverFactoryAtCall site factory x) ≡ siteRefusalCall site factory
 unfolding siteOverFactoryAtCall siteRefusalCall
 deciding-companion site factory x =

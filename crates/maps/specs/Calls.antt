@@ -27,46 +27,47 @@ abbrev pub worth : Option Value → Answer
 worth (some v) = given v
 worth none = given []
 
--- «Look up x: its value, or none.»
+-- [M1] look up x: its value, or none
 unfoldable pub lookUpCall : List ℕ → ℕ → Outcome
 lookUpCall w x = inTurn (input 0 mapLayout w ∷ []) [] (outcome (worth (valueAt (mapEntries w) x)) [])
 
--- «Assign v to a..b, replacing what was there»; «Erase a..b»
+-- [M2] assign v to a..b, replacing what was there
 abbrev pub assignCall : List ℕ → ℕ → ℕ → ℕ → Outcome
 assignCall w a b v = editCall mapLayout w a b (some (v ∷ []))
 
--- «Erase a..b»
+-- [M3] erase a..b
 abbrev pub eraseCall : List ℕ → ℕ → ℕ → Outcome
 eraseCall w a b = editCall mapLayout w a b none
 
--- «Into an output: overlay (upper first, then lower ..), restriction of a map to a set (map first), and the set of numbers that have a value.»
+-- [M4] overlay; blocks: upper, lower, output
 unfoldable pub overlayCall : List ℕ → List ℕ → List ℕ → Outcome
 overlayCall upper lower o = fromTwo mapLayout mapLayout mapLayout overlay upper lower o
 
--- «restriction of a map to a set (map first)»
+-- [M5] restriction of a map to a set; blocks: map, set, output
 unfoldable pub restrictionCall : List ℕ → List ℕ → List ℕ → Outcome
 restrictionCall map set o = fromTwo mapLayout setLayout mapLayout restriction map set o
 
--- «the set of numbers that have a value»
+-- [M6] the set of numbers that have a value
 unfoldable pub domainCall : List ℕ → List ℕ → Outcome
 domainCall map o = fromOne mapLayout setLayout domain map o
 
--- «A window is answered as for sets, three words an entry.»
+-- [M7] a window is answered as for sets, three words an entry
 abbrev pub mapWindowCall : List ℕ → ℕ → ℕ → Part
 mapWindowCall w a b = windowCall mapLayout w a b
 
--- the same part as its place and its length
+-- [M7] the same part as its place and its length
 abbrev pub mapWindowAtCall : List ℕ → ℕ → ℕ → Outcome
 mapWindowAtCall w a b = windowAtCall mapLayout w a b
 
--- «a companion question on the same inputs gives the refusal, or says that there is none»
+-- [R20] its companion: the refusal, or that there is none
 abbrev pub mapWindowRefusalCall : List ℕ → ℕ → ℕ → Outcome
 mapWindowRefusalCall w a b = windowRefusalCall mapLayout w a b
 
--- 1, 2, 3 of the site map at 0, then of the factory map at 1
+-- [R16, R17] 1, 2, 3 of the site map at 0, then of the factory map at 1
 abbrev pub siteRefusals : List ℕ → List ℕ → List Finding
 siteRefusals site factory = input 0 mapLayout site ∷ input 1 mapLayout factory ∷ []
 
+-- [R20] the companion of site over factory: the refusal, or that there is none
 unfoldable pub siteRefusalCall : List ℕ → List ℕ → Outcome
 siteRefusalCall site factory = inTurn (siteRefusals site factory) [] (outcome (given []) [])
 
@@ -79,13 +80,12 @@ abbrev pub atPosition : {A : Type 0} → ℕ → A → A → A
 atPosition zero site factory = site
 atPosition (suc p) site factory = factory
 
--- «the site map's if x has a value there, else the factory map's, else an empty part»
+-- [M8] the site map's entry if x has a value there, else the factory map's, else an empty part
 abbrev pub deciding : List ℕ → List ℕ → ℕ → Deciding
 deciding site factory x =
     pick (has (valueAt (mapEntries site) x)) (partIn 0 (entryPart (mapLayout .width) site x)) (partIn 1 (entryPart (mapLayout .width) factory x))
 
--- «Two maps, site over factory, and a number x: the answer is the three words of the deciding entry, as a part of whichever map holds
--- it»; refused, the empty part at the site map's front
+-- [M8, R20] the three words of the deciding entry, as a part of whichever map holds it; refused, the empty part at the site map's front
 unfoldable pub siteOverFactoryCall : List ℕ → List ℕ → ℕ → Deciding
 siteOverFactoryCall site factory x =
     handed (inTurn (siteRefusals site factory) [] (outcome (given []) [])) (deciding site factory x) (partIn 0 noPart)
@@ -94,6 +94,6 @@ siteOverFactoryCall site factory x =
 abbrev pub decidingSays : Deciding → Answer
 decidingSays d = pick (eqb (d .length) 0) (given []) (given (d .place ∷ d .length ∷ d .position ∷ []))
 
--- the same, for a host that is handed no slice (`part-of-deciding` in proofs/Sites)
+-- [M8] the same, for a host that is handed no slice (`part-of-deciding` in proofs/Sites)
 unfoldable pub siteOverFactoryAtCall : List ℕ → List ℕ → ℕ → Outcome
 siteOverFactoryAtCall site factory x = inTurn (siteRefusals site factory) [] (outcome (decidingSays (deciding site factory x)) [])

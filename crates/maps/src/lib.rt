@@ -88,7 +88,7 @@ pub fn domain(map: &[u64], out: &mut [u64]) -> Judged
     operations::from_one(map, sweeps::IN_FIRST, blocks::MAP, blocks::SET, out)
 }
 
-// The part of the block that holds the entries which share a number with a..b; refused, a part of no words.
+// [G2] The part of the block that holds the entries which share a number with a..b; refused, a part of no words.
 pub fn window(block: &[u64], a: u64, b: u64) -> &[u64]
     ensures { λ r. ⌜ IsPart (block .entry) r (mapWindowCall (now (block .entry)) a b) ⌝ }
 {
@@ -145,10 +145,11 @@ pub fn site_over_factory_refusal(site: &[u64], factory: &[u64]) -> Judged
     answers::judged_of(found.number, found.place)
 }
 
-// The three words of the entry that decides x: the site map's where it has a value, else the factory map's, else a part of no words.
+// [G1] The three words of the entry that decides x: the site map's where it has a value, else the factory map's, else a part of no words.
 pub fn site_over_factory<'a>(site: &'a [u64], factory: &'a [u64], x: u64) -> &'a [u64]
     ensures { λ r. ⌜ IsPart (atPosition (siteOverFactoryCall (now (site .entry)) (now (factory .entry)) x .position) (site .entry) (factory .entry)) r
-        (part (siteOverFactoryCall (now (site .entry)) (now (factory .entry)) x .place) (siteOverFactoryCall (now (site .entry)) (now (factory .entry)) x .length)) ⌝ }
+        (part (siteOverFactoryCall (now (site .entry)) (now (factory .entry)) x .place)
+        (siteOverFactoryCall (now (site .entry)) (now (factory .entry)) x .length)) ⌝ }
 {
     let found = blocks::judge_two(site, blocks::MAP, factory, blocks::MAP, 0);
     if found.number != 0 {

@@ -82,7 +82,7 @@ pub entries-shaped : (l : Layout) (w : List ℕ) → 2 ≤ l .width → SoundBlo
 entries-shaped l w two b =
     items-shaped (l .width) two (getD w 0 0) (drop 1 w) (omega (arith, room-words l (length w) (getD w 0 0) (b .some) (b .fits), length-drop 1 w))
 
--- the layouts of 01 are small
+-- the layouts of sets and of maps are small
 pub set-small : Small setLayout
 set-small = record { two = omega arith; four = omega arith; few = omega arith }
 

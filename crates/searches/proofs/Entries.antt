@@ -25,7 +25,7 @@ no-value none e = refl
 no-value (some v) e = absurd (true≢false e)
 
 module _ {l : Layout} {w : List ℕ} (two : 2 ≤ l .width) (b : SoundBlock l w) {x : ℕ} {r : Spot} (g : SpotOf l w x r) where
-  -- no entry holds x
+  -- [M1, M8] no entry holds x
   pub entry-out : r .inside ≡ false → EntryOf l w x (part 0 0)
   unfolding entryPart
   entry-out t = record {
@@ -35,7 +35,7 @@ module _ {l : Layout} {w : List ℕ} (two : 2 ≤ l .width) (b : SoundBlock l w)
     value = λ n. absurd (n refl);
   }
 
-  -- the item behind those below it does
+  -- [M1, M8] the item behind those below it does
   pub entry-in : r .inside ≡ true → EntryOf l w x (part (l .width * r .below + 1) (l .width))
   unfolding entryPart
   entry-in t =

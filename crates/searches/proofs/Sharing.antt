@@ -132,7 +132,7 @@ pub some-member : (l : List Entry) (x : ℕ) → member l x ≡ true → ltb 0 (
 some-member [] x q = absurd (true≢false (sym q))
 some-member (e ∷ l) x q = lt-ltb 0 (suc (length l)) (omega arith)
 
--- the walk decides whether there is an intersection
+-- [R14, U1] the walk decides whether there is an intersection
 pub cross-share : (es fs : List Entry) → Sound es → Sound fs → crossb es fs ≡ shareb es fs
 unfolding shareb
 cross-share es fs d g = go (crossb es fs) refl

@@ -121,11 +121,14 @@ find ws s off (suc n) x = go (find ws s off n x) (decLt (getD ws (s * n + off) 0
         split (yes p) d =
             record { index = f .index; first = record { within = omega arith; before = f .first .before; from = λ h. f .first .from p } }
         split (no p) (yes q) =
-            record { index = suc n; first = record { within = omega arith; before = λ k h. last k h (decLt k n) (omega arith) q; from = λ h. absurd (omega arith) } }
+            record {
+              index = suc n;
+              first = record { within = omega arith; before = λ k h. last k h (decLt k n) (omega arith) q; from = λ h. absurd (omega arith) };
+            }
         split (no p) (no q) =
             record { index = n; first = record { within = omega arith; before = λ k h. f .first .before k (omega arith); from = λ h. omega arith } }
 
--- THE WINDOW HOLDS exactly the words of the items that share a number with a..b, in order
+-- [S6, M7] the window holds exactly the words of the items that share a number with a..b, in order
 pub window-words : {l : Layout} {w : List ℕ} {a b : ℕ} → Windowed l w a b
     → wordsAt w (windowPart (l .width) w a b) ≡ wordsOf (meeting a b (entriesOf (l .width) w))
 window-words {l} {w} {a} {b} g =
@@ -160,7 +163,7 @@ said : (p : Part) → (t : Bool) → eqb (p .length) 0 ≡ t → partIn (outcome
 said p true e = refl
 said p false e = refl
 
--- the offset and the length name the words that are handed back
+-- [S6, M7] the offset and the length name the words that are handed back
 pub part-of-window : (l : Layout) (w : List ℕ) (a b : ℕ) → wordsAt w (partIn (windowAtCall l w a b)) ≡ wordsAt w (windowCall l w a b)
 unfolding windowAtCall windowCall
 part-of-window l w a b = go (verdict l w) (applies (ltb b a) 4)
@@ -172,7 +175,8 @@ part-of-window l w a b = go (verdict l w) (applies (ltb b a) 4)
     empty true e = ap (λ (n : ℕ). take n (drop (p .place) w)) (sym (eqb-true (p .length) 0 e))
     empty false e = refl
 
-    go : (v u : ℕ) → wordsAt w (partIn (judged v 0 [] (judged u 0 [] (outcome (partSays p) [])))) ≡ wordsAt w (handed (judged v 0 [] (judged u 0 [] (outcome (given []) []))) p noPart)
+    go : (v u : ℕ) → wordsAt w (partIn (judged v 0 [] (judged u 0 [] (outcome (partSays p) []))))
+        ≡ wordsAt w (handed (judged v 0 [] (judged u 0 [] (outcome (given []) []))) p noPart)
     go zero zero = ap (wordsAt w) (said p (eqb (p .length) 0) refl) ∙ empty (eqb (p .length) 0) refl
     go zero (suc u) = refl
     go (suc v) u = refl
@@ -181,7 +185,7 @@ part-of-window l w a b = go (verdict l w) (applies (ltb b a) 4)
 pub is-part : {w r : RefT (List ℕ)} {p q : Part} → IsPart w r p → p ≡ q → IsPart w r q
 is-part {w} {r} g e = subst (IsPart w r) e g
 
--- no second part satisfies a contract: it lies at one place, and has its words
+-- [D8] no second part satisfies a contract: it lies at one place, and has its words
 pub part-only : {w r q : RefT (List ℕ)} {p : Part} → IsPart w r p → IsPart w q p → (r .ptr .0 ≡ q .ptr .0) × (r .ptr .1 ≡ q .ptr .1) × (now r ≡ now q)
 part-only g h = (g .block ∙ sym (h .block), g .offset ∙ sym (h .offset), g .words ∙ sym (h .words))
 
@@ -190,7 +194,8 @@ module _ (l : Layout) (w : List ℕ) (a b : ℕ) {p : Part} (g : PartOf (l .widt
   same : p ≡ windowPart (l .width) w a b
   same = ap₂ part (g .place) (g .words)
 
-  said-as : (t : Bool) → eqb (p .length) 0 ≡ t → outcome (pick t (given []) (given (p .place ∷ p .length ∷ []))) [] ≡ outcome (partSays (windowPart (l .width) w a b)) []
+  said-as : (t : Bool) → eqb (p .length) 0 ≡ t → outcome (pick t (given []) (given (p .place ∷ p .length ∷ []))) []
+      ≡ outcome (partSays (windowPart (l .width) w a b)) []
   said-as t e = ap (λ (u : Bool). outcome (pick u (given []) (given (p .place ∷ p .length ∷ []))) []) (sym e) ∙ ap (λ (q : Part). outcome (partSays q) []) same
 
   pub part-empty : p .length ≡ 0 → outcome (given []) [] ≡ outcome (partSays (windowPart (l .width) w a b)) []
@@ -199,7 +204,7 @@ module _ (l : Layout) (w : List ℕ) (a b : ℕ) {p : Part} (g : PartOf (l .widt
   pub part-some : (p .length ≡ 0 → ⊥) → outcome (given (p .place ∷ p .length ∷ [])) [] ≡ outcome (partSays (windowPart (l .width) w a b)) []
   part-some n = said-as false (ne-eqb (p .length) 0 n)
 
--- the companion question answers the same refusals: C needs no call for it
+-- [R20] the companion question answers the same refusals: C needs no call for it
 pub window-companion : (l : Layout) (w : List ℕ) (a b : ℕ) → bare (windowAtCall l w a b) ≡ windowRefusalCall l w a b
 unfolding windowAtCall windowRefusalCall
 window-companion l w a b =

@@ -17,13 +17,13 @@ part place words = record { place = place; length = words }
 abbrev pub wordsAt : List ℕ → Part → List ℕ
 wordsAt w p = take (p .length) (drop (p .place) w)
 
--- r is that part of the caller's own block w: it lies in that block, behind as many words of eight bytes, and it has those words
+-- [S6, M7, M8] r is that part of the caller's own block w: it lies in that block, behind as many words of eight bytes, and it has those words
 pub record IsPart (w r : RefT (List ℕ)) (p : Part) : Type 0 where
   pub block : r .ptr .0 ≡ w .ptr .0
   pub offset : r .ptr .1 ≡ p .place * 8 + w .ptr .1
   pub words : now r ≡ wordsAt (now w) p
 
--- «refused, they hand back a part of length 0», «else an empty part»: no words, at the block's front
+-- [R20] refused, and where nothing is found: no words, at the block's front
 abbrev pub noPart : Part
 noPart = part 0 0
 

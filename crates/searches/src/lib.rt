@@ -144,7 +144,7 @@ pub fn part_at(block: &[u64], layout: Layout, a: u64, b: u64) -> Part
     }
 }
 
-// The part of a sound block with the items that share a number with a..b.
+// [G2] The part of a sound block with the items that share a number with a..b.
 fn meeting(block: &[u64], layout: Layout, a: u64, b: u64) -> &[u64]
     requires { ⌜ Windowed layout (now block) a b ⌝ }
     ensures { λ r. ⌜ IsPart (block .entry) r (windowPart (layout .width) (now (block .entry)) a b) ⌝ }
@@ -155,7 +155,7 @@ fn meeting(block: &[u64], layout: Layout, a: u64, b: u64) -> &[u64]
     &block[from..to]
 }
 
-// The part of the block with the items that share a number with a..b; refused, the part of no words at its front.
+// [G2] The part of the block with the items that share a number with a..b; refused, the part of no words at its front.
 pub fn window(block: &[u64], layout: Layout, a: u64, b: u64) -> &[u64]
     requires { ⌜ 2 ≤ layout .width ⌝ }
     ensures { λ r. ⌜ IsPart (block .entry) r (windowCall layout (now (block .entry)) a b) ⌝ }

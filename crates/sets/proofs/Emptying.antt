@@ -12,6 +12,7 @@ use Rattle.blocks.specs.Steps.{Cleared}
 use Rattle.blocks.proofs.Moves.{cleared-block}
 use Rattle.sets.specs.Calls.{makeEmptyCall}
 
+-- [S8, R18] refused for want of words only, and else done, whatever the words were
 pub empty-refused : (w : List ℕ) (r : Judged) → r ≡ judgedOf 1 0 → length w ≡ 0 → outcome (judgedSays r) (w ∷ []) ≡ makeEmptyCall w
 unfolding makeEmptyCall
 empty-refused w r e h = rw (eq-eqb (length w) 0 h) (ap (λ (x : Judged). outcome (judgedSays x) (w ∷ [])) e)

@@ -36,7 +36,7 @@ and-none : (b : Bool) → andb b false ≡ false
 and-none true = refl
 and-none false = refl
 
--- «intersection n+m-1 (0 if n or m is 0)»
+-- [S14] an intersection with a set of no ranges has none
 pub intersection-none : (fs : List Entry) → length (intersection [] fs) ≡ 0
 intersection-none fs =
     empty-length (intersection [] fs) (none-empty (intersection [] fs) ((intersection-is [] fs) .sound) (λ x. (intersection-is [] fs) .members x))
@@ -83,7 +83,7 @@ complement-fit = record {
   bound = λ es s p. omega (arith, ap length (complement-table es), complement-bound es s);
 }
 
--- any item, or none
+-- [S7] any item, or none
 pub empty-no : (es : List Entry) (t : Bool) → t ≡ ltb 0 (length es) → t ≡ true → truth false ≡ truth (isEmpty es)
 empty-no [] t e z = absurd (true≢false (sym z ∙ e))
 empty-no (x ∷ es) t e z = refl

@@ -82,7 +82,7 @@ pub summed-end : (w : List ℕ) (total p left : ℕ) → left ≡ 0 → Summed w
 summed-end w total p zero e s = let m = s .sum in omega arith
 summed-end w total p (suc k) e s = absurd (omega arith)
 
--- «empty, or the size less one»
+-- [S3] empty, or the size less one
 pub size-none : (w : List ℕ) (n : ℕ) → n ≡ getD w 0 0 → n ≡ 0 → given [] ≡ lessOne (sizeOf (entriesOf 2 w))
 size-none w n e z = let k : getD w 0 0 ≡ 0 = omega arith in rw k
 

@@ -13,7 +13,8 @@ ghost use Rattle.answers.specs.Answers.{outcome, truth, optional};
 ghost use Rattle.answers.specs.Says.{judgedSays, truthSays, foundSays, rangedSays, sizedSays, partedSays};
 ghost use Rattle.searches.specs.Parts.{IsPart};
 ghost use Rattle.sets.specs.Calls.{makeEmptyCall, memberCall, ends, rangeAtCall, sizeCall, leastMemberCall, nonMember, leastNonMemberCall};
-ghost use Rattle.sets.specs.Calls.{setWindowCall, setWindowAtCall, setWindowRefusalCall, insertCall, removeCall, askedTwo, equalCall, withinCall, disjointCall};
+ghost use Rattle.sets.specs.Calls.{setWindowCall, setWindowAtCall, setWindowRefusalCall, insertCall, removeCall, askedTwo, equalCall};
+ghost use Rattle.sets.specs.Calls.{withinCall, disjointCall};
 ghost use Rattle.sets.specs.Calls.{unionCall, intersectionCall, differenceCall, symmetricDifferenceCall, complementCall};
 ghost use Rattle.sets.specs.Steps.{Counted, setLayouts};
 use answers::Found;
@@ -162,7 +163,7 @@ pub fn least_non_member(block: &[u64], x: u64) -> Found
     least_out(block, x)
 }
 
-// The part of the block that holds the ranges which share a number with a..b; refused, a part of no words.
+// [G2] The part of the block that holds the ranges which share a number with a..b; refused, a part of no words.
 pub fn window(block: &[u64], a: u64, b: u64) -> &[u64]
     ensures { λ r. ⌜ IsPart (block .entry) r (setWindowCall (now (block .entry)) a b) ⌝ }
 {

@@ -1,4 +1,4 @@
--- What a sweep lists, and that with its table it gives each operation of 01 by that operation's own definition.
+-- What a sweep lists, and that with its table it gives each operation by that operation's own definition.
 use mathlib.Core.Path.{_≡_, refl, sym, _∙_, ap, ap₂}
 use mathlib.Core.Logic.{_≢_}
 use mathlib.Core.Bool.{Bool, true, false}

@@ -1,5 +1,5 @@
 -- What one sweep over three lists makes of them: for any table of their memberships, the one sound list of the numbers that the
--- table accepts. No public promise names these: each operation of 01 is said by its own definition, and a law of proofs/Tables
+-- table accepts. No public promise names these: each operation is said by its own definition, and a law of proofs/Tables
 -- says that the sweep with its table gives it.
 use mathlib.Core.Path.{_≡_}
 use mathlib.Core.Bool.{Bool, true, false, not}
@@ -15,6 +15,7 @@ use Rattle.entries.specs.Sets.{has, orb, lessb, xorb, pastM}
 use Rattle.blocks.specs.Blocks.{entriesOf}
 use Rattle.sweeps.specs.declared.Plan.{Plan}
 
+-- 1 for true
 abbrev pub bit : Bool → ℕ
 bit true = 1
 bit false = 0

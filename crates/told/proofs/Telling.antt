@@ -42,7 +42,8 @@ pub values-told : (xs ys : List ℕ) → length xs ≤ 3 → told (given xs) ≡
 values-told xs ys h e =
     same xs ys h (ap (λ (t : Told). t .count) e) (ap (λ (t : Told). t .first) e) (ap (λ (t : Told). t .second) e) (ap (λ (t : Told). t .third) e)
   where
-    same : (xs ys : List ℕ) → length xs ≤ 3 → length xs ≡ length ys → getD xs 0 0 ≡ getD ys 0 0 → getD xs 1 0 ≡ getD ys 1 0 → getD xs 2 0 ≡ getD ys 2 0 → xs ≡ ys
+    same : (xs ys : List ℕ) → length xs ≤ 3 → length xs ≡ length ys → getD xs 0 0 ≡ getD ys 0 0 → getD xs 1 0 ≡ getD ys 1 0 → getD xs 2 0 ≡ getD ys 2 0 → xs
+        ≡ ys
     same [] [] h n i j k = refl
     same [] (b ∷ ys) h n i j k = absurd (omega arith)
     same (a ∷ xs) [] h n i j k = absurd (omega arith)

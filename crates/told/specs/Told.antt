@@ -11,7 +11,7 @@ abbrev pub numbers : ℕ → ℕ → List ℕ → Told
 numbers status place xs =
     record { status = status; place = place; count = length xs; first = getD xs 0 0; second = getD xs 1 0; third = getD xs 2 0 }
 
--- 0 and the values, or «16 plus the refusal number» and its place
+-- 0 and the values, or 16 plus the refusal's number and its place
 abbrev pub told : Answer → Told
 told (given xs) = numbers 0 0 xs
 told (refused number place) = numbers (16 + number) place []

@@ -1,0 +1,85 @@
+-- Fits and reservations: the statements of specs/Fits.
+use mathlib.Core.Path.{_≡_, refl, sym, _∙_, ap, subst}
+use mathlib.Core.Bool.{Bool, true, false}
+use mathlib.Core.Option.{Option, none, some}
+use mathlib.Core.List.{List, [], _∷_}
+use Prim.Native.Nat.{ℕ, zero, suc, _+_, _-_, _≤_, _<_}
+use native.Mathlib.Omega.{arith}
+use lib.Dec.{ltb, eqb}
+use lib.ListN.{length}
+use borrow.Author.Tests.{ltb-true, lt-ltb, eqb-false}
+use Rattle.entries.specs.Entries.{Entry}
+use Rattle.entries.specs.Build.{pick}
+use Rattle.answers.specs.Answers.{Outcome, outcome, given, refused, refuse, judged, applies, Keeps}
+use Rattle.answers.proofs.Turns.{turn-keeps, turn-accepted, clear-turn, clear-at, applies-clear, refused≢given}
+use Rattle.blocks.specs.Blocks.{setLayout, capacity, entriesOf, blockOf}
+use Rattle.edits.specs.Calls.{editCall}
+use Rattle.fits.specs.Fits.{firstFit, bestFit}
+use Rattle.fits.specs.Meaning.{FirstOf, BestOf, answering}
+use Rattle.fits.specs.Calls.{placeOf, gapless, askRefusals, fitRefusals, answered, fitCall, reservedAt, reservedWith, reserveRefusals, reserveCall}
+use Rattle.fits.specs.Steps.{reserving}
+use Rattle.fits.proofs.Meaning.{first-fit, best-fit}
+use Rattle.fits.proofs.Reserving.{Chosen, fit-chosen, reserved-at, reserve-inserts}
+use Rattle.sets.specs.Calls.{insertCall}
+use Rattle.demands.specs.Plain.{Iff, In, answers, SetLeft, between}
+use Rattle.demands.specs.Fits.{FirstFit, BestFit, ReserveKeeps, Reserve, ReserveRoom}
+use Rattle.demands.proofs.Sets.{insert-means}
+
+-- a run of no numbers is not asked for
+some-run : (k : ℕ) → applies (eqb k 0) 6 ≡ 0 → 1 ≤ k
+some-run k e = let n : k ≡ 0 → ⊥ = eqb-false k 0 (applies-clear (eqb k 0) 5 e) in omega arith
+
+pub first-fit-answers : FirstFit
+first-fit-answers w a b k s e =
+    let c = fit-chosen firstFit w a b k s (sym e) in
+    subst (FirstOf a b k (entriesOf 2 w)) (c .place) (first-fit a b k (entriesOf 2 w) (some-run k (clear-at (askRefusals w a b k) (c .clear) 2)))
+
+pub best-fit-answers : BestFit
+best-fit-answers w a b k s e =
+    let c = fit-chosen bestFit w a b k s (sym e) in
+    subst (BestOf a b k (entriesOf 2 w)) (c .place) (best-fit a b k (entriesOf 2 w) (some-run k (clear-at (askRefusals w a b k) (c .clear) 2)))
+
+pub reserve-keeps : ReserveKeeps
+unfolding reserveCall
+reserve-keeps fit w a b k =
+    turn-keeps (reserveRefusals w a b k (fit a b k (entriesOf 2 w))) (w ∷ []) (reservedWith w (placeOf (fit a b k (entriesOf 2 w))) k) tt
+
+module _ (fit : ℕ → ℕ → ℕ → List Entry → Option ℕ) (w : List ℕ) (a b k s : ℕ) where
+  -- a reservation that is accepted answers what the question answers
+  asked : (after : List ℕ) → reserveCall fit w a b k ≡ outcome (given (s ∷ [])) (after ∷ []) → fitCall fit w a b k ≡ answers (s ∷ [])
+  unfolding reserveCall fitCall
+  asked after e =
+      let o = fit a b k (entriesOf 2 w) in
+      let t = turn-accepted (reserveRefusals w a b k o) (w ∷ []) (reservedWith w (placeOf o) k) (s ∷ []) (after ∷ []) e in
+      clear-turn (fitRefusals w a b k o) [] (answered (placeOf o)) (t .0 .0, (t .0 .1 .0, (t .0 .1 .1 .0, (t .0 .1 .1 .1 .0, tt))))
+      ∙ ap answered (same (placeOf o) (t .1))
+    where
+      same : (p : ℕ) → reservedWith w p k ≡ outcome (given (s ∷ [])) (after ∷ []) → p ≡ s
+      same p d = cc
+
+  inserted : (after : List ℕ) (x : Outcome) → insertCall w s (s + k - 1) ≡ x → answering s x ≡ outcome (given (s ∷ [])) (after ∷ [])
+      → SetLeft (length w) (λ x. pick (between s (s + k - 1) x) true (In w x)) after
+  inserted after (outcome (given xs) lent) i d =
+      let l : lent ≡ after ∷ [] = cc in insert-means w s (s + k - 1) xs after (i ∙ ap (outcome (given xs)) l)
+  inserted after (outcome (refused n p) lent) i d = absurd (refused≢given d)
+
+  room-only : reserving w s k ≡ refuse 5 0 (w ∷ []) → capacity setLayout (length w) < length (reservedAt w s k)
+  room-only e = go (ltb (capacity setLayout (length w)) (length (reservedAt w s k))) refl e
+    where
+      go : (t : Bool) → ltb (capacity setLayout (length w)) (length (reservedAt w s k)) ≡ t
+          → judged (applies t 5) 0 (w ∷ []) (reservedWith w s k) ≡ refuse 5 0 (w ∷ []) → capacity setLayout (length w) < length (reservedAt w s k)
+      go true q d = ltb-true (capacity setLayout (length w)) (length (reservedAt w s k)) q
+      go false q d = absurd (refused≢given (sym d))
+
+pub reserve-means : Reserve
+reserve-means fit w a b k s after e =
+    let f = asked fit w a b k s after e in
+    (f, inserted fit w a b k s after (insertCall w s (s + k - 1)) refl (sym (reserve-inserts fit w a b k s f) ∙ e))
+
+pub reserve-room : ReserveRoom
+reserve-room fit w a b k s f =
+    let r = reserved-at fit w a b k s (fit-chosen fit w a b k s (sym f)) in
+    record {
+      to = λ e. room-only fit w a b k s (sym r ∙ e);
+      from = λ h. r ∙ rw (lt-ltb (capacity setLayout (length w)) (length (reservedAt w s k)) h);
+    }
