@@ -15,15 +15,24 @@ returns c =
 get2-requires : tie.Need-get2-requires
 get2-requires c κs =
     let k = c .before .before .before .before .before .before in
-    omega (arith, k .pre .start .one, start-long (k .args .form) (k .pre) (k .args .bytes .now) (c .before .before .judge-form .ensures .clear (c .if1 .left)))
+    omega (
+      arith,
+      k .pre .start .one,
+      start-long (k .args .form) (k .pre) (k .args .bytes .now) (c .before .before .judge-form .ensures .clear
+          (c .if1 .left)),
+    )
 
 second-count-requires : tie.Need-second-count-requires
-second-count-requires c κs = let k = c .before .before .before .before .before .before .before .before in start-long (k .args .form) (k .pre) (k .args .bytes .now) (c .before .before .before .before .judge-form .ensures .clear (c .before .before .if1 .left))
+second-count-requires c κs =
+    let c8 = c .before .before .before .before .before .before .before .before in
+    let k = c8 in start-long (k .args .form) (k .pre) (k .args .bytes .now) (c .before .before .before .before .judge-form .ensures .clear
+    (c .before .before .if1 .left))
 
 -- the bytes were judged good, and the outputs were judged
 judged : (o : tie.After-out-refusal)
     → (let a = o .before .before .before .before .before .before .before .before .before .before .before .args in
-    Opened (a .form) (a .bytes .now) (a .first .now) (a .second .now) (o .before .before .before .before .before .before .before .judge-form .result) (o .before .before .before .wide .result) (o .before .wide2 .result) (o .out-refusal .result))
+    Opened (a .form) (a .bytes .now) (a .first .now) (a .second .now) (o .before .before .before .before .before .before .before .judge-form .result)
+    (o .before .before .before .wide .result) (o .before .wide2 .result) (o .out-refusal .result))
 judged o = record {
   kind = o .before .before .before .before .before .before .before .before .before .before .before .pre;
   bytes = o .before .before .before .before .before .before .before .judge-form .ensures;
@@ -37,10 +46,14 @@ returns-2 : tie.Need-returns-2
 returns-2 c = outs-refused (judged (c .before .before .before)) (c .before .if2 .taken) _ (c .judged-of2 .ensures)
 
 store-runs-requires : tie.Need-store-runs-requires
-store-runs-requires c κs = let o = c .before .before .before .before in to-store (judged o) (c .before .before .if2 .left) (λ i. omega (arith, o .before .before .before .before .before .before .before .before .before .before .shared-slice-known .given i))
+store-runs-requires c κs = let o = c .before .before .before .before in to-store (judged o) (c .before .before .if2 .left) (λ i. omega
+    (arith, o .before .before .before .before .before .before .before .before .before .before .shared-slice-known .given i))
 
 returns-3 : tie.Need-returns-3
-returns-3 c = read-good (judged (c .before .before .before .before .before .before .before .before .before)) (c .before .before .before .before .before .before .before .if2 .left) _ _ (c .before .before .before .before .store-runs .ensures)
+returns-3 c =
+    let c9 = c .before .before .before .before .before .before .before .before .before in
+    read-good (judged (c9)) (c .before .before .before .before .before .before .before .if2 .left) _ _
+    (c .before .before .before .before .store-runs .ensures)
 
 pub read-form-spec : {M : Type 1} → statement M
 read-form-spec =

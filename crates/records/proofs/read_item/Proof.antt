@@ -30,8 +30,10 @@ judged : (k : tie.After-rest-verdict)
 judged k =
     let f = k .before .before .before .before .before .before in
     let a = f .before .before .args in
-    item-judged _ _ _ (f .read-front .ensures .good (k .before .before .before .before .before .if1 .left)) (λ j. f .before .shared-slice-known .given j .fits) _ _ _ _ (k .rest-verdict .ensures) _
-    (previous (a .first) (a .s) (a .before)) _ (f .before .before .pre) (k .before .before .before .before .item-here .ensures) (k .before .before .before .item-sums .ensures) (k .before .before .is-told .ensures) (k .before .in-order .ensures)
+    item-judged _ _ _ (f .read-front .ensures .good (k .before .before .before .before .before .if1 .left))
+    (λ j. f .before .shared-slice-known .given j .fits) _ _ _ _ (k .rest-verdict .ensures) _
+    (previous (a .first) (a .s) (a .before)) _ (f .before .before .pre) (k .before .before .before .before .item-here .ensures)
+    (k .before .before .before .item-sums .ensures) (k .before .before .is-told .ensures) (k .before .in-order .ensures)
 
 returns-2 : tie.Need-returns-2
 returns-2 c = item-bad _ _ _ (judged (c .before)) (c .if2 .taken)

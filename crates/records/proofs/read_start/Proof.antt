@@ -38,16 +38,21 @@ judged k =
     let s = k .before .before .before .before .before .before .before in
     let f = s .before .before in
     let a = f .before .before .args in
-    start-judged _ _ _ (f .read-front .ensures .good (s .before .if1 .left)) (λ j. f .before .shared-slice-known .given j .fits) _ _ _ _ (k .rest-verdict .ensures)
-    (a .k) (a .limit) _ _ (f .before .before .pre) (s .get2 .ensures .0) (k .before .before .before .before .before .before .second-count .ensures .0) (k .before .before .before .before .before .start-sums .ensures) (k .before .before .before .before .is-told .ensures)
-    (k .before .within .ensures ∙ ap₂ (λ (x y : ℕ). andb (leb x (a .limit)) (leb y (a .limit))) (k .before .before .before .wide .ensures) (k .before .before .wide2 .ensures))
+    start-judged _ _ _ (f .read-front .ensures .good (s .before .if1 .left)) (λ j. f .before .shared-slice-known .given j .fits) _ _ _ _
+    (k .rest-verdict .ensures)
+    (a .k) (a .limit) _ _ (f .before .before .pre) (s .get2 .ensures .0) (k .before .before .before .before .before .before .second-count .ensures .0)
+    (k .before .before .before .before .before .start-sums .ensures) (k .before .before .before .before .is-told .ensures)
+    (k .before .within .ensures ∙ ap₂ (λ (x y : ℕ). andb (leb x (a .limit)) (leb y (a .limit))) (k .before .before .before .wide .ensures)
+    (k .before .before .wide2 .ensures))
 
 returns-2 : tie.Need-returns-2
 returns-2 c = start-bad _ _ _ _ (judged (c .before)) (c .if2 .taken)
 
 returns-3 : tie.Need-returns-3
 returns-3 c =
-    start-good _ _ _ _ _ _ (judged (c .before)) (c .if2 .left) (c .before .before .before .before .wide .ensures ∙ c .before .before .before .before .before .before .before .before .get2 .ensures .0) (c .before .before .before .wide2 .ensures ∙ c .before .before .before .before .before .before .before .second-count .ensures .0)
+    let c8 = c .before .before .before .before .before .before .before .before in
+    start-good _ _ _ _ _ _ (judged (c .before)) (c .if2 .left) (c .before .before .before .before .wide .ensures ∙ c8 .get2 .ensures .0)
+    (c .before .before .before .wide2 .ensures ∙ c .before .before .before .before .before .before .before .second-count .ensures .0)
 
 pub read-start-spec : {M : Type 1} → statement M
 read-start-spec =
