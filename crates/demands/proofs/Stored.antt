@@ -83,10 +83,11 @@ windowOf s a b es = part (1 + s * length (whollyBelow a es)) (s * length (meetin
 
 pub later-window : LaterWindow
 unfolding windowCall windowAtCall windowRefusalCall
-later-window l w v two s a b =
-    (handed-same (verdict l w) refl,
-     windowed l two w v s a b (λ es. outcome (partSays (windowOf (l .width) a b es)) []),
-     windowed l two w v s a b (λ es. outcome (given []) []))
+later-window l w v two s a b = (
+  handed-same (verdict l w) refl,
+  windowed l two w v s a b (λ es. outcome (partSays (windowOf (l .width) a b es)) []),
+  windowed l two w v s a b (λ es. outcome (given []) []),
+)
   where
     handed-by : ℕ → List ℕ → Part
     handed-by n u = handed (judged n 0 [] (judged (applies (ltb b a) 4) 0 [] (outcome (given []) []))) (windowPart (l .width) u a b) noPart
@@ -109,10 +110,13 @@ later-edit l w v two s a b o after e =
     let es = edited l w a b o in
     let k = turn-accepted (editRefusals l w a b es) (w ∷ []) (holding w es) [] (after ∷ []) e in
     let i : edited l w a b o ≡ edited l v a b o = ap (λ (fs : List Entry). put fs a b o) (same-entries l two w v s (k .0 .0)) in
-    clear-turn (editRefusals l v a b (edited l v a b o)) (v ∷ []) (holding v (edited l v a b o))
-    (sym (same-verdict l two w v s) ∙ k .0 .0,
-     (k .0 .1 .0,
-      (ap₂ (λ (L : ℕ) (fs : List Entry). noRoom l L fs) (sym (s .long)) (sym i) ∙ k .0 .1 .1 .0, tt)))
+    clear-turn (editRefusals l v a b (edited l v a b o)) (v ∷ []) (holding v (edited l v a b o)) (
+      sym (same-verdict l two w v s) ∙ k .0 .0,
+      (
+        k .0 .1 .0,
+        (ap₂ (λ (L : ℕ) (fs : List Entry). noRoom l L fs) (sym (s .long)) (sym i) ∙ k .0 .1 .1 .0, tt),
+      ),
+    )
     ∙ ap (holding v) (sym i) ∙ holds w v after es (s .long) (k .1)
 
 pub old-words : OldWords

@@ -28,7 +28,7 @@ use Rattle.verdicts.specs.Forms.{ofSet, startSize, sizeOf, formCounts, formEntr
 use Rattle.forms.specs.Calls.{storedIn, readCall, judgeCall, oneNumber, firstOf, memberOfFormCall}
 use Rattle.forms.specs.Steps.{Stored, Stores}
 use Rattle.verdicts.specs.Steps.{Shape, lone, pair, FormKind, eachOf, itemSize, secondAt, runsHere}
-use Rattle.verdicts.proofs.Whole.{set-kind, start-long, counted}
+use Rattle.verdicts.proofs.Whole.{set-kind, counted}
 use Rattle.forms.proofs.Forms.{accepted-size}
 use Rattle.verdicts.proofs.Two.{entries-here, size-here}
 
@@ -60,70 +60,75 @@ each-roomy : (layout : Layout) (r i j n m : ℕ) → Shape r layout → Clear (o
 each-roomy layout r i j n m lone c = (roomy layout i n (c .0) (c .1 .0), λ nz. absurd (nz refl))
 each-roomy layout r i j n m pair c = (roomy layout i n (c .0) (c .1 .1 .0), λ nz. roomy layout j m (c .1 .0) (c .1 .1 .1 .0))
 
-module _ (f : Form) (k : FormKind f) (b x y : List ℕ) (v : Finding) (fv : FirstOf (formRefusals f b) v) where
-  abbrev outs : List (List ℕ)
-  outs = eachOf f x y
+-- the refusals of the outputs x and y of a reading
+abbrev outs-of : Form → List ℕ → List ℕ → List ℕ → List Finding
+outs-of f b x y = outRefusals (f .layout) (lengths (eachOf f x y)) (lengths (formEntries f b))
 
-  abbrev O : List Finding
-  O = outRefusals (f .layout) (lengths outs) (lengths (formEntries f b))
+pub bytes-refused : (f : Form) (b x y : List ℕ) (v : Finding) → FirstOf (formRefusals f b) v → (v .number ≡ 0 → ⊥) → (r : Judged)
+    → r ≡ judgedOf (v .number) (v .place) → outcome (judgedSays r) (eachOf f x y) ≡ readCall f b (eachOf f x y)
+unfolding readCall
+bytes-refused f b x y v fv nz r e =
+    refused-by (formRefusals f b ++ outs-of f b x y) v (stops-in (formRefusals f b) (outs-of f b x y) v fv nz) (eachOf f x y)
+    (outcome (given []) (storedIn (eachOf f x y) (formEntries f b))) r nz e
+
+-- the bytes were judged good, n and m are their counts, and u is the first refusal of the outputs
+pub record Opened (f : Form) (b x y : List ℕ) (v : Finding) (n m : ℕ) (u : Finding) : Type 0 where
+  pub kind : FormKind f
+  pub bytes : FirstOf (formRefusals f b) v
+  pub clear : v .number ≡ 0
+  pub count : n ≡ num2 b 3
+  pub count-too : m ≡ secondCount (f .runs) b
+  pub outs : FirstOf (outRefusals (f .layout) (eachOf f (length x) (length y)) (eachOf f n m)) u
+
+module _ {f : Form} {b x y : List ℕ} {v : Finding} {n m : ℕ} {u : Finding} (g : Opened f b x y v n m u) where
+  abbrev lent : List (List ℕ)
+  lent = eachOf f x y
 
   abbrev next : Outcome
-  next = outcome (given []) (storedIn outs (formEntries f b))
+  next = outcome (given []) (storedIn lent (formEntries f b))
 
-  pub bytes-refused : (v .number ≡ 0 → ⊥) → (r : Judged) → r ≡ judgedOf (v .number) (v .place) → outcome (judgedSays r) outs ≡ readCall f b outs
+  all-passed : FirstOf (formRefusals f b ++ outs-of f b x y) u
+  all-passed =
+      let c : eachOf f n m ≡ lengths (formEntries f b) =
+      ap₂ (eachOf f) (g .count) (g .count-too) ∙ counts-two (f .runs) (g .kind .start .one) (g .kind .start .two) b ∙ sym (counted f (g .kind) b) in
+      passes-in (formRefusals f b) (outs-of f b x y) v u (g .bytes) (g .clear)
+      (subst (λ (l : List Finding). FirstOf l u) (ap₂ (outRefusals (f .layout)) (each-length (f .runs) (f .layout) x y (g .kind .shape)) c) (g .outs))
+
+  pub outs-refused : (u .number ≡ 0 → ⊥) → (r : Judged) → r ≡ judgedOf (u .number) (u .place) → outcome (judgedSays r) lent ≡ readCall f b lent
   unfolding readCall
-  bytes-refused nz r e = refused-by (formRefusals f b ++ O) v (stops-in (formRefusals f b) O v fv nz) outs next r nz e
+  outs-refused nz r e = refused-by (formRefusals f b ++ outs-of f b x y) u all-passed lent next r nz e
 
-  module _ (zv : v .number ≡ 0) where
-    pub counts-long : startSize f ≤ length b
-    counts-long = start-long f k b (fv .clear zv)
+  module _ (zu : u .number ≡ 0) where
+    stored : (z : List ℕ) (i p : ℕ) → Roomy (f .layout) (length z) i → p ≤ length b → itemSize f * i ≤ length (drop p b) → Stored (f .layout .width) i p b z
+    stored z i p r h l = record {
+      there = h;
+      some = r .some;
+      fills = record {
+        two = g .kind .first .two;
+        four = g .kind .first .four;
+        held = l;
+        room = omega (arith, room-words (f .layout) (length z) i (r .some) (r .fits), length-drop 1 z);
+      };
+    }
 
-    module _ (n m : ℕ) (en : n ≡ num2 b 3) (em : m ≡ secondCount (f .runs) b) (u : Finding)
-        (fu : FirstOf (outRefusals (f .layout) (eachOf f (length x) (length y)) (eachOf f n m)) u) where
-      counts-are : eachOf f n m ≡ lengths (formEntries f b)
-      counts-are = ap₂ (eachOf f) en em ∙ counts-two (f .runs) (k .start .one) (k .start .two) b ∙ sym (counted f k b)
+    pub to-store : Bytes b → Stores f n m b x y
+    to-store w =
+        let r = each-roomy (f .layout) (f .runs) (length x) (length y) n m (g .kind .shape) (g .outs .clear zu) in
+        let l : length b ≡ secondAt f n + itemSize f * m =
+        accepted-size f (g .kind) b w (g .bytes .clear (g .clear)) ∙ ap (sizeOf f) (counted f (g .kind) b) ∙ size-here f (g .kind) b
+        ∙ ap₂ (λ (i j : ℕ). secondAt f i + itemSize f * j) (sym (g .count)) (sym (g .count-too)) in
+        record {
+          first = stored x n (startSize f) (r .0) (omega arith) (omega (arith, length-drop (startSize f) b));
+          second = λ nz. stored y m (secondAt f n) (r .1 nz) (omega arith) (omega (arith, length-drop (secondAt f n) b));
+          shape = g .kind .shape;
+        }
 
-      all-passed : FirstOf (formRefusals f b ++ O) u
-      all-passed =
-          passes-in (formRefusals f b) O v u fv zv
-          (subst (λ (l : List Finding). FirstOf l u) (ap₂ (outRefusals (f .layout)) (each-length (f .runs) (f .layout) x y (k .shape)) counts-are) fu)
-
-      pub outs-refused : (u .number ≡ 0 → ⊥) → (r : Judged) → r ≡ judgedOf (u .number) (u .place) → outcome (judgedSays r) outs ≡ readCall f b outs
-      unfolding readCall
-      outs-refused nz r e = refused-by (formRefusals f b ++ O) u all-passed outs next r nz e
-
-      module _ (zu : u .number ≡ 0) where
-        pub to-store : Bytes b → Stores f n m b x y
-        to-store w =
-            let r = each-roomy (f .layout) (f .runs) (length x) (length y) n m (k .shape) (fu .clear zu) in
-            let l : length b ≡ secondAt f n + itemSize f * m =
-            accepted-size f k b w (fv .clear zv) ∙ ap (sizeOf f) (counted f k b) ∙ size-here f k b
-            ∙ ap₂ (λ (i j : ℕ). secondAt f i + itemSize f * j) (sym en) (sym em) in
-            record {
-              first = stored x n (startSize f) (r .0) (omega arith) (omega (arith, length-drop (startSize f) b));
-              second = λ nz. stored y m (secondAt f n) (r .1 nz) (omega arith) (omega (arith, length-drop (secondAt f n) b));
-              shape = k .shape;
-            }
-          where
-            stored : (z : List ℕ) (i p : ℕ) → Roomy (f .layout) (length z) i → p ≤ length b → itemSize f * i ≤ length (drop p b)
-                → Stored (f .layout .width) i p b z
-            stored z i p r h l = record {
-              there = h;
-              some = r .some;
-              fills = record {
-                two = k .first .two;
-                four = k .first .four;
-                held = l;
-                room = omega (arith, room-words (f .layout) (length z) i (r .some) (r .fits), length-drop 1 z);
-              };
-            }
-
-        pub read-good : (x' y' : List ℕ) → eachOf f x' y' ≡ storedIn outs (runsHere f n m b)
-            → outcome (judgedSays answer.Accepted) (eachOf f x' y') ≡ readCall f b outs
-        unfolding readCall
-        read-good x' y' q =
-            given-by (formRefusals f b ++ O) u all-passed outs next (outcome (given []) (eachOf f x' y')) zu
-            (ap (outcome (given [])) (q ∙ ap (storedIn outs) (ap₂ (λ (i j : ℕ). runsHere f i j b) en em ∙ sym (entries-here f k b))))
+    pub read-good : (x' y' : List ℕ) → eachOf f x' y' ≡ storedIn lent (runsHere f n m b)
+        → outcome (judgedSays answer.Accepted) (eachOf f x' y') ≡ readCall f b lent
+    unfolding readCall
+    read-good x' y' q =
+        given-by (formRefusals f b ++ outs-of f b x y) u all-passed lent next (outcome (given []) (eachOf f x' y')) zu
+        (ap (outcome (given [])) (q ∙ ap (storedIn lent) (ap₂ (λ (i j : ℕ). runsHere f i j b) (g .count) (g .count-too) ∙ sym (entries-here f (g .kind) b))))
 
 -- the outputs that were filled
 pub one-stored : (r : ℕ) (x y x' y' : List ℕ) (es fs : List Entry) → r ≡ 1 → x' ≡ blockOf (length x) es

@@ -10,14 +10,13 @@ use lib.ListN.{length, getD, take, drop, length-drop, length-append}
 use borrow.Rule.Slice.PartMut.{putMid}
 use Rattle.entries.specs.Entries.{Entry}
 use Rattle.entries.specs.Bulletins.{shareb}
-use Rattle.answers.specs.Answers.{Answer, given, refused, outcome, at, applies, lastNumber}
+use Rattle.answers.specs.Answers.{given, outcome, at, applies}
 use Rattle.answers.specs.Steps.{Clear, FirstOf}
 use Rattle.answers.specs.Says.{writtenSays, refusalOf}
 use Rattle.answers.specs.declared.Finding.{Finding}
 use Rattle.answers.specs.declared.Refusal.{Refusal}
 use Rattle.answers.specs.declared.Written.the-variants as written
-use Rattle.answers.proofs.Numbers.{refusal-says}
-use Rattle.answers.proofs.Turns.{stops, passes, ends, stops-in, passes-in, given-by, applies-small}
+use Rattle.answers.proofs.Turns.{refusal-by, stops, passes, ends, stops-in, passes-in, given-by, applies-small}
 use Rattle.blocks.specs.Blocks.{setLayout, entriesOf, itemsOf, verdict, SoundBlock}
 use Rattle.blocks.specs.declared.Layout.{Layout}
 use Rattle.blocks.proofs.Words.{Shaped, items-shaped, items-length}
@@ -39,7 +38,6 @@ use Rattle.runs.proofs.Several.{shapes}
 use Rattle.verdicts.proofs.Whole.{as-many, size}
 use Rattle.forms.proofs.Forms.{held-fine, many-held, space-clear}
 use Rattle.verdicts.proofs.Two.{not-one}
-use Rattle.forms.proofs.Reading.{refused-first}
 
 -- the size of a form fits
 small-size : (s n : ℕ) → s ≤ 4 → n < 131072 → (8 * s + 5) * n ≤ 4849664
@@ -188,125 +186,126 @@ module _ (layout : Layout) (r : ℕ) (x y : List ℕ) (h : Shape r layout) (v : 
           (ends w shared 0 (q ∙ sym (ap (λ (b : Bool). applies b 14) i)) (applies-small (shareb (entriesOf (layout .width) x) (entriesOf
           (layout .width) y)) 14 (lit≤ tt))))
 
--- writing from the blocks x and y
-module _ (f : Form) (k : FormKind f) (x y bytes : List ℕ) (p : ℕ) (v : Finding) (fv : FirstOf (blockRefusals f (eachOf f x y)) v) where
+-- writing from the blocks x and y, whose first refusal is v: refused with it
+abbrev pub written-from : Form → List ℕ → List ℕ → List ℕ
+written-from f x y = formOf f (heldIn (f .layout) (eachOf f x y))
+
+abbrev no-space : Form → List ℕ → List ℕ → List ℕ → ℕ → List Finding
+no-space f x y bytes p = at 0 (applies (noSpace p (length (written-from f x y)) (length bytes)) 15) ∷ []
+
+pub blocks-refused : (f : Form) (x y bytes : List ℕ) (p : ℕ) (v : Finding) → FirstOf (blockRefusals f (eachOf f x y)) v → (v .number ≡ 0 → ⊥)
+    → (r : Refusal) → r ≡ refusalOf (v .number) (v .place) → outcome (writtenSays (written.Refused r)) (bytes ∷ []) ≡ writeCall f (eachOf f x y) bytes p
+unfolding writeCall
+blocks-refused f x y bytes p v fv nz r q =
+    refusal-by (blockRefusals f (eachOf f x y) ++ no-space f x y bytes p) v (stops-in (blockRefusals f (eachOf f x y)) (no-space f x y bytes p) v fv nz)
+    (bytes ∷ []) (writtenAt p (written-from f x y) bytes) r nz q
+
+-- or none of them is refused
+pub record Passed (f : Form) (x y : List ℕ) (v : Finding) : Type 0 where
+  pub kind : FormKind f
+  pub first : FirstOf (blockRefusals f (eachOf f x y)) v
+  pub clear : v .number ≡ 0
+
+module _ {f : Form} {x y : List ℕ} {v : Finding} (h : Passed f x y v) where
   abbrev ws : List (List ℕ)
   ws = eachOf f x y
 
   abbrev g : List ℕ
-  g = formOf f (heldIn (f .layout) ws)
+  g = written-from f x y
 
-  abbrev T : List Finding
-  T = at 0 (applies (noSpace p (length g) (length bytes)) 15) ∷ []
+  judged : (verdict (f .layout) x ≡ 0) × ((f .runs ≡ 1 → ⊥) → verdict (f .layout) y ≡ 0)
+  judged = each-verdict (f .layout) (f .runs) x y (h .kind .shape) (clear-split (inputs (f .layout) 0 ws) (overlap (heldIn (f .layout) ws) ∷ [])
+      (h .first .clear (h .clear)) .0)
 
-  says-refused : (u i : ℕ) → (u ≡ 0 → ⊥) → u ≤ lastNumber → (r : Refusal) → r ≡ refusalOf u i
-      → outcome (writtenSays (written.Refused r)) (bytes ∷ []) ≡ outcome (refused u i) (bytes ∷ [])
-  says-refused u i nz l r q =
-      let h : 1 ≤ u = omega (arith, nz) in
-      ap (λ (a : Answer). outcome a (bytes ∷ [])) (ap (λ (r : Refusal). writtenSays (written.Refused r)) q ∙ refusal-says u i h l)
+  pub first-sound : SoundBlock (f .layout) x
+  first-sound = verdict-sound (f .layout) x (judged .0)
 
-  pub blocks-refused : (v .number ≡ 0 → ⊥) → (r : Refusal) → r ≡ refusalOf (v .number) (v .place)
-      → outcome (writtenSays (written.Refused r)) (bytes ∷ []) ≡ writeCall f ws bytes p
-  unfolding writeCall
-  blocks-refused nz r q =
-      says-refused (v .number) (v .place) nz (fv .small) r q
-      ∙ refused-first (blockRefusals f ws ++ T) v (stops-in (blockRefusals f ws) T v fv nz) nz (bytes ∷ []) (writtenAt p g bytes)
+  pub second-sound : (f .runs ≡ 1 → ⊥) → SoundBlock (f .layout) y
+  second-sound nz = verdict-sound (f .layout) y (judged .1 nz)
 
-  module _ (zv : v .number ≡ 0) where
-    judged : (verdict (f .layout) x ≡ 0) × ((f .runs ≡ 1 → ⊥) → verdict (f .layout) y ≡ 0)
-    judged = each-verdict (f .layout) (f .runs) x y (k .shape) (clear-split (inputs (f .layout) 0 ws) (overlap (heldIn (f .layout) ws) ∷ [])
-        (fv .clear zv) .0)
+  pub second-words : f .runs ≤ 1 + length y
+  second-words = second-there (f .runs) (f .layout) (length y) (h .kind .shape) (λ nz. second-sound nz .some)
 
-    pub first-sound : SoundBlock (f .layout) x
-    first-sound = verdict-sound (f .layout) x (judged .0)
+  module _ {n m : ℕ} (en : n ≡ getD x 0 0) (em : m ≡ countHeld (f .runs) y) where
+    room-first : 1 + f .layout .width * n ≤ length x
+    room-first = room-words (f .layout) (length x) n (first-sound .some) (omega (arith, first-sound .fits))
 
-    pub second-sound : (f .runs ≡ 1 → ⊥) → SoundBlock (f .layout) y
-    second-sound nz = verdict-sound (f .layout) y (judged .1 nz)
+    small : n < 65536
+    small = omega (arith, first-sound .fits, h .kind .small)
 
-    pub second-words : f .runs ≤ 1 + length y
-    second-words = second-there (f .runs) (f .layout) (length y) (k .shape) (λ nz. second-sound nz .some)
+    small-too : m < 65536
+    small-too = second-small (f .runs) (f .layout) m y (h .kind .shape) em (λ nz. omega (arith, second-sound nz .fits, h .kind .small))
 
-    module _ (n m : ℕ) (en : n ≡ getD x 0 0) (em : m ≡ countHeld (f .runs) y) where
-      room-first : 1 + f .layout .width * n ≤ length x
-      room-first = room-words (f .layout) (length x) n (first-sound .some) (omega (arith, first-sound .fits))
+    pub size-small : (n + m < 131072) × (itemSize f * (n + m) ≤ 4849664)
+    size-small =
+        let l : n + m < 131072 = omega (arith, small, small-too) in
+        (l, small-size (f .layout .width) (n + m) (h .kind .first .four) l)
 
-      small : n < 65536
-      small = omega (arith, first-sound .fits, k .small)
+    count-second : (f .runs ≡ 1 → ⊥) → m ≡ getD y 0 0
+    count-second nz = em ∙ rw (not-one (f .runs) (f .layout) (h .kind .shape) nz .0)
 
-      small-too : m < 65536
-      small-too = second-small (f .runs) (f .layout) m y (k .shape) em (λ nz. omega (arith, second-sound nz .fits, k .small))
+    room-second : (f .runs ≡ 1 → ⊥) → 1 + f .layout .width * m ≤ length y
+    room-second nz =
+        room-words (f .layout) (length y) m (second-sound nz .some) (omega (arith, second-sound nz .fits, count-second nz))
 
-      pub size-small : (n + m < 131072) × (itemSize f * (n + m) ≤ 4849664)
-      size-small =
-          let l : n + m < 131072 = omega (arith, small, small-too) in
-          (l, small-size (f .layout .width) (n + m) (k .first .four) l)
+    abbrev held : List (List Entry)
+    held = eachOf f (itemsOf (f .layout .width) n (drop 1 x)) (itemsOf (f .layout .width) m (drop 1 y))
 
-      count-second : (f .runs ≡ 1 → ⊥) → m ≡ getD y 0 0
-      count-second nz = em ∙ rw (not-one (f .runs) (f .layout) (k .shape) nz .0)
+    held-are : heldIn (f .layout) ws ≡ held
+    held-are =
+        each-held (f .layout) (f .runs) x y (h .kind .shape)
+        ∙ ap₂ (λ (i j : ℕ). eachOf f (itemsOf (f .layout .width) i (drop 1 x)) (itemsOf (f .layout .width) j (drop 1 y))) (sym en) (sym em)
 
-      room-second : (f .runs ≡ 1 → ⊥) → 1 + f .layout .width * m ≤ length y
-      room-second nz =
-          room-words (f .layout) (length y) m (second-sound nz .some) (omega (arith, second-sound nz .fits, count-second nz))
+    long : length g ≡ startSize f + itemSize f * (n + m)
+    long =
+        let s = f .layout .width in
+        let c = clear-split (inputs (f .layout) 0 ws) (overlap (heldIn (f .layout) ws) ∷ []) (h .first .clear (h .clear)) .0 in
+        size f (h .kind) (heldIn (f .layout) ws) (many-held (f .layout) ws ∙ as-many (f .runs) (f .layout) x y (h .kind .shape))
+        (shapes s (f .layout .limit) (heldIn (f .layout) ws) (held-fine (f .layout) (h .kind .first .two) 0 ws c))
+        ∙ ap (λ (r : List (List Entry)). startSize f + itemSize f * total (lengths r)) held-are
+        ∙ ap (λ (t : ℕ). startSize f + itemSize f * t)
+        (each-total (f .runs) (f .layout) (itemsOf s n (drop 1 x)) (itemsOf s m (drop 1 y)) m (h .kind .shape) (items-length s m (drop 1 y))
+        (λ z. em ∙ none-second (f .runs) y z)
+        ∙ ap (λ (i : ℕ). i + m) (items-length s n (drop 1 x)))
 
-      abbrev held : List (List Entry)
-      held = eachOf f (itemsOf (f .layout .width) n (drop 1 x)) (itemsOf (f .layout .width) m (drop 1 y))
+    module _ (bytes : List ℕ) (p : ℕ) (t : Bool) (et : t ≡ noSpace p (startSize f + itemSize f * (n + m)) (length bytes)) where
+      space-is : noSpace p (length g) (length bytes) ≡ t
+      space-is = ap (λ (i : ℕ). noSpace p i (length bytes)) long ∙ sym et
 
-      held-are : heldIn (f .layout) ws ≡ held
-      held-are =
-          each-held (f .layout) (f .runs) x y (k .shape)
-          ∙ ap₂ (λ (i j : ℕ). eachOf f (itemsOf (f .layout .width) i (drop 1 x)) (itemsOf (f .layout .width) j (drop 1 y))) (sym en) (sym em)
+      all-passed : (u : ℕ) → u ≡ applies t 15 → FirstOf (blockRefusals f ws ++ no-space f x y bytes p) (at 0 u)
+      all-passed u e =
+          passes-in (blockRefusals f ws) (no-space f x y bytes p) v (at 0 u) (h .first) (h .clear)
+          (ends u (applies (noSpace p (length g) (length bytes)) 15) 0 (e ∙ sym (ap (λ (i : Bool). applies i 15) space-is)) (applies-small (noSpace p
+          (length g) (length bytes)) 15 (lit≤ tt)))
 
-      long : length g ≡ startSize f + itemSize f * (n + m)
-      long =
-          let s = f .layout .width in
-          let c = clear-split (inputs (f .layout) 0 ws) (overlap (heldIn (f .layout) ws) ∷ []) (fv .clear zv) .0 in
-          size f k (heldIn (f .layout) ws) (many-held (f .layout) ws ∙ as-many (f .runs) (f .layout) x y (k .shape))
-          (shapes s (f .layout .limit) (heldIn (f .layout) ws) (held-fine (f .layout) (k .first .two) 0 ws c))
-          ∙ ap (λ (r : List (List Entry)). startSize f + itemSize f * total (lengths r)) held-are
-          ∙ ap (λ (t : ℕ). startSize f + itemSize f * t)
-          (each-total (f .runs) (f .layout) (itemsOf s n (drop 1 x)) (itemsOf s m (drop 1 y)) m (k .shape) (items-length s m (drop 1 y))
-          (λ z. em ∙ none-second (f .runs) y z)
-          ∙ ap (λ (i : ℕ). i + m) (items-length s n (drop 1 x)))
+      pub space-refused : t ≡ true → (r : Refusal) → r ≡ refusalOf 15 0 → outcome (writtenSays (written.Refused r)) (bytes ∷ []) ≡ writeCall f ws bytes p
+      unfolding writeCall
+      space-refused z r q =
+          refusal-by (blockRefusals f ws ++ no-space f x y bytes p) (at 0 15) (all-passed 15 (rw z)) (bytes ∷ []) (writtenAt p g bytes) r (λ z. omega arith) q
 
-      module _ (t : Bool) (et : t ≡ noSpace p (startSize f + itemSize f * (n + m)) (length bytes)) where
-        space-is : noSpace p (length g) (length bytes) ≡ t
-        space-is = ap (λ (i : ℕ). noSpace p i (length bytes)) long ∙ sym et
+      module _ (z : t ≡ false) where
+        there : (p ≤ length bytes) × (startSize f + itemSize f * (n + m) ≤ length bytes - p)
+        there = space-clear p (startSize f + itemSize f * (n + m)) (length bytes) (rw (sym et ∙ z))
 
-        all-passed : (u : ℕ) → u ≡ applies t 15 → FirstOf (blockRefusals f ws ++ T) (at 0 u)
-        all-passed u e =
-            passes-in (blockRefusals f ws) T v (at 0 u) fv zv
-            (ends u (applies (noSpace p (length g) (length bytes)) 15) 0 (e ∙ sym (ap (λ (i : Bool). applies i 15) space-is)) (applies-small (noSpace p
-            (length g) (length bytes)) 15 (lit≤ tt)))
+        pub place-there : p ≤ length bytes
+        place-there = there .0
 
-        pub space-refused : t ≡ true → (r : Refusal) → r ≡ refusalOf 15 0 → outcome (writtenSays (written.Refused r)) (bytes ∷ []) ≡ writeCall f ws bytes p
+        pub to-put : Puts f n m x y (take (length bytes - p) (drop p bytes))
+        to-put = record {
+          kind = h .kind;
+          small = small;
+          small-too = small-too;
+          held = omega (arith, there .1, ap length (tail-part p bytes), length-drop p bytes, mul-add (itemSize f) n m);
+          room = room-first;
+          room-too = room-second;
+        }
+
+        pub write-good : (o : List ℕ) → o ≡ over (formOf f held) (take (length bytes - p) (drop p bytes))
+            → outcome (writtenSays (written.Length (startSize f + itemSize f * (n + m)))) (putMid p (length bytes - p) bytes o ∷ [])
+            ≡ writeCall f ws bytes p
         unfolding writeCall
-        space-refused z r q =
-            says-refused 15 0 (λ z. omega arith) (lit≤ tt) r q
-            ∙ refused-first (blockRefusals f ws ++ T) (at 0 15) (all-passed 15 (rw z)) (λ z. omega arith) (bytes ∷ []) (writtenAt p g bytes)
-
-        module _ (z : t ≡ false) where
-          there : (p ≤ length bytes) × (startSize f + itemSize f * (n + m) ≤ length bytes - p)
-          there = space-clear p (startSize f + itemSize f * (n + m)) (length bytes) (rw (sym et ∙ z))
-
-          pub place-there : p ≤ length bytes
-          place-there = there .0
-
-          pub to-put : Puts f n m x y (take (length bytes - p) (drop p bytes))
-          to-put = record {
-            kind = k;
-            small = small;
-            small-too = small-too;
-            held = omega (arith, there .1, ap length (tail-part p bytes), length-drop p bytes, mul-add (itemSize f) n m);
-            room = room-first;
-            room-too = room-second;
-          }
-
-          pub write-good : (o : List ℕ) → o ≡ over (formOf f held) (take (length bytes - p) (drop p bytes))
-              → outcome (writtenSays (written.Length (startSize f + itemSize f * (n + m)))) (putMid p (length bytes - p) bytes o ∷ [])
-              ≡ writeCall f ws bytes p
-          unfolding writeCall
-          write-good o q =
-              given-by (blockRefusals f ws ++ T) (at 0 0) (all-passed 0 (rw z)) (bytes ∷ []) (writtenAt p g bytes)
-              (outcome (given ((startSize f + itemSize f * (n + m)) ∷ [])) (putMid p (length bytes - p) bytes o ∷ [])) refl
-              (ap₂ (λ (i : ℕ) (l : List ℕ). outcome (given (i ∷ [])) (l ∷ [])) (sym long)
-              (mid-patch p g bytes o (q ∙ ap (λ (r : List (List Entry)). over (formOf f r) (take (length bytes - p) (drop p bytes))) (sym held-are))))
+        write-good o q =
+            given-by (blockRefusals f ws ++ no-space f x y bytes p) (at 0 0) (all-passed 0 (rw z)) (bytes ∷ []) (writtenAt p g bytes)
+            (outcome (given ((startSize f + itemSize f * (n + m)) ∷ [])) (putMid p (length bytes - p) bytes o ∷ [])) refl
+            (ap₂ (λ (i : ℕ) (l : List ℕ). outcome (given (i ∷ [])) (l ∷ [])) (sym long)
+            (mid-patch p g bytes o (q ∙ ap (λ (r : List (List Entry)). over (formOf f r) (take (length bytes - p) (drop p bytes))) (sym held-are))))

@@ -23,8 +23,7 @@ write-run-requires c κs =
 
 returns : tie.Need-returns
 returns c =
-    let c9 = c .before .before .before .before .before .before .before .before .before in
-    let s = c9 in
+    let s = c .before .before .before .before .before .before .before .before .before in
     let k = s .before .before .before .before .before .before .before .before in
     let a = k .args in
     one-put (a .form) (a .n) (a .m) (a .first .now) (a .second .now) (a .bytes .now) (k .pre) _ _ (s .before .before .narrow .ensures)
@@ -46,8 +45,7 @@ part-write-run-start-3 c =
 write-run-requires-2 : tie.Need-write-run-requires-2
 write-run-requires-2 c κs =
     let c10 = c .before .before .before .before .before .before .before .before .before .before in
-    let c19 = c10 .before .before .before .before .before .before .before .before .before in
-    let k = c19 in
+    let k = c10 .before .before .before .before .before .before .before .before .before in
     let p = k .pre in
     record {
       two = p .kind .first .two;
@@ -59,8 +57,7 @@ write-run-requires-2 c κs =
 returns-2 : tie.Need-returns-2
 returns-2 c =
     let c9 = c .before .before .before .before .before .before .before .before .before in
-    let c14 = c9 .before .before .before .before .before in
-    let s = c14 in
+    let s = c9 .before .before .before .before .before in
     let k = s .before .before .before .before .before .before .before .before in
     let a = k .args in
     two-put (a .form) (a .n) (a .m) (a .first .now) (a .second .now) (a .bytes .now) (k .pre) _ _ (s .before .before .narrow .ensures)

@@ -28,8 +28,7 @@ store-requires-2 c κs =
 returns-2 : tie.Need-returns-2
 returns-2 c =
     let c8 = c .before .before .before .before .before .before .before .before in
-    let c14 = c8 .before .before .before .before .before .before in
-    let k = c14 in
+    let k = c8 .before .before .before .before .before .before in
     let a = k .args in
     two-stored (a .form .runs) (a .first .now) (a .second .now) _ _ _ _ (not-one _ _ (k .pre .shape) (c .before .before .before .before .if1 .left) .0)
     (c8 .store .ensures) (c .before .before .store2 .ensures)

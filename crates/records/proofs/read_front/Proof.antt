@@ -43,8 +43,7 @@ add-if4 c = omega (arith, body-small _ _ (told-known _ _ _ (c .before .before .b
 returns-5 : tie.Need-returns-5
 returns-5 c =
     let c8 = c .before .before .before .before .before .before .before .before in
-    let c9 = c8 .before in
-    let g = c9 in
+    let g = c8 .before in
     let a = g .before .before .before .args in
     let k = told-known _ _ _ (c .before .before .before .before .body-length .ensures) (c .before .before .b .given .1) in
     record {
@@ -57,8 +56,7 @@ returns-5 c =
 returns-6 : tie.Need-returns-6
 returns-6 c =
     let c8 = c .before .before .before .before .before .before .before .before in
-    let c9 = c8 .before in
-    let g = c9 in
+    let g = c8 .before in
     let a = g .before .before .before .args in
     let k = told-known _ _ _ (c .before .before .before .before .body-length .ensures) (c .before .before .b .given .1) in
     record {

@@ -1,7 +1,8 @@
 use Prim.Native.Nat.{ℕ}
-use mathlib.Core.Path.{_∙_, ap₂}
+use mathlib.Core.Path.{_≡_, _∙_, ap₂}
 use lib.Dec.{leb}
 use Rattle.entries.specs.Build.{andb}
+use Rattle.records.specs.Records.{startVerdict}
 use Rattle.records.proofs.Items.{start-bad, start-good}
 use Rattle.records.proofs.Told.{start-judged}
 use borrow.Author.Needs.{needs}
@@ -29,35 +30,29 @@ is-told-requires c κs =
     let f = c .before .before .before .before in
     omega (arith, f .read-front .ensures .good (c .before .before .before .if1 .left) .long _ (f .before .before .pre .body))
 
-returns-2 : tie.Need-returns-2
-returns-2 c =
-    let w = c .before .before .before .before in
-    let s = w .before .before .before .before in
+-- the verdict on the record whose front is good
+judged : (k : tie.After-rest-verdict)
+    → (let a = k .before .before .before .before .before .before .before .before .before .before .before .args in
+    k .rest-verdict .result ≡ startVerdict (a .mark) (a .due) (a .k) (a .limit) (a .bytes .now))
+judged k =
+    let s = k .before .before .before .before .before .before .before in
     let f = s .before .before in
     let a = f .before .before .args in
-    start-bad _ _ _ _
-    (start-judged _ _ _ (f .read-front .ensures .good (s .before .if1 .left)) (λ j. f .before .shared-slice-known .given j .fits) _ _ _ _
-    (c .before .rest-verdict .ensures) (a .k) (a .limit) _ _ (f .before .before .pre) (s .get2 .ensures .0)
-    (w .before .before .before .second-count .ensures .0)
-    (w .before .before .start-sums .ensures) (w .before .is-told .ensures)
-    (c .before .before .within .ensures ∙ ap₂ (λ (x y : ℕ). andb (leb x (a .limit)) (leb y (a .limit))) (w .wide .ensures)
-    (c .before .before .before .wide2 .ensures)))
-    (c .if2 .taken)
+    start-judged _ _ _ (f .read-front .ensures .good (s .before .if1 .left)) (λ j. f .before .shared-slice-known .given j .fits) _ _ _ _
+    (k .rest-verdict .ensures)
+    (a .k) (a .limit) _ _ (f .before .before .pre) (s .get2 .ensures .0) (k .before .before .before .before .before .before .second-count .ensures .0)
+    (k .before .before .before .before .before .start-sums .ensures) (k .before .before .before .before .is-told .ensures)
+    (k .before .within .ensures ∙ ap₂ (λ (x y : ℕ). andb (leb x (a .limit)) (leb y (a .limit))) (k .before .before .before .wide .ensures)
+    (k .before .before .wide2 .ensures))
+
+returns-2 : tie.Need-returns-2
+returns-2 c = start-bad _ _ _ _ (judged (c .before)) (c .if2 .taken)
 
 returns-3 : tie.Need-returns-3
 returns-3 c =
-    let w = c .before .before .before .before in
-    let s = w .before .before .before .before in
-    let f = s .before .before in
-    let a = f .before .before .args in
-    start-good _ _ _ _ _ _
-    (start-judged _ _ _ (f .read-front .ensures .good (s .before .if1 .left)) (λ j. f .before .shared-slice-known .given j .fits) _ _ _ _
-    (c .before .rest-verdict .ensures) (a .k) (a .limit) _ _ (f .before .before .pre) (s .get2 .ensures .0)
-    (w .before .before .before .second-count .ensures .0)
-    (w .before .before .start-sums .ensures) (w .before .is-told .ensures)
-    (c .before .before .within .ensures ∙ ap₂ (λ (x y : ℕ). andb (leb x (a .limit)) (leb y (a .limit))) (w .wide .ensures)
-    (c .before .before .before .wide2 .ensures)))
-    (c .if2 .left) (w .wide .ensures ∙ s .get2 .ensures .0) (c .before .before .before .wide2 .ensures ∙ w .before .before .before .second-count .ensures .0)
+    let c8 = c .before .before .before .before .before .before .before .before in
+    start-good _ _ _ _ _ _ (judged (c .before)) (c .if2 .left) (c .before .before .before .before .wide .ensures ∙ c8 .get2 .ensures .0)
+    (c .before .before .before .wide2 .ensures ∙ c .before .before .before .before .before .before .before .second-count .ensures .0)
 
 pub read-start-spec : {M : Type 1} → statement M
 read-start-spec =

@@ -10,8 +10,7 @@ use Rattle.records.proofs.write_start.Tie as tie
 
 returns : tie.Need-returns
 returns c =
-    let c8 = c .before .before .before .before .before .before .before .before in
-    let n = c8 in
+    let n = c .before .before .before .before .before .before .before .before in
     let h = n .before .before .before .before in
     let s = h .before .before .before in
     let a = s .args in

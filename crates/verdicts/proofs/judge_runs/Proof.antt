@@ -57,8 +57,7 @@ share-records-requires c κs =
 
 returns-5 : tie.Need-returns-5
 returns-5 c =
-    let c8 = c .before .before .before .before .before .before .before .before in
-    let y = c8 in
+    let y = c .before .before .before .before .before .before .before .before in
     let x = y .before .before .before in
     let k = x .before .before .before in
     let a = k .args in
@@ -71,8 +70,7 @@ returns-5 c =
 
 returns-6 : tie.Need-returns-6
 returns-6 c =
-    let c8 = c .before .before .before .before .before .before .before .before in
-    let y = c8 in
+    let y = c .before .before .before .before .before .before .before .before in
     let x = y .before .before .before in
     let k = x .before .before .before in
     let a = k .args in
