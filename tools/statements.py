@@ -34,13 +34,20 @@ PARTS = [
     ("The calls", "what each call answers and leaves", [(c, "specs") for c in
         ("sets", "fits", "maps", "bulletins", "forms", "told", "host", "edits", "searches", "operations")]),
     ("Blocks of words", "what words say", [("blocks", "specs")]),
-    ("Bytes", "records, numbers, the check", [("numbers", "specs"), ("records", "specs")]),
+    ("Bytes", "forms, runs, records, numbers, the check", [(c, "specs") for c in ("verdicts", "runs", "records", "numbers")]),
     ("Lists of entries", "what a list names", [("entries", "specs")]),
 ]
 # What the code promises itself; no theorem and no contract of a user's call names it.
 INNER = {"Steps"}
-# Two laws that stand for a definition that need not be read.
-LAWS = [("entries", "Building", "built"), ("entries", "Canon", "canonical")]
+# What the theorems name that stands beside laws: two laws for a definition that need not be read, and when bytes are a form.
+LAWS = [
+    ("entries", "Building", "built"),
+    ("entries", "Canon", "canonical"),
+    ("verdicts", "Whole", "Formed"),
+    ("runs", "Several", "Each"),
+    ("runs", "Several", "Fine"),
+    ("records", "Said", "Fit"),
+]
 
 
 def contracts(crate):
@@ -76,7 +83,7 @@ def page():
                     text, n = entry(item.comment, item.lines)
                     out += text
                     counts[heading] += n
-    out += ["### Two laws that stand for `build`", ""]
+    out += ["### What the theorems name besides: two laws that stand for `build`, and when bytes are a form", ""]
     for crate, module, name in LAWS:
         item = next(i for i in antt.items(os.path.join("crates", crate, "proofs", module + ".antt")) if i.name == name)
         text, n = entry(item.comment, item.statement())

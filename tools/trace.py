@@ -17,7 +17,8 @@ PAGE = os.path.join(antt.ROOT, "docs", "TRACE.md")
 COLUMNS = ["definitions", "theorems", "edits", "tests", "code"]
 # What a requirement needs, by the letter of its number.
 NEEDS = {
-    **{letter: ["definitions", "theorems", "edits", "tests"] for letter in "BRSFMUY"},
+    **{letter: ["definitions", "theorems", "edits", "tests"] for letter in "BRSFMU"},
+    "Y": ["definitions", "theorems"],
     "H": ["tests"],
     "D": ["theorems"],
     "N": ["tests"],
@@ -63,7 +64,7 @@ def coded(trace):
     for crate in sorted(os.listdir(os.path.join(antt.ROOT, "crates"))):
         folder = os.path.join("crates", crate, "src")
         for name in sorted(os.listdir(os.path.join(antt.ROOT, folder))):
-            for m in re.finditer(r"((?:^[ ]*//[^\n]*\n)+)[^\n]*?fn (\w+)", antt.read(folder, name), re.M):
+            for m in re.finditer(r"((?:^[ ]*//[^\n]*\n)+)(?:#\[no_mangle\]\n)?[^\n]*?fn (\w+)", antt.read(folder, name), re.M):
                 trace.add(folder, m.group(1), "code", f"`{crate}::{m.group(2)}`")
 
 
@@ -98,7 +99,7 @@ def called(trace):
 
 def mentions(test, call, outcome):
     """Whether a test's file, or the files of its folder, has the call by its name or by its definition's."""
-    names = [call] + [d.rpartition(".")[2] for d in re.findall(r"`([^`]+)`", outcome)]
+    names = [call, "wimblorque_" + call] + [d.rpartition(".")[2] for d in re.findall(r"`([^`]+)`", outcome)]
     path = os.path.join(antt.ROOT, test)
     folder = os.path.dirname(path)
     paths = [path] if not test.endswith(("/run", ".out", "/stdout")) else [

@@ -7,11 +7,11 @@ use Prim.Native.Nat.{ℕ, zero, suc, _≤_, _<_}
 use native.Mathlib.Omega.{arith}
 use Rattle.answers.specs.declared.Judged.{Judged}
 use Rattle.answers.specs.declared.Refusal.{Refusal}
-use Rattle.answers.specs.Answers.{Answer, given, refused, Outcome, outcome, judged, numberSays, at, inTurn, lastNumber, applies, handed, Keeps}
+use Rattle.answers.specs.Answers.{Answer, given, refused, Outcome, outcome, judged, numberSays, at, inTurn, lastNumber, applies, handed, Keeps, Clear}
 use Rattle.answers.specs.Says.{refusalSays, refusalOf, judgedSays, judgedOf}
 use Rattle.answers.proofs.Numbers.{judged-says, refused-as, judged-as, Small, judged-small}
 use Rattle.answers.specs.declared.Finding.{Finding}
-use Rattle.answers.specs.Steps.{Clear, FirstOf, numberAt, placeAt, Applies, Named}
+use Rattle.answers.specs.Steps.{FirstOf, numberAt, placeAt, Applies, Named}
 
 judged-again : (v p : ℕ) (lent : List (List ℕ)) (x y : Outcome) → (v ≡ 0 → ⊥) → judged v p lent x ≡ judged v p lent y
 judged-again zero p lent x y n = absurd (n refl)

@@ -39,6 +39,11 @@ abbrev pub inTurn : List Finding → List (List ℕ) → Outcome → Outcome
 inTurn [] lent x = x
 inTurn (f ∷ fs) lent x = judged (f .number) (f .place) lent (inTurn fs lent x)
 
+-- no refusal applies
+abbrev pub Clear : List Finding → Type 0
+Clear [] = Unit {0}
+Clear (f ∷ fs) = (f .number ≡ 0) × Clear fs
+
 -- what an answer from a verdict says: 0, accepted with no value
 abbrev pub numberSays : ℕ → ℕ → Answer
 numberSays zero place = given []

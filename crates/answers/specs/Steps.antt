@@ -3,12 +3,7 @@ use mathlib.Core.Path.{_≡_}
 use mathlib.Core.List.{List, [], _∷_}
 use Prim.Native.Nat.{ℕ, zero, suc, _≤_, _<_}
 use Rattle.answers.specs.declared.Finding.{Finding}
-use Rattle.answers.specs.Answers.{Outcome, judged, inTurn, lastNumber}
-
--- no refusal applies
-abbrev pub Clear : List Finding → Type 0
-Clear [] = Unit {0}
-Clear (f ∷ fs) = (f .number ≡ 0) × Clear fs
+use Rattle.answers.specs.Answers.{Outcome, judged, inTurn, lastNumber, Clear}
 
 -- r is the first of fs that applies, or none of them does and its number is 0
 pub record FirstOf (fs : List Finding) (r : Finding) : Type 0 where

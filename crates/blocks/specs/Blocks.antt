@@ -6,6 +6,7 @@ use Prim.Native.Nat.{ℕ, zero, suc, _+_, _-_, _/_, _≤_, _<_, min}
 use lib.Dec.{leb, ltb, eqb}
 use lib.ListN.{length, getD, take, drop, replicate}
 use Rattle.entries.specs.Entries.{Entry, entry, Sound}
+use Rattle.entries.specs.Sets.{pastM}
 use Rattle.entries.specs.Build.{pick, andb, sameWords}
 use Rattle.blocks.specs.declared.Layout.{Layout}
 
@@ -20,14 +21,6 @@ setLayout = layout 2 4095
 -- [B2, B3] a map: three words an entry, at most 2,730 of them
 abbrev pub mapLayout : Layout
 mapLayout = layout 3 2730
-
--- the limit of a set alone
-abbrev pub setLimit : ℕ
-setLimit = setLayout .limit
-
--- the limit of a map alone
-abbrev pub mapLimit : ℕ
-mapLimit = mapLayout .limit
 
 -- [B3] the capacity of a block of L words, L at least 1: the lesser of floor((L-1)/2) and 4,095 for a set, of floor((L-1)/3) and 2,730
 -- for a map
@@ -85,3 +78,7 @@ pub record SoundBlock (l : Layout) (w : List ℕ) : Type 0 where
   pub some : 0 < length w
   pub fits : getD w 0 0 ≤ capacity l (length w)
   pub sound : Sound (entriesOf (l .width) w)
+
+-- what is lent as words: each is below 2^64
+abbrev pub Lent : List ℕ → Type 0
+Lent w = (j : ℕ) → getD w j 0 < pastM

@@ -4,11 +4,6 @@ use mathlib.Core.Path.{_≡_}
 use mathlib.Core.List.{List, []}
 use lib.ListN.{length, getD, take, drop}
 use Rattle.entries.specs.Entries.{Entry, entry}
-use Rattle.entries.specs.Sets.{pastM}
-
--- what is lent as words: each is below 2^64
-abbrev pub Lent : List ℕ → Type 0
-Lent w = (j : ℕ) → getD w j 0 < pastM
 
 -- the item whose words begin at p
 abbrev pub itemFrom : ℕ → List ℕ → ℕ → Entry

@@ -30,11 +30,6 @@ pub const MAP: Layout = Layout {
     limit: 2730,
 };
 
-// The most ranges of a set, and the most entries of a map.
-pub const SET_LIMIT: usize = SET.limit;
-
-pub const MAP_LIMIT: usize = MAP.limit;
-
 // The capacity of a block of len words, of which there is at least one.
 pub fn room_for(layout: Layout, len: usize) -> usize
     requires { ⌜ (2 ≤ layout .width) × (0 < len) ⌝ }

@@ -12,9 +12,8 @@ use Rattle.entries.specs.Bulletins.{shareb}
 use Rattle.entries.proofs.Bulletins.{amended-bound}
 use Rattle.answers.specs.Answers.{applies, lastNumber}
 use Rattle.answers.proofs.Turns.{applies-small}
-use Rattle.blocks.specs.Blocks.{setLayout, capacity, entriesOf, verdict}
+use Rattle.blocks.specs.Blocks.{setLayout, capacity, entriesOf, verdict, Lent}
 use Rattle.blocks.specs.Calls.{noBlock, noRoom}
-use Rattle.blocks.specs.Steps.{Lent}
 use Rattle.blocks.proofs.Judging.{verdict-sound, room-words}
 use Rattle.blocks.proofs.Refusing.{room-fits}
 use Rattle.searches.specs.Calls.{overlapping}

@@ -40,7 +40,7 @@ fn truth(name: &[u8], answer: Truth) {
     }
 }
 
-// N: a block of no words as an input. The words lent here are cut to none.
+// [N-N] a block of no words as an input. The words lent here are cut to none.
 fn no_input(words: &[u64], out: &mut [u64]) {
     truth(b"N member: ", sets::member(&words[0..0], 5));
     judged(
@@ -89,7 +89,7 @@ fn published(name: &[u8], text: &[u8]) {
     }
 }
 
-// The cases in the order of the file stdout.
+// [N-O] The cases in the order of the file stdout; among them the checks of the records of 0..0 and 0..M.
 fn main() {
     let empty = [0u64; 1];
     let mut block = [0u64; 1];

@@ -16,10 +16,9 @@ use Rattle.entries.specs.Bulletins.{amended, shareb}
 use Rattle.entries.proofs.Values.{true≢false}
 use Rattle.entries.proofs.Plain.{set-canonical}
 use Rattle.entries.proofs.Bulletins.{amend, Apart, apart-sym, amended-is, amended-amended, amended-apart, amended-swap, effect-released, effect-withdrawn}
-use Rattle.answers.specs.Answers.{given, Outcome, outcome, applies, Keeps}
-use Rattle.blocks.specs.Blocks.{setLayout, entriesOf, blockOf, verdict}
+use Rattle.answers.specs.Answers.{given, Outcome, outcome, applies, Keeps, Clear}
+use Rattle.blocks.specs.Blocks.{setLayout, entriesOf, blockOf, verdict, Lent}
 use Rattle.blocks.specs.Calls.{noBlock, noRoom}
-use Rattle.blocks.specs.Steps.{Lent}
 use Rattle.blocks.proofs.Judging.{verdict-sound, room-words}
 use Rattle.blocks.proofs.Refusing.{some-words, room-fits}
 use Rattle.searches.specs.Calls.{overlapping}
@@ -27,7 +26,7 @@ use Rattle.blocks.proofs.Canonical.{Zeros, entries-stored, length-stored, sound
 use Rattle.sets.proofs.Asking.{entries-plain}
 use Rattle.sweeps.proofs.Tables.{bounded}
 use Rattle.bulletins.specs.Calls.{applyRefusals, applyCall, foldRefusals, foldCall}
-use Rattle.answers.specs.Steps.{Clear, numberAt}
+use Rattle.answers.specs.Steps.{numberAt}
 use Rattle.answers.proofs.Turns.{turn-keeps, turn-accepted, clear-turn, clear-at}
 use Rattle.demands.specs.Plain.{SetLeft}
 use Rattle.demands.proofs.Sets.{one-form, disjoint-means, means-disjoint}

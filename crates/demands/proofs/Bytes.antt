@@ -6,8 +6,7 @@ use mathlib.Core.List.{List, [], _∷_, _++_}
 use Prim.Native.Nat.{ℕ, _+_, _*_, _≤_, _<_}
 use lib.ListN.{length, take, drop}
 use Rattle.entries.specs.Entries.{Entry}
-use Rattle.answers.specs.Answers.{given, outcome, Keeps}
-use Rattle.answers.specs.Steps.{Clear}
+use Rattle.answers.specs.Answers.{given, outcome, Keeps, Clear}
 use Rattle.answers.proofs.Turns.{turn-keeps}
 use Rattle.blocks.specs.Blocks.{setLayout, mapLayout, capacity, entriesOf, blockOf}
 use Rattle.blocks.proofs.Words.{Shaped}

@@ -3,38 +3,38 @@ use mathlib.Core.Path.{_≡_, refl, sym, _∙_, ap, ap₂, subst}
 use mathlib.Core.Bool.{Bool, true, false}
 use mathlib.Core.Option.{Option, none, some}
 use mathlib.Core.List.{List, [], _∷_}
-use Prim.Native.Nat.{ℕ, zero, suc, _+_, _*_, _-_, _≤_, _<_}
+use Prim.Native.Nat.{ℕ, _+_, _-_, _≤_}
 use native.Mathlib.Omega.{arith}
-use lib.Dec.{leb, ltb, eqb}
+use lib.Dec.{ltb}
 use lib.ListN.{length, getD, drop}
-use borrow.Author.Tests.{ltb-true, ltb-false, lt-ltb, le-ltb, le-leb, eqb-false, ne-eqb}
-use Rattle.entries.specs.Entries.{Value, Entry, Sound, valueAt, orElse}
-use Rattle.entries.specs.Build.{pick, andb, put}
+use borrow.Author.Tests.{ltb-false, le-ltb}
+use Rattle.entries.specs.Entries.{Value, Entry, Sound, valueAt}
+use Rattle.entries.specs.Build.{pick, andb}
 use Rattle.entries.specs.Sets.{has, member, union, intersection, difference, symmetricDifference, complement}
 use Rattle.entries.specs.Maps.{keepIf, overlay}
 use Rattle.entries.specs.Questions.{isEmpty}
 use Rattle.entries.proofs.Values.{true≢false}
 use Rattle.entries.proofs.Questions.{none-empty}
-use Rattle.entries.proofs.Limits.{union-bound, difference-bound, symmetric-bound, intersection-bound, complement-bound, put-bound, insert-bound, erase-bound, overlay-bound}
-use Rattle.answers.specs.declared.Finding.{Finding}
-use Rattle.answers.specs.Answers.{given, refused, Outcome, outcome, refuse, truth, at, applies, inTurn}
-use Rattle.answers.specs.Steps.{Clear, Applies, numberAt, placeAt}
-use Rattle.answers.proofs.Turns.{turn-accepted, clear-at, clear-turn, applies-clear, refused-at, refused-only}
+use Rattle.entries.proofs.Limits.{union-bound, difference-bound, symmetric-bound, intersection-bound, complement-bound, put-bound, insert-bound, erase-bound}
+use Rattle.entries.proofs.Limits.{overlay-bound}
+use Rattle.answers.specs.Answers.{at}
+use Rattle.answers.proofs.Turns.{turn-accepted, clear-at, applies-clear}
 use Rattle.blocks.specs.declared.Layout.{Layout}
 use Rattle.blocks.specs.Blocks.{setLayout, mapLayout, capacity, entriesOf, blockOf, verdict}
-use Rattle.blocks.specs.Calls.{input, output, backwards, room, holding, noRoom, noBlock}
+use Rattle.blocks.specs.Calls.{input, output, room, holding}
 use Rattle.blocks.proofs.Refusing.{some-words}
 use Rattle.blocks.proofs.Words.{items-length}
-use Rattle.blocks.proofs.Judging.{verdict-sound, verdict-most}
+use Rattle.blocks.proofs.Judging.{verdict-sound}
 use Rattle.edits.specs.Calls.{edited, editRefusals, editCall}
-use Rattle.operations.specs.Calls.{twoRefusals, oneRefusals, fromTwo, fromOne}
+use Rattle.operations.specs.Calls.{twoRefusals, oneRefusals, fromTwo}
 use Rattle.sets.specs.Calls.{makeEmptyCall, unionCall, intersectionCall, differenceCall, symmetricDifferenceCall, complementCall}
 use Rattle.sets.proofs.Asking.{entries-plain}
-use Rattle.maps.specs.Calls.{overlayCall, restrictionCall, domainCall}
-use Rattle.demands.specs.Plain.{Iff, In, leaves, Left, SetLeft, between}
-use Rattle.demands.specs.Changes.{MakeEmpty, Insert, Remove, Union, Intersection, Difference, SymmetricDifference, Complement, Assign, Erase, Overlay, Restriction, Domain}
+use Rattle.maps.specs.Calls.{overlayCall}
+use Rattle.demands.specs.Plain.{In, leaves, SetLeft}
+use Rattle.demands.specs.Changes.{MakeEmpty, Insert, Remove, Union, Intersection, Difference, SymmetricDifference, Complement, Assign, Erase, Overlay}
+use Rattle.demands.specs.Changes.{Restriction, Domain}
 use Rattle.demands.proofs.Accepting.{set-left}
-use Rattle.demands.proofs.Sets.{empty-means, insert-means, remove-means, union-means, intersection-means, difference-means, symmetric-means, complement-means}
+use Rattle.demands.proofs.Sets.{insert-means, remove-means, union-means, intersection-means, difference-means, symmetric-means, complement-means}
 use Rattle.demands.proofs.Maps.{assign-means, erase-means, overlay-means, restriction-means, domain-means}
 
 -- word 0 of what is left counts the entries of the result
@@ -57,7 +57,11 @@ unfolding editCall
 edit-accepted l w a b o after e =
     let fs = editRefusals l w a b (edited l w a b o) in
     let k = turn-accepted fs (w ∷ []) (holding w (edited l w a b o)) [] (after ∷ []) e in
-    record { sound = clear-at fs (k .0) 0; order = ltb-false b a (applies-clear (ltb b a) 3 (clear-at fs (k .0) 1)); count = counted w (edited l w a b o) after (k .1) }
+    record {
+      sound = clear-at fs (k .0) 0;
+      order = ltb-false b a (applies-clear (ltb b a) 3 (clear-at fs (k .0) 1));
+      count = counted w (edited l w a b o) after (k .1);
+    }
 
 pub insert-changes : Insert
 insert-changes w a b after e =
@@ -126,8 +130,11 @@ difference-changes w v o after e =
 
 pub symmetric-changes : SymmetricDifference
 unfolding symmetricDifferenceCall
-symmetric-changes w v o after e =
-    (symmetric-means w v o [] after e, most w v after symmetricDifference (two-accepted setLayout setLayout setLayout symmetricDifference w v o after e) symmetric-bound)
+symmetric-changes w v o after e = (
+  symmetric-means w v o [] after e,
+  most w v after symmetricDifference
+      (two-accepted setLayout setLayout setLayout symmetricDifference w v o after e) symmetric-bound,
+)
 
 -- of both: none at all where one of them has none
 pub intersection-changes : Intersection
@@ -149,16 +156,19 @@ intersection-changes w v o after e =
     and-false true = refl
     and-false false = refl
 
-    empty : Made setLayout setLayout intersection w v after → SetLeft (length o) (λ x. andb (In w x) (In v x)) after → ((x : ℕ) → andb (In w x) (In v x) ≡ false)
+    empty : Made setLayout setLayout intersection w v after → SetLeft (length o) (λ x. andb (In w x) (In v x)) after
+        → ((x : ℕ) → andb (In w x) (In v x) ≡ false)
         → getD after 0 0 ≡ 0
     empty k m h =
-        sym (count-in 2 after) ∙ ap length (no-list (entriesOf 2 after) (none-empty (entriesOf 2 after) (verdict-sound setLayout after (m .sound) .sound) (λ x. m .members x ∙ h x)))
+        sym (count-in 2 after) ∙ ap length (no-list (entriesOf 2 after)
+        (none-empty (entriesOf 2 after) (verdict-sound setLayout after (m .sound) .sound) (λ x. m .members x ∙ h x)))
       where
         no-list : (es : List Entry) → isEmpty es ≡ true → es ≡ []
         no-list [] e = refl
         no-list (f ∷ es) e = absurd (true≢false (sym e))
 
-    bound : Made setLayout setLayout intersection w v after → (es fs : List Entry) → entriesOf 2 w ≡ es → entriesOf 2 v ≡ fs → getD after 0 0 ≤ getD w 0 0 + getD v 0 0 - 1
+    bound : Made setLayout setLayout intersection w v after → (es fs : List Entry) → entriesOf 2 w ≡ es → entriesOf 2 v ≡ fs
+        → getD after 0 0 ≤ getD w 0 0 + getD v 0 0 - 1
     bound k [] fs p q = let z = empty k (intersection-means w v o [] after e) (λ x. ap (λ (es : List Entry). andb (member es x) (In v x)) p) in omega arith
     bound k (d ∷ es) [] p q =
         let z = empty k (intersection-means w v o [] after e) (λ x. ap (λ (fs : List Entry). andb (In w x) (member fs x)) q ∙ and-false (In w x)) in omega arith
@@ -188,7 +198,8 @@ overlay-changes upper lower o after e =
       omega (
         arith,
         k .count,
-        overlay-bound (entriesOf 3 upper) (entriesOf 3 lower) (verdict-sound mapLayout upper (k .first-sound) .sound) (verdict-sound mapLayout lower (k .second-sound) .sound),
+        overlay-bound (entriesOf 3 upper) (entriesOf 3 lower) (verdict-sound mapLayout upper (k .first-sound) .sound)
+            (verdict-sound mapLayout lower (k .second-sound) .sound),
         count-in 3 upper,
         count-in 3 lower,
       ),
@@ -197,7 +208,12 @@ overlay-changes upper lower o after e =
 pub restriction-changes : Restriction
 restriction-changes map set o after e =
     let l = restriction-means map set o [] after e in
-    record { sound = l .sound; long = l .long; names = λ x. l .names x ∙ kept (valueAt (entriesOf 3 map) x) (valueAt (entriesOf 2 set) x); stored-form = l .stored-form }
+    record {
+      sound = l .sound;
+      long = l .long;
+      names = λ x. l .names x ∙ kept (valueAt (entriesOf 3 map) x) (valueAt (entriesOf 2 set) x);
+      stored-form = l .stored-form;
+    }
   where
     kept : (p q : Option Value) → keepIf p q ≡ pick (has q) p none
     kept p none = refl

@@ -5,15 +5,14 @@ use mathlib.Core.Option.{Option, none, some}
 use mathlib.Core.List.{List, [], _∷_}
 use Prim.Native.Nat.{ℕ, zero, suc, _≤_, _<_}
 use native.Mathlib.Omega.{arith}
-use lib.Dec.{leb, ltb, eqb}
+use lib.Dec.{ltb, eqb}
 use lib.ListN.{length}
 use borrow.Author.Tests.{ltb-true, ltb-false, lt-ltb, le-ltb, le-leb, ne-eqb}
-use Rattle.entries.specs.Entries.{Value, Entry, valueAt}
-use Rattle.entries.specs.Build.{pick, andb}
-use Rattle.entries.specs.Sets.{member}
+use Rattle.entries.specs.Entries.{Value, Entry}
+use Rattle.entries.specs.Build.{pick}
 use Rattle.answers.specs.declared.Finding.{Finding}
-use Rattle.answers.specs.Answers.{given, refused, Outcome, outcome, refuse, truth, applies, inTurn}
-use Rattle.answers.specs.Steps.{Applies, numberAt, placeAt}
+use Rattle.answers.specs.Answers.{refused, outcome, refuse, truth, applies}
+use Rattle.answers.specs.Steps.{numberAt, placeAt}
 use Rattle.answers.proofs.Turns.{clear-turn, applies-clear, refused-at, refused-only}
 use Rattle.blocks.specs.declared.Layout.{Layout}
 use Rattle.blocks.specs.Blocks.{setLayout, mapLayout, capacity, entriesOf, verdict}
@@ -24,7 +23,7 @@ use Rattle.edits.specs.Calls.{edited, editRefusals, editCall}
 use Rattle.operations.specs.Calls.{twoRefusals, oneRefusals, fromTwo, fromOne}
 use Rattle.sets.specs.Calls.{memberCall, insertCall, removeCall}
 use Rattle.maps.specs.Calls.{worth, lookUpCall}
-use Rattle.demands.specs.Plain.{Iff, In, ValueOf, between, leaves, answers, yes, no}
+use Rattle.demands.specs.Plain.{In, ValueOf, between, leaves, no}
 use Rattle.demands.specs.Changes.{EditRoom, TwoRoom, OneRoom, ChangesKeep, InsertedMember, RemovedMember, OtherMember, AssignedValue, ErasedValue}
 use Rattle.demands.proofs.Sets.{edit-keeps, two-keeps, one-keeps, empty-keeps, insert-means, remove-means}
 use Rattle.demands.proofs.Maps.{assign-means, erase-means}
@@ -182,13 +181,15 @@ other-member w a b after x out = (kept-in, kept-out)
     kept-in e =
         let l = insert-means w a b [] after e in
         let k = edit-accepted setLayout w a b (some []) after e in
-        asked after x (l .sound) ∙ ap (λ (t : Bool). outcome (truth t) []) (l .members x ∙ ap (λ (t : Bool). pick t true (In w x)) out) ∙ sym (asked w x (k .sound))
+        asked after x (l .sound) ∙ ap (λ (t : Bool). outcome (truth t) []) (l .members x ∙ ap (λ (t : Bool). pick t true (In w x)) out)
+        ∙ sym (asked w x (k .sound))
 
     kept-out : removeCall w a b ≡ leaves after → memberCall after x ≡ memberCall w x
     kept-out e =
         let l = remove-means w a b [] after e in
         let k = edit-accepted setLayout w a b none after e in
-        asked after x (l .sound) ∙ ap (λ (t : Bool). outcome (truth t) []) (l .members x ∙ ap (λ (t : Bool). pick t false (In w x)) out) ∙ sym (asked w x (k .sound))
+        asked after x (l .sound) ∙ ap (λ (t : Bool). outcome (truth t) []) (l .members x ∙ ap (λ (t : Bool). pick t false (In w x)) out)
+        ∙ sym (asked w x (k .sound))
 
 pub assigned-value : AssignedValue
 assigned-value w a b v after e x h k =
@@ -199,4 +200,5 @@ assigned-value w a b v after e x h k =
 pub erased-value : ErasedValue
 erased-value w a b after e x h k =
     let l = erase-means w a b [] after e in
-    looked after x (l .sound) ∙ ap (λ (o : Option Value). outcome (worth o) []) (l .names x ∙ ap (λ (t : Bool). pick t none (ValueOf w x)) (in-between a b x h k))
+    looked after x (l .sound) ∙ ap (λ (o : Option Value). outcome (worth o) [])
+    (l .names x ∙ ap (λ (t : Bool). pick t none (ValueOf w x)) (in-between a b x h k))

@@ -1,27 +1,26 @@
 -- Fits and reservations: the statements of specs/Fits.
 use mathlib.Core.Path.{_≡_, refl, sym, _∙_, ap, subst}
 use mathlib.Core.Bool.{Bool, true, false}
-use mathlib.Core.Option.{Option, none, some}
+use mathlib.Core.Option.{Option}
 use mathlib.Core.List.{List, [], _∷_}
-use Prim.Native.Nat.{ℕ, zero, suc, _+_, _-_, _≤_, _<_}
+use Prim.Native.Nat.{ℕ, _+_, _-_, _≤_, _<_}
 use native.Mathlib.Omega.{arith}
 use lib.Dec.{ltb, eqb}
 use lib.ListN.{length}
 use borrow.Author.Tests.{ltb-true, lt-ltb, eqb-false}
 use Rattle.entries.specs.Entries.{Entry}
 use Rattle.entries.specs.Build.{pick}
-use Rattle.answers.specs.Answers.{Outcome, outcome, given, refused, refuse, judged, applies, Keeps}
+use Rattle.answers.specs.Answers.{Outcome, outcome, given, refused, refuse, judged, applies}
 use Rattle.answers.proofs.Turns.{turn-keeps, turn-accepted, clear-turn, clear-at, applies-clear, refused≢given}
-use Rattle.blocks.specs.Blocks.{setLayout, capacity, entriesOf, blockOf}
-use Rattle.edits.specs.Calls.{editCall}
+use Rattle.blocks.specs.Blocks.{setLayout, capacity, entriesOf}
 use Rattle.fits.specs.Fits.{firstFit, bestFit}
 use Rattle.fits.specs.Meaning.{FirstOf, BestOf, answering}
-use Rattle.fits.specs.Calls.{placeOf, gapless, askRefusals, fitRefusals, answered, fitCall, reservedAt, reservedWith, reserveRefusals, reserveCall}
+use Rattle.fits.specs.Calls.{placeOf, askRefusals, fitRefusals, answered, fitCall, reservedAt, reservedWith, reserveRefusals, reserveCall}
 use Rattle.fits.specs.Steps.{reserving}
 use Rattle.fits.proofs.Meaning.{first-fit, best-fit}
-use Rattle.fits.proofs.Reserving.{Chosen, fit-chosen, reserved-at, reserve-inserts}
+use Rattle.fits.proofs.Reserving.{fit-chosen, reserved-at, reserve-inserts}
 use Rattle.sets.specs.Calls.{insertCall}
-use Rattle.demands.specs.Plain.{Iff, In, answers, SetLeft, between}
+use Rattle.demands.specs.Plain.{In, answers, SetLeft, between}
 use Rattle.demands.specs.Fits.{FirstFit, BestFit, ReserveKeeps, Reserve, ReserveRoom}
 use Rattle.demands.proofs.Sets.{insert-means}
 

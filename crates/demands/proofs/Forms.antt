@@ -1,27 +1,19 @@
 -- Bytes: the statements of specs/Bytes.
-use mathlib.Core.Path.{_≡_, refl, sym, _∙_, ap, ap₂, subst}
-use mathlib.Core.Bool.{Bool, true, false}
+use mathlib.Core.Path.{_≡_, sym, _∙_, ap, subst}
 use mathlib.Core.List.{List, [], _∷_, _++_}
-use Prim.Native.Nat.{ℕ, zero, suc, _+_, _*_, _≤_, _<_}
-use native.Mathlib.Omega.{arith}
-use lib.ListN.{length, getD, take, drop}
+use Prim.Native.Nat.{ℕ, _+_}
 use Rattle.entries.specs.Entries.{Entry}
-use Rattle.entries.specs.Build.{pick}
-use Rattle.entries.specs.Sets.{member}
 use Rattle.answers.specs.declared.Finding.{Finding}
-use Rattle.answers.specs.Answers.{given, refused, Outcome, outcome, refuse, truth, judged, inTurn}
-use Rattle.answers.specs.Steps.{Clear}
-use Rattle.answers.proofs.Turns.{turn-accepted, clear-turn, clear-both, refused≢given}
-use Rattle.blocks.specs.Blocks.{entriesOf, blockOf}
-use Rattle.numbers.specs.Numbers.{Bytes, patch}
+use Rattle.answers.specs.Answers.{given, outcome, Clear}
+use Rattle.answers.proofs.Turns.{turn-accepted, clear-turn, clear-both}
+use Rattle.numbers.specs.Numbers.{Bytes}
 use Rattle.runs.specs.Runs.{lengths}
 use Rattle.verdicts.specs.declared.Form.{Form}
 use Rattle.verdicts.specs.Steps.{FormKind}
-use Rattle.verdicts.specs.Forms.{ofSet, ofMap, ofBulletin, formOf, formEntries, formRefusals, outRefusals}
-use Rattle.verdicts.proofs.Whole.{Formed, set-kind, map-kind, bulletin-kind}
-use Rattle.forms.specs.Calls.{storedIn, heldIn, readCall, readSetCall, writeCall, oneNumber, firstOf, memberOfFormCall}
+use Rattle.verdicts.specs.Forms.{formEntries, formRefusals, outRefusals}
+use Rattle.verdicts.proofs.Whole.{set-kind, map-kind, bulletin-kind}
+use Rattle.forms.specs.Calls.{storedIn, readCall}
 use Rattle.forms.proofs.Forms.{accepted-formed, formed-accepted, read-written, written-read}
-use Rattle.demands.specs.Plain.{Iff, In, leaves}
 use Rattle.demands.specs.Bytes.{OfThree, of-set, of-map, of-bulletin, Read, ReadExactly, WholeForm, ReadWritten, WrittenRead, BytesKeep}
 use Rattle.demands.proofs.Bytes.{read-keeps, write-keeps}
 
@@ -53,7 +45,8 @@ module _ (f : Form) (k : FormKind f) (b : List ℕ) (y : Bytes b) (outs ws : Lis
       let a = formed-accepted f k b (r .runs) (r .form) in
       let rs = outRefusals (f .layout) (lengths outs) (lengths (formEntries f b)) in
       clear-turn (formRefusals f b ++ rs) outs (outcome (given []) (storedIn outs (formEntries f b)))
-      (clear-both (formRefusals f b) rs (a .0) (subst (λ (es : List (List Entry)). Clear (outRefusals (f .layout) (lengths outs) (lengths es))) (sym (a .1)) (r .room)))
+      (clear-both (formRefusals f b) rs (a .0) (subst (λ (es : List (List Entry)). Clear (outRefusals (f .layout) (lengths outs) (lengths es))) (sym (a .1))
+      (r .room)))
       ∙ ap (outcome (given [])) (ap (storedIn outs) (a .1) ∙ sym (r .left))
 
 pub read-exactly : ReadExactly

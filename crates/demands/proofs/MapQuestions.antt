@@ -1,9 +1,9 @@
 -- What is asked of a map, by its meaning: the statements of specs/Questions.
-use mathlib.Core.Path.{_≡_, refl, sym, _∙_, ap, subst}
+use mathlib.Core.Path.{_≡_, refl, sym, _∙_, ap}
 use mathlib.Core.Option.{Option, none, some}
 use mathlib.Core.Bool.{Bool, true, false}
 use mathlib.Core.List.{List, [], _∷_}
-use Prim.Native.Nat.{ℕ, zero, suc, _+_, _*_, _≤_, _<_}
+use Prim.Native.Nat.{ℕ, suc, _+_, _*_, _<_}
 use native.Mathlib.Omega.{arith}
 use lib.ListN.{length, getD, take, drop}
 use lib.Seq.{drop-cons}
@@ -14,19 +14,18 @@ use Rattle.entries.specs.Sets.{has}
 use Rattle.entries.specs.Questions.{meeting, whollyBelow}
 use Rattle.entries.proofs.Values.{true≢false}
 use Rattle.entries.proofs.Sides.{Side, under, inside, past, side, val-in, val-past, none-under, none-upto}
-use Rattle.answers.specs.Answers.{Answer, given, Outcome, outcome, inTurn, handed}
+use Rattle.answers.specs.Answers.{given, Outcome, outcome, handed}
 use Rattle.answers.proofs.Turns.{clear-turn}
-use Rattle.blocks.specs.Blocks.{mapLayout, entriesOf, verdict}
+use Rattle.blocks.specs.Blocks.{mapLayout}
 use Rattle.blocks.specs.Calls.{input}
 use Rattle.blocks.proofs.Judging.{verdict-sound, room-words}
 use Rattle.searches.specs.Parts.{part, noPart, wordsAt}
 use Rattle.searches.specs.Calls.{windowPart, windowRefusals, windowCall, entryPart}
 use Rattle.maps.specs.declared.Deciding.{Deciding}
-use Rattle.maps.specs.Calls.{mapEntries, worth, lookUpCall, mapWindowCall, partIn, deciding, siteRefusals, siteOverFactoryCall}
-use Rattle.maps.proofs.Sites.{wordsOfTwo}
-use Rattle.demands.specs.Plain.{Iff, SoundMap, InEntry, ValueOf, answers}
+use Rattle.maps.specs.Calls.{mapEntries, worth, lookUpCall, mapWindowCall, partIn, deciding, siteRefusals, siteOverFactoryCall, wordsOfTwo}
+use Rattle.demands.specs.Plain.{SoundMap, InEntry, ValueOf, answers}
 use Rattle.demands.specs.Questions.{InMap, LookUp, MapWindow, SiteOverFactory, WhichMap}
-use Rattle.demands.proofs.Words.{InItem, in-item, item-in}
+use Rattle.demands.proofs.Words.{in-item, item-in}
 use Rattle.demands.proofs.Questions.{window-means}
 
 -- the one word of an entry's value
@@ -43,7 +42,13 @@ value-in w x v s e =
     let g = in-item mapLayout w (omega arith) s x (v ∷ []) e in
     let p : 1 + 3 * g .index ≡ 3 * g .index + 1 = omega arith in
     let q : 2 + 3 * g .index ≡ 3 * g .index + 2 = omega arith in
-    record { index = g .index; below = g .below; low = rw p (g .low); high = rw q (g .high); value = head (sym (one-word w (g .index) s (g .below)) ∙ g .value) }
+    record {
+      index = g .index;
+      below = g .below;
+      low = rw p (g .low);
+      high = rw q (g .high);
+      value = head (sym (one-word w (g .index) s (g .below)) ∙ g .value);
+    }
   where
     head : {a b : ℕ} → a ∷ [] ≡ b ∷ [] → a ≡ b
     head e = cc
@@ -70,7 +75,10 @@ worth-some (some u) v e = let z : u ≡ v ∷ [] = cc in ap some z
 
 pub look-up-means : LookUp
 unfolding lookUpCall
-look-up-means w x s = (λ v. record { to = λ e. value-in w x v s (worth-some (ValueOf w x) v (sym asked ∙ e)); from = λ g. found v g }, record { to = nothing; from = alone })
+look-up-means w x s = (
+  λ v. record { to = λ e. value-in w x v s (worth-some (ValueOf w x) v (sym asked ∙ e)); from = λ g. found v g },
+  record { to = nothing; from = alone },
+)
   where
     asked : lookUpCall w x ≡ outcome (worth (ValueOf w x)) []
     asked = clear-turn (input 0 mapLayout w ∷ []) [] _ (s, tt)
@@ -134,7 +142,8 @@ module _ (site factory : List ℕ) (x : ℕ) (p : SoundMap site) (q : SoundMap f
   decided-here : siteOverFactoryCall site factory x ≡ deciding site factory x
   unfolding siteOverFactoryCall
   decided-here =
-      ap (λ (o : Outcome). handed o (deciding site factory x) (partIn 0 noPart)) (clear-turn (siteRefusals site factory) [] (outcome (given []) []) (p, (q, tt)))
+      ap (λ (o : Outcome). handed o (deciding site factory x) (partIn 0 noPart))
+      (clear-turn (siteRefusals site factory) [] (outcome (given []) []) (p, (q, tt)))
 
   decided-words : (t : Bool) → has (ValueOf site x) ≡ t
       → wordsOfTwo site factory (pick t (partIn 0 (entryPart (mapLayout .width) site x)) (partIn 1 (entryPart (mapLayout .width) factory x)))

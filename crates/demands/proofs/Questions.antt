@@ -3,22 +3,21 @@ use mathlib.Core.Path.{_≡_, refl, sym, _∙_, ap, subst}
 use mathlib.Core.Option.{Option, none, some}
 use mathlib.Core.Bool.{Bool, true, false, not}
 use mathlib.Core.List.{List, [], _∷_}
-use Prim.Native.Nat.{ℕ, zero, suc, _+_, _*_, _-_, _≤_, _<_}
+use Prim.Native.Nat.{ℕ, suc, _+_, _*_, _-_, _≤_, _<_}
 use native.Mathlib.Omega.{arith}
-use native.Mathlib.Decide.{decLt}
 use lib.Dec.{leb, eqb}
-use lib.ListN.{length, getD, take, drop}
-use borrow.Author.Tests.{le-ltb, leb-true, leb-false, le-leb, eqb-true, eqb-false, ne-eqb}
+use lib.ListN.{length, getD}
+use borrow.Author.Tests.{le-ltb, leb-true, leb-false, eqb-true, eqb-false, ne-eqb}
 use Rattle.entries.specs.Entries.{Value, Entry, Sound, valueAt}
 use Rattle.entries.specs.Build.{pick, andb}
 use Rattle.entries.specs.Sets.{M, pastM, has, member, symmetricDifference, difference, intersection}
-use Rattle.entries.specs.Questions.{rangeAt, sizeOf, leastMember, leastFree, isEmpty, meeting}
+use Rattle.entries.specs.Questions.{rangeAt, sizeOf, leastMember, leastFree, isEmpty, meeting, count}
 use Rattle.entries.proofs.Values.{true≢false}
-use Rattle.entries.proofs.Questions.{count, size-counts, Least, LeastOf, least-member, least-free, range-in, range-out, none-empty}
-use Rattle.answers.specs.Answers.{Answer, given, Outcome, outcome, truth, optional, lessOne, inTurn, handed}
+use Rattle.entries.proofs.Questions.{size-counts, Least, LeastOf, least-member, least-free, range-in, range-out, none-empty}
+use Rattle.answers.specs.Answers.{Answer, given, Outcome, outcome, truth, optional, lessOne, handed}
 use Rattle.answers.proofs.Turns.{clear-turn}
-use Rattle.blocks.specs.Blocks.{setLayout, entriesOf, itemsOf, wordsOf, verdict}
-use Rattle.blocks.specs.Steps.{Lent, zero-item, itemAt}
+use Rattle.blocks.specs.Blocks.{setLayout, entriesOf, wordsOf, verdict, Lent}
+use Rattle.blocks.specs.Steps.{zero-item}
 use Rattle.blocks.specs.Calls.{input}
 use Rattle.blocks.proofs.Items.{entries-count, entry-is}
 use Rattle.blocks.proofs.Judging.{verdict-sound}
@@ -26,10 +25,11 @@ use Rattle.blocks.specs.declared.Layout.{Layout}
 use Rattle.searches.specs.Parts.{wordsAt, noPart}
 use Rattle.searches.specs.Calls.{windowPart, windowRefusals, windowCall}
 use Rattle.searches.proofs.Windows.{window-words}
-use Rattle.sets.specs.Calls.{asked, ends, nonMember, memberCall, rangeAtCall, sizeCall, leastMemberCall, leastNonMemberCall, askedTwo, equalCall, withinCall, disjointCall}
+use Rattle.sets.specs.Calls.{asked, ends, nonMember, memberCall, rangeAtCall, sizeCall, leastMemberCall, leastNonMemberCall, askedTwo, equalCall, withinCall}
+use Rattle.sets.specs.Calls.{disjointCall}
 use Rattle.sweeps.proofs.Tables.{bounded}
 use Rattle.sets.proofs.Sizes.{entries-under}
-use Rattle.demands.specs.Plain.{Iff, SoundSet, InRange, In, answers, yes, no}
+use Rattle.demands.specs.Plain.{SoundSet, InRange, In, answers, yes, no}
 use Rattle.demands.specs.Questions.{Answers, InSet, Member, RangeAt, Size, LeastMember, LeastNonMember, SetWindow, Equal, Within, Disjoint}
 use Rattle.demands.proofs.Sets.{equal-means, means-equal, within-means, means-within, disjoint-means, means-disjoint}
 use Rattle.demands.proofs.Words.{split, InItem, in-item, item-in}
@@ -52,7 +52,13 @@ range-in-set : (w : List ℕ) (x : ℕ) → SoundSet w → InRange w x → In w 
 range-in-set w x s g =
     let p : 1 + 2 * g .index ≡ 2 * g .index + 1 = omega arith in
     let q : 2 + 2 * g .index ≡ 2 * g .index + 2 = omega arith in
-    ap has (item-in setLayout w (omega arith) s x _ (record { index = g .index; below = g .below; low = rw p at (g .low); high = rw q at (g .high); value = refl }))
+    ap has (item-in setLayout w (omega arith) s x _ (record {
+      index = g .index;
+      below = g .below;
+      low = rw p at (g .low);
+      high = rw q at (g .high);
+      value = refl;
+    }))
 
 pub in-set : InSet
 in-set w x s = record { to = in-range w x s; from = range-in-set w x s }
@@ -100,7 +106,8 @@ range-at-means w i s = (inside, outside)
         let p : 1 + 2 * i ≡ 2 * i + 1 = omega arith in
         let q : 2 + 2 * i ≡ 2 * i + 2 = omega arith in
         asked-here
-        ∙ ap (λ (o : Option Entry). outcome (ends o) []) (range-in (entriesOf 2 w) i zero-item (omega (arith, n)) ∙ ap some (entry-is 2 (omega arith) w (getD w 0 0) refl i h))
+        ∙ ap (λ (o : Option Entry). outcome (ends o) []) (range-in (entriesOf 2 w) i zero-item (omega (arith, n))
+        ∙ ap some (entry-is 2 (omega arith) w (getD w 0 0) refl i h))
         ∙ rw (p, q)
 
     outside : getD w 0 0 ≤ i → rangeAtCall w i ≡ answers []
@@ -282,7 +289,8 @@ disjoint-answers w v p q lw =
     decided (disjointCall w v) (isEmpty (intersection (entriesOf 2 w) (entriesOf 2 v))) ((x : ℕ) → x ≤ M → In w x ≡ true → In v x ≡ true → ⊥)
     (asked-two w v p q (λ es fs. truth (isEmpty (intersection es fs))))
     (λ e x l m n. true≢false (sym (both (In w x) (In v x) m n) ∙ disjoint-means (entriesOf 2 w) (entriesOf 2 v) e x))
-    (λ h. means-disjoint (entriesOf 2 w) (entriesOf 2 v) (λ x. split x (λ l. apart (In w x) (In v x) (h x l)) (λ l. first-out (In w x) (In v x) (past-M w lw x l))))
+    (λ h. means-disjoint (entriesOf 2 w) (entriesOf 2 v) (λ x. split x (λ l. apart (In w x) (In v x) (h x l))
+    (λ l. first-out (In w x) (In v x) (past-M w lw x l))))
   where
     both : (t u : Bool) → t ≡ true → u ≡ true → andb t u ≡ true
     both true u e f = f

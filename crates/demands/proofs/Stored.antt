@@ -1,27 +1,21 @@
 -- Later words, old words, one stored form: the statements of specs/Stored.
 use mathlib.Core.Path.{_≡_, refl, sym, _∙_, ap, ap₂, subst}
-use mathlib.Core.Bool.{Bool}
-use mathlib.Core.Option.{Option}
-use mathlib.Core.List.{List, [], _∷_, _++_}
-use Prim.Native.Nat.{ℕ, zero, suc, _+_, _*_, _≤_, _<_}
+use mathlib.Core.List.{List, [], _∷_}
+use Prim.Native.Nat.{ℕ, zero, suc, _+_, _*_, _≤_}
 use native.Mathlib.Omega.{arith}
-use lib.Dec.{ltb, eqb}
-use lib.ListN.{length, getD, drop}
-use Rattle.entries.specs.Entries.{Value, Entry, valueAt}
-use Rattle.entries.specs.Sets.{M, pastM, has, member}
+use lib.Dec.{ltb}
+use lib.ListN.{length}
+use Rattle.entries.specs.Entries.{Entry, valueAt}
 use Rattle.entries.specs.Build.{put}
 use Rattle.entries.specs.Questions.{meeting, whollyBelow}
 use Rattle.entries.specs.Bulletins.{amended}
 use Rattle.entries.proofs.Plain.{set-canonical}
 use Rattle.entries.proofs.Canon.{canonical}
-use Rattle.answers.specs.declared.Finding.{Finding}
-use Rattle.answers.specs.Answers.{Answer, given, Outcome, outcome, judged, applies, inTurn, handed}
-use Rattle.answers.specs.Steps.{Clear}
+use Rattle.answers.specs.Answers.{given, Outcome, outcome, judged, applies, inTurn, handed, Clear}
 use Rattle.answers.proofs.Turns.{turn-accepted, clear-turn}
 use Rattle.blocks.specs.declared.Layout.{Layout}
 use Rattle.blocks.specs.Blocks.{setLayout, mapLayout, entriesOf, blockOf, verdict}
-use Rattle.blocks.specs.Steps.{Lent}
-use Rattle.blocks.specs.Calls.{input, output, room, backwards, holding, noRoom}
+use Rattle.blocks.specs.Calls.{output, room, backwards, holding, noRoom}
 use Rattle.blocks.proofs.Judging.{verdict-sound}
 use Rattle.searches.specs.declared.Part.{Part}
 use Rattle.searches.specs.Parts.{part, noPart, partSays}
@@ -29,12 +23,11 @@ use Rattle.searches.specs.Calls.{windowPart, windowRefusals, windowCall, window
 use Rattle.sweeps.proofs.Tables.{bounded}
 use Rattle.edits.specs.Calls.{edited, editRefusals, editCall}
 use Rattle.operations.specs.Calls.{twoRefusals, oneRefusals, fromTwo, fromOne}
-use Rattle.sets.specs.Calls.{asked, askedTwo}
 use Rattle.sets.proofs.Asking.{entries-plain}
 use Rattle.fits.specs.Calls.{zeroRun, noGap, placeOf, answered, fitCall}
 use Rattle.maps.specs.Calls.{worth, lookUpCall}
 use Rattle.bulletins.specs.Calls.{applyRefusals, applyCall}
-use Rattle.demands.specs.Plain.{In, ValueOf, leaves, SameForm}
+use Rattle.demands.specs.Plain.{leaves, SameForm}
 use Rattle.demands.specs.Stored.{LaterAsked, LaterAskedTwo, LaterWindow, LaterFit, LaterLookUp, LaterEdit, LaterTwo, LaterOne, OldWords, OneSet, OneMap}
 use Rattle.demands.proofs.Words.{split}
 use Rattle.demands.proofs.Questions.{upto-M}
@@ -97,7 +90,8 @@ later-window l w v two s a b = (
       where
         go : (n : ℕ) → verdict l w ≡ n → handed-by n w ≡ handed-by n v
         go zero z =
-            ap (λ (es : List Entry). handed (judged (applies (ltb b a) 4) 0 [] (outcome (given []) [])) (windowOf (l .width) a b es) noPart) (same-entries l two w v s z)
+            ap (λ (es : List Entry). handed (judged (applies (ltb b a) 4) 0 [] (outcome (given []) [])) (windowOf (l .width) a b es) noPart)
+            (same-entries l two w v s z)
         go (suc m) z = refl
 
 -- a block of another's length that is to hold the same entries

@@ -1,18 +1,16 @@
 -- BYTES: reading accepts exactly the byte forms, writing gives back the bytes read; the C host's question is reading and then membership.
 use mathlib.Core.Path.{_≡_}
-use mathlib.Core.Bool.{true}
 use mathlib.Core.List.{List, [], _∷_}
-use Prim.Native.Nat.{ℕ, _+_, _*_, _≤_, _<_}
+use Prim.Native.Nat.{ℕ, _+_, _*_, _≤_}
 use lib.ListN.{length, getD, take, drop}
 use Rattle.entries.specs.Entries.{Entry}
 use Rattle.entries.specs.Build.{pick}
-use Rattle.answers.specs.Answers.{given, refused, outcome, refuse, Keeps}
-use Rattle.answers.specs.Steps.{Clear}
+use Rattle.answers.specs.Answers.{given, refused, outcome, refuse, Keeps, Clear}
 use Rattle.blocks.specs.Blocks.{setLayout, mapLayout, entriesOf}
 use Rattle.numbers.specs.Numbers.{Bytes, patch}
 use Rattle.runs.specs.Runs.{lengths}
 use Rattle.verdicts.specs.declared.Form.{Form}
-use Rattle.verdicts.specs.Forms.{ofSet, ofMap, ofBulletin, formOf, formRefusals, outRefusals}
+use Rattle.verdicts.specs.Forms.{ofSet, ofMap, ofBulletin, formOf, outRefusals}
 use Rattle.verdicts.proofs.Whole.{Formed}
 use Rattle.forms.specs.Calls.{storedIn, heldIn, readCall, readSetCall, writeCall, writeSetCall, writeMapCall, writeBulletinCall, memberOfFormCall}
 use Rattle.demands.specs.Plain.{Iff, In, leaves}

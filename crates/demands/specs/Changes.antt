@@ -9,16 +9,15 @@ use lib.ListN.{length, getD}
 use Rattle.entries.specs.Entries.{Value, Entry, orElse}
 use Rattle.entries.specs.Build.{pick, andb}
 use Rattle.entries.specs.Sets.{M, has, orb, lessb, xorb}
-use Rattle.entries.specs.Maps.{keepIf}
-use Rattle.answers.specs.Answers.{Outcome, outcome, given, refused, refuse, Keeps}
+use Rattle.answers.specs.Answers.{refuse, Keeps}
 use Rattle.blocks.specs.declared.Layout.{Layout}
-use Rattle.blocks.specs.Blocks.{setLayout, mapLayout, capacity, entriesOf, verdict}
+use Rattle.blocks.specs.Blocks.{mapLayout, capacity, entriesOf, verdict}
 use Rattle.edits.specs.Calls.{edited, editCall}
 use Rattle.operations.specs.Calls.{fromTwo, fromOne}
 use Rattle.sets.specs.Calls.{makeEmptyCall, insertCall, removeCall, unionCall, intersectionCall, differenceCall, symmetricDifferenceCall, complementCall}
 use Rattle.sets.specs.Calls.{memberCall}
 use Rattle.maps.specs.Calls.{lookUpCall, assignCall, eraseCall, overlayCall, restrictionCall, domainCall}
-use Rattle.demands.specs.Plain.{Iff, In, ValueOf, yes, no, answers, leaves, Left, SetLeft, between, SameForm}
+use Rattle.demands.specs.Plain.{Iff, In, ValueOf, yes, no, answers, leaves, Left, SetLeft, between}
 
 -- [S8] make empty: no number is a member
 abbrev pub MakeEmpty : Type 0

@@ -3,16 +3,15 @@ use mathlib.Core.Path.{_≡_}
 use mathlib.Core.Bool.{true}
 use mathlib.Core.Option.{Option, some}
 use mathlib.Core.List.{List, [], _∷_}
-use Prim.Native.Nat.{ℕ, _+_, _-_, _≤_, _<_}
+use Prim.Native.Nat.{ℕ, _+_, _-_, _<_}
 use lib.ListN.{length}
 use Rattle.entries.specs.Entries.{Entry}
 use Rattle.entries.specs.Build.{pick}
 use Rattle.answers.specs.Answers.{outcome, given, refuse, Keeps}
 use Rattle.blocks.specs.Blocks.{setLayout, capacity, entriesOf}
-use Rattle.fits.specs.Fits.{firstFit, bestFit}
 use Rattle.fits.specs.Calls.{reservedAt, fitCall, firstFitCall, bestFitCall, reserveCall}
 use Rattle.fits.specs.Meaning.{FirstOf, BestOf}
-use Rattle.demands.specs.Plain.{Iff, SoundSet, In, answers, SetLeft, between}
+use Rattle.demands.specs.Plain.{Iff, In, answers, SetLeft, between}
 
 -- [F2] the answer of the call is the first fit
 abbrev pub FirstFit : Type 0

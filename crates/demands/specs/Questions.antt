@@ -6,15 +6,12 @@ use mathlib.Core.List.{List, [], _∷_}
 use Prim.Native.Nat.{ℕ, suc, _+_, _*_, _≤_, _<_}
 use lib.ListN.{getD}
 use Rattle.entries.specs.Sets.{M, pastM}
-use Rattle.entries.specs.Questions.{meeting}
-use Rattle.entries.proofs.Questions.{count}
-use Rattle.blocks.specs.Blocks.{setLayout, mapLayout, entriesOf, wordsOf}
-use Rattle.blocks.specs.Steps.{Lent}
+use Rattle.entries.specs.Questions.{meeting, count}
+use Rattle.blocks.specs.Blocks.{setLayout, mapLayout, entriesOf, wordsOf, Lent}
 use Rattle.answers.specs.Answers.{Outcome}
 use Rattle.entries.specs.Build.{pick}
 use Rattle.entries.specs.Sets.{has}
-use Rattle.maps.specs.Calls.{lookUpCall, mapWindowCall, siteOverFactoryCall}
-use Rattle.maps.proofs.Sites.{wordsOfTwo}
+use Rattle.maps.specs.Calls.{lookUpCall, mapWindowCall, siteOverFactoryCall, wordsOfTwo}
 use Rattle.sets.specs.Calls.{memberCall, rangeAtCall, sizeCall, leastMemberCall, leastNonMemberCall, setWindowCall, equalCall, withinCall, disjointCall}
 use Rattle.searches.specs.Parts.{wordsAt}
 use Rattle.demands.specs.Plain.{Iff, SoundSet, SoundMap, InRange, InEntry, In, ValueOf, answers, yes, no}

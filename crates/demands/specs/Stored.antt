@@ -1,22 +1,21 @@
 -- STORED FORMS: later words of an input are not read, an output's old words are not judged, and one set or map has one stored form.
 use mathlib.Core.Path.{_≡_}
 use mathlib.Core.Option.{Option}
-use mathlib.Core.List.{List, [], _∷_}
+use mathlib.Core.List.{List}
 use Prim.Native.Nat.{ℕ, _≤_}
 use lib.ListN.{length}
 use Rattle.entries.specs.Entries.{Value, Entry}
 use Rattle.entries.specs.Sets.{M}
 use Rattle.answers.specs.Answers.{Answer}
 use Rattle.blocks.specs.declared.Layout.{Layout}
-use Rattle.blocks.specs.Blocks.{setLayout, mapLayout, entriesOf, verdict}
-use Rattle.blocks.specs.Steps.{Lent}
+use Rattle.blocks.specs.Blocks.{setLayout, mapLayout, entriesOf, Lent}
 use Rattle.edits.specs.Calls.{editCall}
 use Rattle.searches.specs.Calls.{windowCall, windowRefusalCall, windowAtCall}
 use Rattle.operations.specs.Calls.{fromTwo, fromOne}
 use Rattle.sets.specs.Calls.{asked, askedTwo}
 use Rattle.fits.specs.Calls.{fitCall}
-use Rattle.maps.specs.Calls.{lookUpCall, siteRefusalCall, siteOverFactoryCall, siteOverFactoryAtCall}
-use Rattle.bulletins.specs.Calls.{applyCall, foldCall}
+use Rattle.maps.specs.Calls.{lookUpCall}
+use Rattle.bulletins.specs.Calls.{applyCall}
 use Rattle.demands.specs.Plain.{SoundSet, SoundMap, In, ValueOf, leaves, SameForm}
 
 -- [B7] LATER WORDS of an input are not read: blocks of one length with one stored form give one outcome. Of every question about a set,

@@ -22,7 +22,7 @@ use Rattle.entries.proofs.Plain.{plain-marks}
 use Rattle.entries.specs.Sets.{Plain, M, has, mark, member, orb, lessb, xorb, setOp, union, intersection, difference, symmetricDifference, complement}
 use Rattle.entries.proofs.Cuts.{NotIn, notin-append}
 use Rattle.entries.proofs.Canon.{none≢some}
-use Rattle.entries.proofs.Sides.{none-under, under}
+use Rattle.entries.proofs.Sides.{none-under}
 use Rattle.entries.proofs.Sets.{complement-lists, symmetric-is}
 
 -- one truth follows from another

@@ -10,7 +10,7 @@ use lib.Dec.{leb}
 use lib.ListN.{length, getD}
 use borrow.Author.Tests.{le-leb, lt-leb, leb-true, leb-false}
 use Rattle.entries.proofs.Values.{true≢false}
-use Rattle.entries.specs.Questions.{isEmpty, leastMember, leastFree, rangeAt, sizeOf}
+use Rattle.entries.specs.Questions.{isEmpty, leastMember, leastFree, rangeAt, sizeOf, bit, count}
 use Rattle.entries.proofs.Sides.{val-in, val-under, val-past, none-upto, none-under, Side, under, inside, past, side}
 use Rattle.entries.specs.Sets.{has, member}
 use Rattle.entries.specs.Build.{pick, andb}
@@ -41,15 +41,6 @@ from-low e (f ∷ es) N s u = omega (arith, from-low f es N (s .2) (u .1))
 pub size-most : (es : List Entry) (N : ℕ) → Sound es → Under N es → sizeOf es ≤ N
 size-most [] N s u = omega arith
 size-most (e ∷ es) N s u = omega (arith, from-low e es N s u)
-
--- how many numbers below N a test accepts
-abbrev pub bit : Bool → ℕ
-bit true = 1
-bit false = 0
-
-abbrev pub count : (ℕ → Bool) → ℕ → ℕ
-count m zero = 0
-count m (suc x) = bit (m x) + count m x
 
 count-same : (m k : ℕ → Bool) (N : ℕ) → ((x : ℕ) → x < N → m x ≡ k x) → count m N ≡ count k N
 count-same m k zero h = refl

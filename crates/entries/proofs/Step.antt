@@ -5,7 +5,7 @@ use mathlib.Core.List.{List, [], _∷_, _++_}
 use Prim.Native.Nat.{ℕ, suc, _+_, _≤_, _<_}
 use native.Mathlib.Omega.{arith}
 use native.Mathlib.Decide.{decLt}
-use Rattle.entries.specs.Entries.{Value, Entry, orElse, at, valueAt, Sound, ListOf, entry}
+use Rattle.entries.specs.Entries.{Value, Entry, orElse, valueAt, Sound, ListOf, entry}
 use Rattle.entries.proofs.Sides.{Side, under, inside, past, side, val-in, val-past, val-under}
 use Rattle.entries.proofs.Append.{value-append, Seam, sound-append, sound-left, sound-right, sound-seam, seam-head, none-left, orElse-none}
 

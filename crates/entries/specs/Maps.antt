@@ -1,8 +1,6 @@
 -- Maps, as lists of entries with a value, and the operations that make a map or a set from them.
-use mathlib.Core.Bool.{Bool, true, false}
 use mathlib.Core.Option.{Option, none, some}
 use mathlib.Core.List.{List}
-use Prim.Native.Nat.{ℕ}
 use Rattle.entries.specs.Entries.{Value, Entry, orElse, valueAt}
 use Rattle.entries.specs.Build.{build, cutsOf, combine}
 use Rattle.entries.specs.Sets.{has, mark}

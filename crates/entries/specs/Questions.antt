@@ -45,3 +45,13 @@ whollyBelow a = filter (λ e. ltb (e .high) a)
 abbrev pub isEmpty : List Entry → Bool
 isEmpty [] = true
 isEmpty (e ∷ es) = false
+
+-- a truth value as a number, 1 or 0
+abbrev pub bit : Bool → ℕ
+bit true = 1
+bit false = 0
+
+-- how many numbers below N a test accepts
+abbrev pub count : (ℕ → Bool) → ℕ → ℕ
+count m zero = 0
+count m (suc x) = bit (m x) + count m x

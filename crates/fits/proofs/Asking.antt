@@ -11,8 +11,8 @@ use Rattle.entries.specs.Entries.{Entry, entry}
 use Rattle.entries.specs.Build.{pick}
 use Rattle.entries.specs.Questions.{filter}
 use Rattle.answers.specs.declared.Refusal.{Refusal}
-use Rattle.answers.specs.Answers.{Answer, Outcome, outcome, refuse, judged, at, applies}
-use Rattle.answers.specs.Steps.{Clear, FirstOf}
+use Rattle.answers.specs.Answers.{Answer, Outcome, outcome, refuse, judged, at, applies, Clear}
+use Rattle.answers.specs.Steps.{FirstOf}
 use Rattle.answers.specs.Says.{refusalSays, refusalOf}
 use Rattle.answers.proofs.Numbers.{refusal-says}
 use Rattle.answers.proofs.Turns.{stops-in, passes-in, ends, refusal-by, given-by, applies-clear}

@@ -14,8 +14,7 @@ use Rattle.entries.specs.Sets.{M}
 use Rattle.answers.specs.declared.Refusal.{Refusal}
 use Rattle.answers.specs.declared.Placed.{Placed}
 use Rattle.answers.specs.declared.Placed.the-variants as placed
-use Rattle.answers.specs.Answers.{Answer, given, refused, Outcome, outcome, judged, applies, inTurn}
-use Rattle.answers.specs.Steps.{Clear}
+use Rattle.answers.specs.Answers.{Answer, given, refused, Outcome, outcome, judged, applies, inTurn, Clear}
 use Rattle.answers.specs.Says.{numberOf, refusalSays, placedSays, refusalOf}
 use Rattle.answers.proofs.Numbers.{refusal-says}
 use Rattle.answers.proofs.Turns.{refused≢given, turn-accepted, clear-turn}

@@ -6,13 +6,13 @@ use lib.ListN.{take, drop, replicate}
 use Rattle.entries.specs.Entries.{entry}
 use Rattle.entries.specs.Sets.{intersection}
 use Rattle.entries.specs.Bulletins.{shareb}
-use Rattle.answers.specs.Answers.{outcome, given, refuse}
+use Rattle.answers.specs.Answers.{outcome, given, refused, refuse}
 use Rattle.blocks.specs.Blocks.{blockOf}
 use Rattle.numbers.specs.Check.{fletcher, checkOf}
 use Rattle.records.specs.Records.{bodyLength, said, saying, recordVerdict}
 use Rattle.runs.specs.Runs.{runOf, entriesIn, runRefusals, runsOf, runsIn, runsRefusals}
 use Rattle.verdicts.specs.Forms.{formOf, setForm, mapForm, bulletinForm, formEntries, formRefusals}
-use Rattle.forms.specs.Calls.{readCall, readSetCall, readMapCall, readBulletinCall, memberOfFormCall}
+use Rattle.forms.specs.Calls.{readCall, readSetCall, readMapCall, readBulletinCall, judgeCall, judgeSetCall, memberOfFormCall}
 
 abbrev caseH : List ℕ
 caseH = 0xC5 ∷ 0x3A ∷ 0x01 ∷ 0x00 ∷ 0x01 ∷ 0x04 ∷ 0x02 ∷ 0xC5 ∷ 0x3A ∷ 0x10 ∷ 0 ∷ 0 ∷ 0 ∷ 0 ∷ 0 ∷ 0 ∷ 0 ∷ 5 ∷ 0 ∷ 0 ∷ 0 ∷ 0 ∷ 0 ∷ 0 ∷ 0 ∷ 9 ∷ 0x47 ∷ 0x1E ∷ []
@@ -52,6 +52,10 @@ unfolding formOf runsOf runOf saying readCall formRefusals formEntries runsRefus
 bulletins = refl
 
 -- «1 member, 0 not, 16 plus the refusal number»
+judgedAlone : judgeSetCall caseH ∷ judgeSetCall (take 27 caseH) ∷ [] ≡ outcome (given (1 ∷ [])) [] ∷ outcome (refused 8 7) [] ∷ []
+unfolding judgeCall formRefusals formEntries runsRefusals runRefusals runsIn entriesIn said recordVerdict bodyLength checkOf fletcher
+judgedAlone = refl
+
 asked : memberOfFormCall caseH 9 ∷ memberOfFormCall caseH 4 ∷ memberOfFormCall (take 27 caseH) 9 ∷ [] ≡ 1 ∷ 0 ∷ 24 ∷ []
 unfolding memberOfFormCall formRefusals formEntries runsRefusals runRefusals runsIn entriesIn said recordVerdict bodyLength checkOf fletcher
 asked = refl

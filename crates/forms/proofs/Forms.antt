@@ -10,8 +10,7 @@ use lib.Seq.{take-at, drop-at, length-take-le}
 use borrow.Author.Tests.{ltb-false, le-ltb, ne-eqb}
 use Rattle.entries.specs.Entries.{Entry, Sound}
 use Rattle.entries.specs.Build.{pick}
-use Rattle.answers.specs.Answers.{outcome, given, inTurn, applies}
-use Rattle.answers.specs.Steps.{Clear}
+use Rattle.answers.specs.Answers.{outcome, given, inTurn, applies, Clear}
 use Rattle.answers.proofs.Turns.{turn-accepted, clear-turn, applies-clear}
 use Rattle.blocks.specs.Blocks.{capacity, entriesOf, wordsOf, blockOf, verdict}
 use Rattle.blocks.specs.declared.Layout.{Layout}

@@ -1,5 +1,5 @@
 -- The answers of reading, judging and asking, from the tests of the code.
-use Prim.Native.Nat.{ℕ, zero, suc, _+_, _-_, _*_, _<_, _≤_}
+use Prim.Native.Nat.{ℕ, zero, suc, _+_, _*_, _<_, _≤_}
 use mathlib.Core.List.{List, [], _∷_, _++_}
 use mathlib.Core.Bool.{Bool}
 use mathlib.Core.Path.{_≡_, refl, sym, subst, ap, ap₂, _∙_}
@@ -9,8 +9,8 @@ use lib.ListN.{length, take, drop, length-drop}
 use borrow.Author.Tests.{ltb-false, eqb-false}
 use Rattle.entries.specs.Entries.{Entry}
 use Rattle.entries.specs.Sets.{member}
-use Rattle.answers.specs.Answers.{given, refused, Outcome, outcome, truth, judged, inTurn, applies}
-use Rattle.answers.specs.Steps.{Clear, FirstOf}
+use Rattle.answers.specs.Answers.{given, refused, Outcome, outcome, truth, judged, inTurn, applies, Clear}
+use Rattle.answers.specs.Steps.{FirstOf}
 use Rattle.answers.specs.Says.{judgedSays, judgedOf}
 use Rattle.answers.specs.declared.Finding.{Finding}
 use Rattle.answers.specs.declared.Judged.{Judged}

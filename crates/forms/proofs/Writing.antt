@@ -10,8 +10,8 @@ use lib.ListN.{length, getD, take, drop, length-drop, length-append}
 use borrow.Rule.Slice.PartMut.{putMid}
 use Rattle.entries.specs.Entries.{Entry}
 use Rattle.entries.specs.Bulletins.{shareb}
-use Rattle.answers.specs.Answers.{given, outcome, at, applies}
-use Rattle.answers.specs.Steps.{Clear, FirstOf}
+use Rattle.answers.specs.Answers.{given, outcome, at, applies, Clear}
+use Rattle.answers.specs.Steps.{FirstOf}
 use Rattle.answers.specs.Says.{writtenSays, refusalOf}
 use Rattle.answers.specs.declared.Finding.{Finding}
 use Rattle.answers.specs.declared.Refusal.{Refusal}

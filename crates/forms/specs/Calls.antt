@@ -25,7 +25,7 @@ storedIn [] runs = []
 storedIn (w ∷ ws) [] = []
 storedIn (w ∷ ws) (es ∷ runs) = blockOf (length w) es ∷ storedIn ws runs
 
--- reading into blocks, one for each run: the refusals of the bytes, then those of the outputs
+-- [Y12, Y15] reading into blocks, one for each run: the refusals of the bytes, then those of the outputs
 unfoldable pub readCall : Form → List ℕ → List (List ℕ) → Outcome
 readCall f b outs =
     inTurn (formRefusals f b ++ outRefusals (f .layout) (lengths outs) (lengths (formEntries f b))) outs
@@ -49,23 +49,23 @@ abbrev pub inputs : Layout → ℕ → List (List ℕ) → List Finding
 inputs layout position [] = []
 inputs layout position (w ∷ ws) = input position layout w ∷ inputs layout (suc position) ws
 
--- «Refusal 15 exactly if p is above the buffer's length or the rest is too short.»
+-- [R15, Y16] «Refusal 15 exactly if p is above the buffer's length or the rest is too short.»
 abbrev pub noSpace : ℕ → ℕ → ℕ → Bool
 noSpace p size len = pick (ltb len p) true (ltb (len - p) size)
 
--- «for each input block in turn 1, 2, 3; .. 14; .. 15»
+-- [R17] «for each input block in turn 1, 2, 3; .. 14; .. 15»
 abbrev pub blockRefusals : Form → List (List ℕ) → List Finding
 blockRefusals f ws = inputs (f .layout) 0 ws ++ (overlap (heldIn (f .layout) ws) ∷ [])
 
 abbrev pub writeRefusals : Form → List (List ℕ) → ℕ → ℕ → ℕ → List Finding
 writeRefusals f ws size len p = blockRefusals f ws ++ (at 0 (applies (noSpace p size len) 15) ∷ [])
 
--- a form, given by its bytes, at place p of a buffer: «the form is written into the part of the byte buffer that begins at p, and its
+-- [Y16] a form, given by its bytes, at place p of a buffer: «the form is written into the part of the byte buffer that begins at p, and its
 -- length is returned. .. Every other byte stays.»
 abbrev pub writtenAt : ℕ → List ℕ → List ℕ → Outcome
 writtenAt p form bytes = outcome (given (length form ∷ [])) (patch p form bytes ∷ [])
 
--- «Writing takes a byte buffer and a place p»: from blocks, one for each run
+-- [Y16] «Writing takes a byte buffer and a place p»: from blocks, one for each run
 unfoldable pub writeCall : Form → List (List ℕ) → List ℕ → ℕ → Outcome
 writeCall f ws bytes p =
     inTurn (writeRefusals f ws (length (formOf f (heldIn (f .layout) ws))) (length bytes) p) (bytes ∷ [])
@@ -80,7 +80,7 @@ writeMapCall w bytes p = writeCall ofMap (w ∷ []) bytes p
 abbrev pub writeBulletinCall : List ℕ → List ℕ → List ℕ → ℕ → Outcome
 writeBulletinCall released withdrawn bytes p = writeCall ofBulletin (released ∷ withdrawn ∷ []) bytes p
 
--- reading as far as 14, with nothing stored: «no block is needed». Its counts
+-- [H1] reading as far as 14, with nothing stored: «no block is needed». Its counts
 unfoldable pub judgeCall : Form → List ℕ → Outcome
 judgeCall f b = inTurn (formRefusals f b) [] (outcome (given (formCounts f b)) [])
 
@@ -97,12 +97,12 @@ abbrev pub firstOf : List (List Entry) → List Entry
 firstOf [] = []
 firstOf (es ∷ runs) = es
 
--- «The answer is one number: 1 member, 0 not, 16 plus the refusal number if reading refuses (8 to 13; no block is needed).»
+-- [H1] «The answer is one number: 1 member, 0 not, 16 plus the refusal number if reading refuses (8 to 13; no block is needed).»
 abbrev pub oneNumber : Outcome → ℕ
 oneNumber (outcome (given xs) lent) = getD xs 0 0
 oneNumber (outcome (refused number place) lent) = 16 + number
 
--- «A C host asks with a byte buffer and a number whether the number is a member of the set in the buffer. .. The whole form is judged
+-- [H1, H2] «A C host asks with a byte buffer and a number whether the number is a member of the set in the buffer. .. The whole form is judged
 -- before 1 or 0 is given.»
 unfoldable pub memberOfFormCall : List ℕ → ℕ → ℕ
 memberOfFormCall b x = oneNumber (inTurn (formRefusals ofSet b) [] (outcome (truth (member (firstOf (formEntries ofSet b)) x)) []))

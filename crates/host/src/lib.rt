@@ -2,7 +2,9 @@
 // Each contract is the outcome of the call's own definition, told in C by one definition, `inC` of specs/Told.
 ghost use mathlib.Core.Path.{_≡_};
 ghost use mathlib.Core.List.{[], _∷_};
-ghost use Rattle.sets.specs.Calls.{makeEmptyCall, memberCall, rangeAtCall, sizeCall, leastMemberCall, leastNonMemberCall, setWindowAtCall, insertCall, removeCall, equalCall, withinCall, disjointCall, unionCall, intersectionCall, differenceCall, symmetricDifferenceCall, complementCall};
+ghost use Rattle.sets.specs.Calls.{makeEmptyCall, memberCall, rangeAtCall, sizeCall, leastMemberCall, leastNonMemberCall, setWindowAtCall, insertCall};
+ghost use Rattle.sets.specs.Calls.{removeCall, equalCall, withinCall, disjointCall, unionCall, intersectionCall, differenceCall, symmetricDifferenceCall};
+ghost use Rattle.sets.specs.Calls.{complementCall};
 ghost use Rattle.fits.specs.Calls.{firstFitCall, bestFitCall, reserveFirstCall, reserveBestCall};
 ghost use Rattle.maps.specs.Calls.{lookUpCall, assignCall, eraseCall, mapWindowAtCall, siteOverFactoryAtCall, overlayCall, restrictionCall, domainCall};
 ghost use Rattle.bulletins.specs.Calls.{applyCall, foldCall};
@@ -272,7 +274,9 @@ pub extern "C" fn wimblorque_bulletin_fold(
     released: &mut [u64],
     withdrawn: &mut [u64],
 ) -> Told
-    ensures { λ r. ⌜ Tells r (now (released .exit) ∷ now (withdrawn .exit) ∷ []) (foldCall (now (released1 .entry)) (now (withdrawn1 .entry)) (now (released2 .entry)) (now (withdrawn2 .entry)) (now (released .entry)) (now (withdrawn .entry))) ⌝ }
+    ensures { λ r. ⌜ Tells r (now (released .exit) ∷ now (withdrawn .exit) ∷ [])
+        (foldCall (now (released1 .entry)) (now (withdrawn1 .entry)) (now (released2 .entry)) (now (withdrawn2 .entry)) (now (released .entry))
+        (now (withdrawn .entry))) ⌝ }
 {
     told::tell_judged(bulletins::fold(
         released1,
@@ -307,7 +311,8 @@ pub extern "C" fn wimblorque_bulletin_read(
     released: &mut [u64],
     withdrawn: &mut [u64],
 ) -> Told
-    ensures { λ r. ⌜ Tells r (now (released .exit) ∷ now (withdrawn .exit) ∷ []) (readBulletinCall (now (bytes .entry)) (now (released .entry)) (now (withdrawn .entry))) ⌝ }
+    ensures { λ r. ⌜ Tells r (now (released .exit) ∷ now (withdrawn .exit) ∷ [])
+        (readBulletinCall (now (bytes .entry)) (now (released .entry)) (now (withdrawn .entry))) ⌝ }
 {
     told::tell_judged(forms::read_bulletin(bytes, released, withdrawn))
 }
@@ -352,7 +357,7 @@ pub extern "C" fn wimblorque_bulletin_write(
     told::tell_written(forms::write_bulletin(released, withdrawn, bytes, p))
 }
 
-// Whether x is a member of the set whose byte form is in the buffer: 1 member, 0 not, 16 plus the refusal's number where the bytes
+// [G6] Whether x is a member of the set whose byte form is in the buffer: 1 member, 0 not, 16 plus the refusal's number where the bytes
 // are not the byte form of a set.
 #[no_mangle]
 pub extern "C" fn wimblorque_member(bytes: &[u8], x: u64) -> u64

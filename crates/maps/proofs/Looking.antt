@@ -1,21 +1,16 @@
 -- What the code's tests make of the definition of looking up.
 use mathlib.Core.Path.{_≡_, sym, _∙_, ap}
-use mathlib.Core.Bool.{Bool, true, false}
-use mathlib.Core.Option.{Option}
 use mathlib.Core.List.{List, [], _∷_}
-use Prim.Native.Nat.{ℕ, _+_, _*_, _-_, _≤_}
+use Prim.Native.Nat.{ℕ, _+_, _≤_}
 use native.Mathlib.Omega.{arith}
-use lib.ListN.{length, getD, take, drop}
+use lib.ListN.{length, getD, take}
 use lib.Seq.{drop-cons}
-use Rattle.entries.specs.Entries.{Value, valueAt}
-use Rattle.entries.specs.Build.{pick}
-use Rattle.entries.specs.Sets.{has}
-use Rattle.entries.specs.Questions.{whollyBelow}
+use Rattle.entries.specs.Entries.{valueAt}
 use Rattle.answers.specs.declared.Refusal.{Refusal}
 use Rattle.answers.specs.Answers.{Answer, given, outcome}
 use Rattle.answers.specs.Says.{refusalSays, refusalOf}
 use Rattle.answers.proofs.Numbers.{refused-as, given-as}
-use Rattle.blocks.specs.Blocks.{mapLayout, verdict, SoundBlock}
+use Rattle.blocks.specs.Blocks.{mapLayout, verdict}
 use Rattle.blocks.proofs.Judging.{verdict-small}
 use Rattle.searches.specs.declared.Part.{Part}
 use Rattle.searches.specs.Steps.{EntryOf}

@@ -8,7 +8,7 @@ use Rattle.sweeps.specs.Sweeps.{inEither, inBoth, inFirst}
 use Rattle.sweeps.proofs.Tables.{overlay-table, restriction-table, domain-table, fit-set, fit-overlay, fit-restriction}
 use Rattle.operations.specs.declared.Layouts.{Layouts}
 use Rattle.operations.proofs.Making.{set-small, map-small}
-use Rattle.operations.specs.Steps.{Small, TwoFit, OneFit}
+use Rattle.operations.specs.Steps.{TwoFit, OneFit}
 use Rattle.maps.proofs.Looking.{width}
 
 -- two maps into a map, and a map and a set into a map

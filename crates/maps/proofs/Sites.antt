@@ -2,25 +2,25 @@
 use mathlib.Core.Path.{_≡_, refl, sym, _∙_, ap, subst}
 use mathlib.Core.Bool.{Bool, true, false}
 use mathlib.Core.List.{List, [], _∷_}
-use Prim.Native.Nat.{ℕ, zero, suc, _+_, _-_, _*_, _≤_, _<_}
+use Prim.Native.Nat.{ℕ, zero, suc, _+_, _≤_, _<_}
 use native.Mathlib.Omega.{arith}
 use native.Mathlib.Decide.{decLt}
 use lib.Dec.{eqb}
 use lib.ListN.{length, take, drop}
 use borrow.Author.Tests.{eq-eqb, ne-eqb, eqb-true}
-use denote.Ref.{RefT, now}
+use denote.Ref.{RefT}
 use Rattle.entries.specs.Entries.{valueAt}
 use Rattle.entries.specs.Build.{pick}
 use Rattle.entries.specs.Sets.{has}
-use Rattle.answers.specs.Answers.{Answer, given, refused, Outcome, outcome, judged, inTurn, handed}
+use Rattle.answers.specs.Answers.{given, refused, Outcome, outcome, judged, inTurn, handed}
 use Rattle.answers.proofs.Turns.{bare, turn-bare}
 use Rattle.blocks.specs.Blocks.{mapLayout, verdict}
 use Rattle.searches.specs.declared.Part.{Part}
-use Rattle.searches.specs.Parts.{part, noPart, wordsAt, IsPart}
+use Rattle.searches.specs.Parts.{part, noPart, IsPart}
 use Rattle.searches.specs.Calls.{entryPart}
 use Rattle.searches.specs.Steps.{EntryOf}
 use Rattle.maps.specs.declared.Deciding.{Deciding}
-use Rattle.maps.specs.Calls.{mapEntries, partIn, atPosition, deciding, decidingSays, siteRefusals, siteRefusalCall, siteOverFactoryCall}
+use Rattle.maps.specs.Calls.{mapEntries, partIn, atPosition, deciding, decidingSays, siteRefusals, siteRefusalCall, siteOverFactoryCall, wordsOfTwo}
 use Rattle.maps.specs.Calls.{siteOverFactoryAtCall}
 use Rattle.maps.specs.Steps.{DecidingOf}
 
@@ -89,10 +89,6 @@ decidingIn (outcome (given (place ∷ [])) lent) = partIn 0 noPart
 decidingIn (outcome (given (place ∷ words ∷ [])) lent) = partIn 0 noPart
 decidingIn (outcome (given (place ∷ words ∷ position ∷ xs)) lent) = partIn position (part place words)
 decidingIn (outcome (refused n p) lent) = partIn 0 noPart
-
--- its words
-abbrev pub wordsOfTwo : List ℕ → List ℕ → Deciding → List ℕ
-wordsOfTwo site factory d = wordsAt (atPosition (d .position) site factory) (part (d .place) (d .length))
 
 -- [M8] the offset, the length and the position name the words that are handed back
 pub part-of-deciding : (site factory : List ℕ) (x : ℕ)

@@ -13,7 +13,7 @@ use Rattle.blocks.specs.Blocks.{entriesOf, setLayout, mapLayout}
 use Rattle.blocks.specs.Calls.{input}
 use Rattle.edits.specs.Calls.{editCall}
 use Rattle.searches.specs.declared.Part.{Part}
-use Rattle.searches.specs.Parts.{noPart}
+use Rattle.searches.specs.Parts.{noPart, part, wordsAt}
 use Rattle.searches.specs.Calls.{windowCall, windowAtCall, windowRefusalCall, entryPart}
 use Rattle.operations.specs.Calls.{fromTwo, fromOne}
 use Rattle.maps.specs.declared.Deciding.{Deciding}
@@ -97,3 +97,7 @@ decidingSays d = pick (eqb (d .length) 0) (given []) (given (d .place ∷ d .len
 -- [M8] the same, for a host that is handed no slice (`part-of-deciding` in proofs/Sites)
 unfoldable pub siteOverFactoryAtCall : List ℕ → List ℕ → ℕ → Outcome
 siteOverFactoryAtCall site factory x = inTurn (siteRefusals site factory) [] (outcome (decidingSays (deciding site factory x)) [])
+
+-- the words of a part of one of two maps
+abbrev pub wordsOfTwo : List ℕ → List ℕ → Deciding → List ℕ
+wordsOfTwo site factory d = wordsAt (atPosition (d .position) site factory) (part (d .place) (d .length))

@@ -7,7 +7,7 @@ use lib.ListN.{length, getD, take, drop}
 abbrev pub Bytes : List ℕ → Type 0
 Bytes b = (i : ℕ) → getD b i 0 < 256
 
--- the number of 2, 4, 8 bytes at place q
+-- [Y1] the number of 2, 4, 8 bytes at place q
 abbrev pub num2 : List ℕ → ℕ → ℕ
 num2 b q = getD b q 0 * 256 + getD b (q + 1) 0
 
@@ -17,7 +17,7 @@ num4 b q = num2 b q * 65536 + num2 b (q + 2)
 abbrev pub num8 : List ℕ → ℕ → ℕ
 num8 b q = num4 b q * 4294967296 + num4 b (q + 4)
 
--- its bytes
+-- [Y1] its bytes
 abbrev pub be2 : ℕ → List ℕ
 be2 v = v / 256 ∷ v % 256 ∷ []
 
@@ -45,7 +45,7 @@ abbrev pub countBytes : List ℕ → List ℕ
 countBytes [] = []
 countBytes (n ∷ ns) = be2 n ++ countBytes ns
 
--- vs over the front of b, and over b from p on: «Every other byte stays.»
+-- [Y16] vs over the front of b, and over b from p on: «Every other byte stays.»
 abbrev pub over : List ℕ → List ℕ → List ℕ
 over vs b = vs ++ drop (length vs) b
 

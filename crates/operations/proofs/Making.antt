@@ -2,7 +2,7 @@
 use mathlib.Core.Path.{_≡_, refl, sym, _∙_, ap, ap₂}
 use mathlib.Core.Bool.{Bool, true, false}
 use mathlib.Core.List.{List, [], _∷_}
-use Prim.Native.Nat.{ℕ, zero, suc, _+_, _*_, _-_, _≤_, _<_}
+use Prim.Native.Nat.{ℕ, zero, suc, _+_, _*_, _≤_, _<_}
 use native.Mathlib.Omega.{arith}
 use lib.Dec.{leb}
 use lib.ListN.{length, getD, drop, length-drop}
@@ -14,9 +14,8 @@ use Rattle.answers.specs.Answers.{Outcome, outcome, given, judged as judgedBy, 
 use Rattle.answers.specs.Says.{judgedSays, judgedOf}
 use Rattle.answers.proofs.Numbers.{judged-says}
 use Rattle.blocks.specs.declared.Layout.{Layout}
-use Rattle.blocks.specs.Blocks.{setLayout, mapLayout, capacity, blockOf, entriesOf, verdict, SoundBlock}
+use Rattle.blocks.specs.Blocks.{setLayout, mapLayout, capacity, blockOf, entriesOf, verdict, SoundBlock, Lent}
 use Rattle.blocks.specs.Calls.{noBlock, stored}
-use Rattle.blocks.specs.Steps.{Lent}
 use Rattle.blocks.proofs.Judging.{verdict-sound, room-words, verdict-small}
 use Rattle.blocks.proofs.Words.{Shaped, items-shaped, items-length}
 use Rattle.sweeps.specs.declared.Plan.{Plan}

@@ -12,7 +12,7 @@ use Rattle.blocks.specs.Blocks.{itemOf, afterb}
 use Rattle.numbers.specs.Numbers.{num2, be2, wordsIn, wordBytes, countsIn, countBytes}
 use Rattle.numbers.specs.Check.{checkOf}
 
--- «kind | body», the body's length; «0x00 and every other kind, from 0x04 to 0x0F and from 0x14 to 0xFF, is unknown»
+-- [Y3, Y4, Y5, Y6, Y7, Y8, Y9] «kind | body», the body's length; «0x00 and every other kind, from 0x04 to 0x0F and from 0x14 to 0xFF, is unknown»
 unfoldable pub bodyLength : ℕ → Option ℕ
 bodyLength kind =
     pick (eqb kind 0x01) (some 2)
@@ -23,11 +23,11 @@ bodyLength kind =
     (pick (eqb kind 0x12) (some 16)
     (pick (eqb kind 0x13) (some 16) none))))))
 
--- «A record is the mark .., one kind byte, a body, two check bytes.»
+-- [Y2] «A record is the mark .., one kind byte, a body, two check bytes.»
 abbrev pub recordOf : ℕ → ℕ → List ℕ → List ℕ
 recordOf mark kind body = be2 mark ++ ((kind ∷ body) ++ be2 (checkOf mark (kind ∷ body)))
 
--- «count, 2 bytes»; «released count, withdrawn count, 2 bytes each»
+-- [Y3, Y4, Y5] «count, 2 bytes»; «released count, withdrawn count, 2 bytes each»
 abbrev pub startRecord : ℕ → ℕ → List ℕ → List ℕ
 startRecord mark kind counts = recordOf mark kind (countBytes counts)
 
@@ -39,21 +39,21 @@ said kind item = item
 unfoldable pub saying : ℕ → Entry → Entry
 saying kind e = e
 
--- «low, high, 8 bytes each»; «low, high, value, 8 bytes each»
+-- [Y6, Y7, Y8] «low, high, 8 bytes each»; «low, high, value, 8 bytes each»
 abbrev pub entryWords : Entry → List ℕ
 entryWords e = e .low ∷ e .high ∷ e .value
 
 abbrev pub itemRecord : ℕ → ℕ → Entry → List ℕ
 itemRecord mark kind e = recordOf mark kind (wordBytes (entryWords (saying kind e)))
 
--- «fewer bytes than its full length, 8; check, 11; content, 12»
+-- [R8, R11, R12, Y13] «fewer bytes than its full length, 8; check, 11; content, 12»
 abbrev pub bodyVerdict : ℕ → Option ℕ → Bool → List ℕ → ℕ
 bodyVerdict mark none content b = 10
 bodyVerdict mark (some n) content b =
     pick (ltb (length b) (n + 5)) 8
     (pick (eqb (checkOf mark (take (n + 1) (drop 2 b))) (num2 b (n + 3))) (pick content 0 12) 11)
 
--- what is left of the bytes begins with a whole record of the kind that is due, whose content is right or not: «fewer than 3 bytes
+-- [R8, R9, R10, Y13] what is left of the bytes begins with a whole record of the kind that is due, whose content is right or not: «fewer than 3 bytes
 -- left, 8; mark, 9; kind, 10»
 unfoldable pub recordVerdict : ℕ → ℕ → Bool → List ℕ → ℕ
 recordVerdict mark due content b =
@@ -62,7 +62,7 @@ recordVerdict mark due content b =
     (pick (eqb (getD b 2 0) due) (bodyVerdict mark (bodyLength due) content b) 10)
     9)
 
--- «12 Content: a count above the limit»: a start record with k counts
+-- [R12] «12 Content: a count above the limit»: a start record with k counts
 abbrev pub allWithin : ℕ → List ℕ → Bool
 allWithin limit [] = true
 allWithin limit (n ∷ ns) = andb (leb n limit) (allWithin limit ns)
@@ -79,7 +79,7 @@ abbrev pub follows : Option Entry → Entry → Bool
 follows none e = true
 follows (some d) e = afterb d e
 
--- «12 Content: .. an item that breaks soundness»
+-- [R12] «12 Content: .. an item that breaks soundness»
 abbrev pub inOrder : Option Entry → Entry → Bool
 inOrder before e = andb (leb (e .low) (e .high)) (follows before e)
 

@@ -40,7 +40,7 @@ pub enum ItemRead {
     Bad(u8),
 }
 
-// The length of the body of each kind, or that the kind is unknown.
+// [G5] The length of the body of each kind, or that the kind is unknown.
 pub fn body_length(kind: u8) -> Body
     ensures { λ r. ⌜ r ≡ bodyRead (bodyLength kind) ⌝ }
 {

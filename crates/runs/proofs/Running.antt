@@ -1,5 +1,5 @@
 -- A run of item records: what is accepted is the run of its entries, and the run of sound entries is accepted.
-use Prim.Native.Nat.{ℕ, zero, suc, _+_, _-_, _*_, _≤_}
+use Prim.Native.Nat.{ℕ, zero, suc, _+_, _*_, _≤_}
 use mathlib.Core.List.{List, [], _∷_, _++_, append-assoc}
 use mathlib.Core.Bool.{Bool, true, false}
 use mathlib.Core.Option.{Option, none, some}
@@ -12,7 +12,7 @@ use lib.Seq.{drop-drop, getD-drop}
 use Rattle.entries.specs.Entries.{Entry}
 use Rattle.entries.specs.Build.{andb}
 use Rattle.entries.proofs.Values.{and-true}
-use Rattle.answers.specs.Steps.{Clear}
+use Rattle.answers.specs.Answers.{Clear}
 use Rattle.answers.specs.declared.Finding.{Finding}
 use Rattle.blocks.specs.Blocks.{linkb, soundb, wordsOf}
 use Rattle.blocks.proofs.Words.{Shaped}

@@ -12,7 +12,7 @@ use lib.Seq.{drop-drop, drop-at}
 use borrow.Author.Tests.{leb-true, le-leb}
 use Rattle.entries.specs.Entries.{Entry, Sound}
 use Rattle.entries.proofs.Values.{and-true}
-use Rattle.answers.specs.Steps.{Clear}
+use Rattle.answers.specs.Answers.{Clear}
 use Rattle.blocks.specs.Blocks.{wordsOf}
 use Rattle.blocks.proofs.Words.{Shaped}
 use Rattle.blocks.proofs.Judging.{sound-true, true-sound}

@@ -9,7 +9,7 @@ use Rattle.answers.specs.Answers.{at}
 use Rattle.answers.specs.declared.Finding.{Finding}
 use Rattle.records.specs.Records.{itemRecord, itemVerdict, entryIn}
 
--- the records of the entries, one after the other
+-- [Y10] the records of the entries, one after the other
 unfoldable pub runOf : ℕ → ℕ → List Entry → List ℕ
 runOf mark kind [] = []
 runOf mark kind (e ∷ es) = itemRecord mark kind e ++ runOf mark kind es
@@ -19,7 +19,7 @@ unfoldable pub entriesIn : ℕ → ℕ → ℕ → List ℕ → List Entry
 entriesIn kind s zero b = []
 entriesIn kind s (suc n) b = entryIn kind s b ∷ entriesIn kind s n (drop (8 * s + 5) b)
 
--- n records are due at place p, where the bytes b are left: «For each record in turn», with its place
+-- [Y13, Y14] n records are due at place p, where the bytes b are left: «For each record in turn», with its place
 unfoldable pub runRefusals : ℕ → ℕ → ℕ → ℕ → ℕ → Option Entry → List ℕ → List Finding
 runRefusals mark kind s zero p before b = []
 runRefusals mark kind s (suc n) p before b =

@@ -12,7 +12,7 @@ use answers::Finding;
 use records::Item;
 use records::ItemRead;
 
-// The verdict on the n item records from place `from` on: the first refusal, or number 0 and the place behind them.
+// [G3] The verdict on the n item records from place `from` on: the first refusal, or number 0 and the place behind them.
 pub fn judge_run(bytes: &[u8], from: usize, mark: u16, kind: u8, s: usize, n: usize) -> Finding
     requires { ⌜ ItemKind kind s × (from ≤ length (now bytes)) ⌝ }
     ensures { λ r. ⌜ RunJudged mark kind s n from (now (bytes .entry)) r ⌝ }
@@ -61,7 +61,7 @@ fn fill_run(bytes: &[u8], kind: u8, s: usize, n: usize, out: &mut [u64])
     }
 }
 
-// Writes the n items whose words begin at the front of words as item records, at the front of the bytes.
+// [G4] Writes the n items whose words begin at the front of words as item records, at the front of the bytes.
 pub fn write_run(words: &[u64], s: usize, n: usize, mark: u16, kind: u8, bytes: &mut [u8])
     requires { ⌜ Fills s n (now bytes) (now words) ⌝ }
     ensures { λ _. ⌜ now (bytes .exit) ≡ over (runOf mark kind (itemsOf s n (now (words .entry)))) (now (bytes .entry)) ⌝ }

@@ -5,7 +5,7 @@ use mathlib.Core.Option.{Option, none, some}
 use mathlib.Core.List.{List}
 use Prim.Native.Nat.{ℕ, _+_, _*_, _-_, _≤_}
 use native.Mathlib.Omega.{arith}
-use lib.ListN.{length, getD, take, drop}
+use lib.ListN.{length, take, drop}
 use Rattle.entries.specs.Entries.{Value, valueAt}
 use Rattle.entries.specs.Build.{pick}
 use Rattle.entries.specs.Sets.{has}
@@ -13,7 +13,6 @@ use Rattle.entries.specs.Questions.{whollyBelow}
 use Rattle.entries.proofs.Values.{true≢false}
 use Rattle.blocks.specs.declared.Layout.{Layout}
 use Rattle.blocks.specs.Blocks.{entriesOf, SoundBlock}
-use Rattle.searches.specs.declared.Part.{Part}
 use Rattle.searches.specs.declared.Spot.{Spot}
 use Rattle.searches.specs.Parts.{part, noPart}
 use Rattle.searches.specs.Calls.{entryPart}

@@ -1,5 +1,5 @@
 -- Two sound lists share a number: pair by pair, by a walk along both, and by their intersection.
-use Prim.Native.Nat.{ℕ, suc, _-_, _<_, _≤_, max}
+use Prim.Native.Nat.{ℕ, suc, _<_, _≤_, max}
 use mathlib.Core.List.{List, [], _∷_}
 use mathlib.Core.Bool.{Bool, true, false}
 use mathlib.Core.Option.{Option, none, some}

@@ -9,14 +9,14 @@ use native.Mathlib.Decide.{decLt}
 use lib.Dec.{ltb, eqb}
 use lib.ListN.{length, getD, take, drop, length-drop}
 use lib.Seq.{length-take-le, drop-drop}
-use borrow.Author.Tests.{le-ltb, lt-ltb, ltb-false, eqb-true, eq-eqb, ne-eqb}
+use borrow.Author.Tests.{le-ltb, lt-ltb, eqb-true, eq-eqb, ne-eqb}
 use denote.Ref.{RefT, now}
 use Rattle.entries.specs.Entries.{Entry}
 use Rattle.entries.specs.Build.{pick}
 use Rattle.entries.specs.Questions.{meeting, whollyBelow}
 use Rattle.entries.proofs.Windows.{Passed, Begun, meeting-part, in-order as ends-in-order}
-use Rattle.answers.specs.Answers.{Outcome, outcome, given, refused, judged, at, applies, handed, inTurn}
-use Rattle.answers.specs.Steps.{Clear, FirstOf}
+use Rattle.answers.specs.Answers.{Outcome, outcome, given, refused, judged, at, applies, handed, inTurn, Clear}
+use Rattle.answers.specs.Steps.{FirstOf}
 use Rattle.answers.proofs.Turns.{stops, passes, ends, bare, turn-bare}
 use Rattle.blocks.specs.declared.Layout.{Layout}
 use Rattle.blocks.specs.Blocks.{entriesOf, itemsOf, wordsOf, verdict}
@@ -26,7 +26,7 @@ use Rattle.blocks.proofs.Refusing.{in-order}
 use Rattle.blocks.proofs.Items.{entries-count, held}
 use Rattle.blocks.proofs.Judging.{verdict-small, verdict-sound}
 use Rattle.blocks.proofs.Words.{items-drop, items-take, write-back}
-use Rattle.searches.specs.Calls.{windowPlace, windowLength, windowPart, windowRefusals, windowCall, windowAtCall, windowRefusalCall}
+use Rattle.searches.specs.Calls.{windowPart, windowRefusals, windowCall, windowAtCall, windowRefusalCall}
 use Rattle.searches.specs.declared.Part.{Part}
 use Rattle.searches.specs.Parts.{part, noPart, wordsAt, IsPart, partSays}
 use Rattle.searches.specs.Steps.{FirstFrom, Windowed, PartOf}

@@ -2,7 +2,7 @@
 use mathlib.Core.Path.{_≡_, refl, sym, _∙_, ap}
 use mathlib.Core.Bool.{Bool, true, false}
 use mathlib.Core.List.{List, [], _∷_}
-use Prim.Native.Nat.{ℕ, _+_, _-_, _≤_}
+use Prim.Native.Nat.{ℕ, _+_, _≤_}
 use native.Mathlib.Omega.{arith}
 use lib.Dec.{ltb}
 use lib.ListN.{length}
@@ -19,7 +19,7 @@ use Rattle.entries.proofs.Questions.{none-empty}
 use Rattle.sweeps.specs.Sweeps.{result, Bounded, inEither, inBoth, firstAlone, justOne, notFirst}
 use Rattle.sweeps.proofs.Tables.{union-table, intersection-table, difference-table, symmetric-table, complement-table, fit-set}
 use Rattle.operations.proofs.Making.{set-small}
-use Rattle.operations.specs.Steps.{TwoFit, OneFit, Small}
+use Rattle.operations.specs.Steps.{TwoFit, OneFit}
 use Rattle.answers.specs.Says.{refusalSays, refusalOf}
 use Rattle.answers.proofs.Numbers.{refused-as, given-as}
 use Rattle.blocks.specs.Blocks.{entriesOf, verdict, setLayout}

@@ -7,11 +7,10 @@ use native.Mathlib.Omega.{arith}
 use lib.ListN.{length, getD, drop}
 use lib.Seq.{drop-drop, getD-drop}
 use Rattle.entries.specs.Sets.{pastM}
-use Rattle.blocks.specs.Steps.{Lent}
 use Rattle.entries.specs.Entries.{Sound}
 use Rattle.answers.specs.Answers.{lessOne, given}
 use Rattle.entries.proofs.Questions.{size-most, Under}
-use Rattle.blocks.specs.Blocks.{itemsOf, entriesOf, setLayout}
+use Rattle.blocks.specs.Blocks.{itemsOf, entriesOf, setLayout, Lent}
 use Rattle.blocks.proofs.Judging.{room-words}
 use Rattle.sets.specs.Steps.{Counted}
 use Rattle.entries.specs.Questions.{sizeOf}

@@ -12,7 +12,6 @@ use lib.ListN.{length, getD, take, drop, length-take}
 use lib.Seq.{getD-drop, take-all}
 use lib.Dec.{leb, ltb}
 use borrow.Author.Tests.{lt-ltb, le-ltb, le-leb, lt-leb}
-use Rattle.blocks.specs.Steps.{Lent}
 use Rattle.entries.specs.Entries.{Value, Entry, orElse, both, valueAt, Sound, ListOf}
 use Rattle.entries.specs.Build.{pick, andb, combine, cutsOf}
 use Rattle.entries.specs.Sets.{M, has, mark, member, orb, lessb, xorb, setOp, union, intersection, difference, symmetricDifference, complement, pastM}
@@ -26,7 +25,7 @@ use Rattle.entries.proofs.Building.{built}
 use Rattle.entries.proofs.Operations.{endOf, value-changes, value-ends, combined}
 use Rattle.entries.proofs.Taut.{taut2}
 use Rattle.entries.proofs.Sets.{difference-is, complement-lists}
-use Rattle.blocks.specs.Blocks.{itemOf, itemsOf, entriesOf, SoundBlock}
+use Rattle.blocks.specs.Blocks.{itemOf, itemsOf, entriesOf, SoundBlock, Lent}
 use Rattle.blocks.proofs.Words.{Shaped}
 use Rattle.blocks.specs.declared.Layout.{Layout}
 use Rattle.blocks.proofs.Judging.{room-words}

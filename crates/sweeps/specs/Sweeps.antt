@@ -8,11 +8,10 @@ use mathlib.Core.List.{List, [], _∷_, _++_}
 use Prim.Native.Nat.{ℕ, _+_, _*_, _-_, _/_, _%_, _^_, _≤_, _<_}
 use lib.Dec.{ltb, eqb}
 use lib.ListN.{length, getD, take}
-use Rattle.blocks.specs.Steps.{Lent}
 use Rattle.entries.specs.Entries.{Value, Entry, valueAt, Sound}
 use Rattle.entries.specs.Build.{pick, andb, build, cutsOf}
 use Rattle.entries.specs.Sets.{has, orb, lessb, xorb, pastM}
-use Rattle.blocks.specs.Blocks.{entriesOf}
+use Rattle.blocks.specs.Blocks.{entriesOf, Lent}
 use Rattle.sweeps.specs.declared.Plan.{Plan}
 
 -- 1 for true

@@ -1,5 +1,5 @@
 -- A form as the code goes through it: its start, a run, and a second run, which is empty where the form has one.
-use Prim.Native.Nat.{ℕ, zero, suc, _+_, _-_, _*_, _<_, _≤_}
+use Prim.Native.Nat.{ℕ, zero, suc, _+_, _*_, _<_, _≤_}
 use mathlib.Core.List.{List, [], _∷_, _++_, append-assoc, append-nil}
 use mathlib.Core.Bool.{Bool, false}
 use mathlib.Core.Option.{none}

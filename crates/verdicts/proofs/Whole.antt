@@ -8,8 +8,7 @@ use lib.Dec.{ltb, lit<, lit≤}
 use lib.ListN.{length, take, drop, length-append, length-drop, drop-of-length-le}
 use borrow.Author.Tests.{ltb-false, le-ltb}
 use Rattle.entries.specs.Entries.{Entry}
-use Rattle.answers.specs.Answers.{applies}
-use Rattle.answers.specs.Steps.{Clear}
+use Rattle.answers.specs.Answers.{applies, Clear}
 use Rattle.answers.proofs.Turns.{applies-clear}
 use Rattle.blocks.specs.Blocks.{wordsOf}
 use Rattle.blocks.specs.declared.Layout.{Layout}

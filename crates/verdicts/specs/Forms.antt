@@ -17,19 +17,19 @@ use Rattle.records.specs.Records.{startRecord, startVerdict}
 use Rattle.verdicts.specs.declared.Form.{Form}
 use Rattle.runs.specs.Runs.{total, lengths, runsOf, runsIn, runsRefusals}
 
--- «the mark C5 3A»
+-- [Y2] «the mark C5 3A»
 abbrev pub formMark : ℕ
 formMark = 0xC53A
 
--- «0x01 | start of a set», «0x10 | range of a set»
+-- [Y3, Y6] «0x01 | start of a set», «0x10 | range of a set»
 abbrev pub ofSet : Form
 ofSet = record { mark = formMark; start = 0x01; first = 0x10; second = 0x10; runs = 1; layout = setLayout }
 
--- «0x02 | start of a map», «0x11 | entry of a map»
+-- [Y4, Y7] «0x02 | start of a map», «0x11 | entry of a map»
 abbrev pub ofMap : Form
 ofMap = record { mark = formMark; start = 0x02; first = 0x11; second = 0x11; runs = 1; layout = mapLayout }
 
--- «0x03 | .. start of a bulletin», «0x12, 0x13 | released range, withdrawn range»
+-- [Y5, Y8] «0x03 | .. start of a bulletin», «0x12, 0x13 | released range, withdrawn range»
 abbrev pub ofBulletin : Form
 ofBulletin = record { mark = formMark; start = 0x03; first = 0x12; second = 0x13; runs = 2; layout = setLayout }
 
@@ -37,7 +37,7 @@ ofBulletin = record { mark = formMark; start = 0x03; first = 0x12; second = 0x13
 abbrev pub kindsOf : Form → List ℕ
 kindsOf f = take (f .runs) (f .first ∷ f .second ∷ [])
 
--- «A set is its start and then n range records; a map likewise; a bulletin is its start, all released, all withdrawn.»
+-- [Y10] «A set is its start and then n range records; a map likewise; a bulletin is its start, all released, all withdrawn.»
 unfoldable pub formOf : Form → List (List Entry) → List ℕ
 formOf f runs = startRecord (f .mark) (f .start) (lengths runs) ++ runsOf (f .mark) (kindsOf f) runs
 
@@ -50,7 +50,7 @@ mapForm es = formOf ofMap (es ∷ [])
 abbrev pub bulletinForm : List Entry → List Entry → List ℕ
 bulletinForm released withdrawn = formOf ofBulletin (released ∷ withdrawn ∷ [])
 
--- the length of a start record, and of a form with these counts: «Sizes: set 7+21n, map 7+29n, bulletin 9+21(r+w).»
+-- [Y10] the length of a start record, and of a form with these counts: «Sizes: set 7+21n, map 7+29n, bulletin 9+21(r+w).»
 abbrev pub startSize : Form → ℕ
 startSize f = 2 * f .runs + 5
 
@@ -70,15 +70,15 @@ sharing [] = false
 sharing (es ∷ []) = false
 sharing (es ∷ fs ∷ runs) = shareb es fs
 
--- «14 Overlap: .. | 0»
+-- [R14, Y15] «14 Overlap: .. | 0»
 abbrev pub overlap : List (List Entry) → Finding
 overlap runs = at 0 (applies (sharing runs) 14)
 
--- «13 Trailing: bytes follow the last record | first of them»: the last record ends at place p
+-- [R13, Y15] «13 Trailing: bytes follow the last record | first of them»: the last record ends at place p
 abbrev pub trailing : ℕ → List ℕ → Finding
 trailing p b = at p (applies (ltb p (length b)) 13)
 
--- «Reading is asked for a set, a map or a bulletin, over the whole slice. For each record in turn: ..»: the start at place 0, then the
+-- [Y12, Y13, Y15] «Reading is asked for a set, a map or a bulletin, over the whole slice. For each record in turn: ..»: the start at place 0, then the
 -- items. «After the last record: 13, then 14»
 unfoldable pub formRefusals : Form → List ℕ → List Finding
 formRefusals f b =
@@ -86,7 +86,7 @@ formRefusals f b =
     ∷ (runsRefusals (f .mark) (f .layout .width) (startSize f) (kindsOf f) (formCounts f b) (drop (startSize f) b)
     ++ (trailing (sizeOf f (formCounts f b)) b ∷ overlap (formEntries f b) ∷ []))
 
--- «then 1 for each output block, then 5 for each»: the lengths of the blocks from a position on, and the counts of what they are to hold
+-- [R1, R5, Y15] «then 1 for each output block, then 5 for each»: the lengths of the blocks from a position on, and the counts of what they are to hold
 abbrev pub noBlocks : ℕ → List ℕ → List Finding
 noBlocks position [] = []
 noBlocks position (l ∷ ls) = output position l ∷ noBlocks (suc position) ls

@@ -4,9 +4,6 @@ use Rattle.answers.proofs.Numbers.{judged-refused}
 use borrow.Author.Needs.{needs}
 use Rattle.answers.proofs.judged_of.Statement.{statement}
 use Rattle.answers.proofs.judged_of.Tie as tie
-use Rattle.answers.proofs.judged_of.Reads as reads
-use Rattle.answers.proofs.judged_of.Lts as lts
-use Rattle.answers.proofs.refusal_of.Reads as refusal-of-reads
 
 returns : tie.Need-returns
 returns c = search needs

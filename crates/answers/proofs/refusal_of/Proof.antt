@@ -2,8 +2,6 @@ use mathlib.Core.Path.{refl}
 use borrow.Author.Tests.{ne-eqb}
 use Rattle.answers.proofs.refusal_of.Statement.{statement}
 use Rattle.answers.proofs.refusal_of.Tie as tie
-use Rattle.answers.proofs.refusal_of.Reads as reads
-use Rattle.answers.proofs.refusal_of.Lts as lts
 
 returns : tie.Need-returns
 returns c = rw (c .match .keys1) refl

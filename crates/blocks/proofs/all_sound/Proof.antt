@@ -1,5 +1,5 @@
 -- Invariant: the items left from place p on are sound exactly if all n are. Measure: the items left.
-use Prim.Native.Nat.{_+_, _-_, _*_, _≤_, _<_}
+use Prim.Native.Nat.{_+_, _*_, _≤_, _<_}
 use mathlib.Core.Path.{_≡_, refl, _∙_, ap₂}
 use lib.Dec.{leb}
 use lib.ListN.{length}
@@ -8,10 +8,6 @@ use borrow.Author.Needs.{needs}
 use native.Mathlib.Omega.{arith}
 use Rattle.blocks.proofs.all_sound.Statement.{statement}
 use Rattle.blocks.proofs.all_sound.Tie as tie
-use Rattle.blocks.proofs.all_sound.Reads as reads
-use Rattle.blocks.proofs.all_sound.Lts as lts
-use Rattle.blocks.proofs.follows.Reads as follows-reads
-use Rattle.blocks.proofs.word.Reads as word-reads
 
 abbrev Inv-loop : tie.InvT-loop
 Inv-loop block s n p₀ left₀ p left = (0 < p) × (p + s * left ≤ length block) × (rest s block p left ≡ rest s block 1 n)

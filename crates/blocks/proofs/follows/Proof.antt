@@ -1,4 +1,4 @@
-use Prim.Native.Nat.{_+_, _-_}
+use Prim.Native.Nat.{_+_}
 use mathlib.Core.Path.{sym, _∙_}
 use mathlib.Core.Bool.{true, false}
 use Rattle.blocks.specs.Steps.{itemFrom}
@@ -7,10 +7,6 @@ use native.Mathlib.Omega.{arith}
 use borrow.Author.Needs.{needs}
 use Rattle.blocks.proofs.follows.Statement.{statement}
 use Rattle.blocks.proofs.follows.Tie as tie
-use Rattle.blocks.proofs.follows.Reads as reads
-use Rattle.blocks.proofs.follows.Lts as lts
-use Rattle.blocks.proofs.same_words.Reads as same-words-reads
-use Rattle.blocks.proofs.word.Reads as word-reads
 
 word-requires : tie.Need-word-requires
 word-requires c κs = search needs

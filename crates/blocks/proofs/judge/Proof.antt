@@ -7,12 +7,6 @@ use native.Mathlib.Omega.{arith}
 use borrow.Author.Needs.{needs}
 use Rattle.blocks.proofs.judge.Statement.{statement}
 use Rattle.blocks.proofs.judge.Tie as tie
-use Rattle.blocks.proofs.judge.Reads as reads
-use Rattle.blocks.proofs.judge.Lts as lts
-use Rattle.blocks.proofs.all_sound.Reads as all-sound-reads
-use Rattle.blocks.proofs.room_for.Reads as room-for-reads
-use Rattle.blocks.proofs.wide.Reads as wide-reads
-use Rattle.blocks.proofs.word.Reads as word-reads
 
 returns : tie.Need-returns
 returns c = let s = c .before .before in v1 (s .args .layout) (s .args .block .now) (c .if1 .taken)

@@ -4,13 +4,9 @@ use Prim.Native.Nat.{_+_}
 use Rattle.blocks.specs.Blocks.{verdict}
 use Rattle.answers.proofs.Turns.{stops, passes, ends}
 use Rattle.blocks.proofs.Judging.{verdict-small}
-use native.Mathlib.Omega.{arith}
 use borrow.Author.Needs.{needs}
 use Rattle.blocks.proofs.judge_two.Statement.{statement}
 use Rattle.blocks.proofs.judge_two.Tie as tie
-use Rattle.blocks.proofs.judge_two.Reads as reads
-use Rattle.blocks.proofs.judge_two.Lts as lts
-use Rattle.blocks.proofs.judge.Reads as judge-reads
 
 judge-requires : tie.Need-judge-requires
 judge-requires c κs = search needs

@@ -9,8 +9,6 @@ use native.Mathlib.Omega.{arith}
 use borrow.Author.Needs.{needs}
 use Rattle.blocks.proofs.paste.Statement.{statement}
 use Rattle.blocks.proofs.paste.Tie as tie
-use Rattle.blocks.proofs.paste.Reads as reads
-use Rattle.blocks.proofs.paste.Lts as lts
 
 abbrev Inv-loop : tie.InvT-loop
 Inv-loop block₀ to new k₀ block k = (k ≤ length new) × Copied new block₀ 0 to 0 k block

@@ -7,9 +7,6 @@ use Rattle.blocks.proofs.Tests.{left, left-all, left-none, left-more, l
 use borrow.Author.Needs.{needs}
 use Rattle.blocks.proofs.same_words.Statement.{statement}
 use Rattle.blocks.proofs.same_words.Tie as tie
-use Rattle.blocks.proofs.same_words.Reads as reads
-use Rattle.blocks.proofs.same_words.Lts as lts
-use Rattle.blocks.proofs.word.Reads as word-reads
 
 abbrev Inv-loop : tie.InvT-loop
 Inv-loop a p b q len k₀ k = (k ≤ len) × (left a b p q len k ≡ sameWords (take len (drop p a)) (take len (drop q b)))

@@ -7,8 +7,6 @@ use native.Mathlib.Omega.{arith}
 use borrow.Author.Needs.{needs}
 use Rattle.blocks.proofs.shift_down.Statement.{statement}
 use Rattle.blocks.proofs.shift_down.Tie as tie
-use Rattle.blocks.proofs.shift_down.Reads as reads
-use Rattle.blocks.proofs.shift_down.Lts as lts
 
 abbrev Inv-loop : tie.InvT-loop
 Inv-loop block₀ from to len k₀ block k = (k ≤ len) × Copied block₀ block₀ from to 0 k block

@@ -1,14 +1,12 @@
 -- Invariant: the words from k on are copied, and those below k are as they were. Measure: k, the words left.
 use mathlib.Core.Path.{_≡_}
-use Prim.Native.Nat.{_≤_, _-_}
+use Prim.Native.Nat.{_≤_}
 use Rattle.blocks.specs.Steps.{Copied}
 use Rattle.blocks.proofs.Copying.{copied-none, copied-more}
 use native.Mathlib.Omega.{arith}
 use borrow.Author.Needs.{needs}
 use Rattle.blocks.proofs.shift_up.Statement.{statement}
 use Rattle.blocks.proofs.shift_up.Tie as tie
-use Rattle.blocks.proofs.shift_up.Reads as reads
-use Rattle.blocks.proofs.shift_up.Lts as lts
 
 abbrev Inv-loop : tie.InvT-loop
 Inv-loop block₀ from to len k₀ block k = (k ≤ len) × Copied block₀ block₀ from to k len block

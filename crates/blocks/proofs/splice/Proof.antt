@@ -1,15 +1,9 @@
-use Prim.Native.Nat.{_-_}
 use mathlib.Core.Path.{refl}
 use Rattle.blocks.proofs.Copying.{spliced}
 use native.Mathlib.Omega.{arith}
 use borrow.Author.Needs.{needs}
 use Rattle.blocks.proofs.splice.Statement.{statement}
 use Rattle.blocks.proofs.splice.Tie as tie
-use Rattle.blocks.proofs.splice.Reads as reads
-use Rattle.blocks.proofs.splice.Lts as lts
-use Rattle.blocks.proofs.clear.Reads as clear-reads
-use Rattle.blocks.proofs.paste.Reads as paste-reads
-use Rattle.blocks.proofs.shift.Reads as shift-reads
 
 add-to : tie.Need-add-to
 add-to c = search needs

@@ -8,9 +8,6 @@ use native.Mathlib.Omega.{arith}
 use borrow.Author.Needs.{needs}
 use Rattle.bulletins.proofs.amend.Statement.{statement}
 use Rattle.bulletins.proofs.amend.Tie as tie
-use Rattle.bulletins.proofs.amend.Reads as reads
-use Rattle.bulletins.proofs.amend.Lts as lts
-use Rattle.sweeps.proofs.write.Reads as write-reads
 
 write-requires : tie.Need-write-requires
 write-requires c κs =

@@ -13,11 +13,6 @@ use native.Mathlib.Omega.{arith}
 use borrow.Author.Needs.{needs}
 use Rattle.bulletins.proofs.application_refusal.Statement.{statement}
 use Rattle.bulletins.proofs.application_refusal.Tie as tie
-use Rattle.bulletins.proofs.application_refusal.Reads as reads
-use Rattle.bulletins.proofs.application_refusal.Lts as lts
-use Rattle.bulletins.proofs.judge_application.Reads as judge-application-reads
-use Rattle.bulletins.proofs.no_room.Reads as no-room-reads
-use Rattle.bulletins.proofs.shared_number.Reads as shared-number-reads
 
 judge-application-requires : tie.Need-judge-application-requires
 judge-application-requires c κs = search needs

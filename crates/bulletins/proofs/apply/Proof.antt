@@ -11,11 +11,6 @@ use native.Mathlib.Omega.{arith}
 use borrow.Author.Needs.{needs}
 use Rattle.bulletins.proofs.apply.Statement.{statement}
 use Rattle.bulletins.proofs.apply.Tie as tie
-use Rattle.bulletins.proofs.apply.Reads as reads
-use Rattle.bulletins.proofs.apply.Lts as lts
-use Rattle.answers.proofs.judged_of.Reads as judged-of-reads
-use Rattle.bulletins.proofs.amend.Reads as amend-reads
-use Rattle.bulletins.proofs.application_refusal.Reads as application-refusal-reads
 
 application-refusal-requires : tie.Need-application-refusal-requires
 application-refusal-requires c κs = search needs

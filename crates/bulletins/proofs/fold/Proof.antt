@@ -11,11 +11,6 @@ use native.Mathlib.Omega.{arith}
 use borrow.Author.Needs.{needs}
 use Rattle.bulletins.proofs.fold.Statement.{statement}
 use Rattle.bulletins.proofs.fold.Tie as tie
-use Rattle.bulletins.proofs.fold.Reads as reads
-use Rattle.bulletins.proofs.fold.Lts as lts
-use Rattle.answers.proofs.judged_of.Reads as judged-of-reads
-use Rattle.bulletins.proofs.amend.Reads as amend-reads
-use Rattle.bulletins.proofs.fold_refusal.Reads as fold-refusal-reads
 
 fold-refusal-requires : tie.Need-fold-refusal-requires
 fold-refusal-requires c κs = search needs

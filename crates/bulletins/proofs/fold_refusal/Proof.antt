@@ -12,11 +12,6 @@ use native.Mathlib.Omega.{arith}
 use borrow.Author.Needs.{needs}
 use Rattle.bulletins.proofs.fold_refusal.Statement.{statement}
 use Rattle.bulletins.proofs.fold_refusal.Tie as tie
-use Rattle.bulletins.proofs.fold_refusal.Reads as reads
-use Rattle.bulletins.proofs.fold_refusal.Lts as lts
-use Rattle.bulletins.proofs.fold_rooms.Reads as fold-rooms-reads
-use Rattle.bulletins.proofs.judge_fold.Reads as judge-fold-reads
-use Rattle.bulletins.proofs.shared_number.Reads as shared-number-reads
 
 judge-fold-requires : tie.Need-judge-fold-requires
 judge-fold-requires c κs = search needs

@@ -7,9 +7,6 @@ use Rattle.answers.proofs.Turns.{stops, passes, ends}
 use Rattle.bulletins.proofs.Amending.{room-small}
 use Rattle.bulletins.proofs.fold_rooms.Statement.{statement}
 use Rattle.bulletins.proofs.fold_rooms.Tie as tie
-use Rattle.bulletins.proofs.fold_rooms.Reads as reads
-use Rattle.bulletins.proofs.fold_rooms.Lts as lts
-use Rattle.bulletins.proofs.no_room.Reads as no-room-reads
 
 no-room-requires : tie.Need-no-room-requires
 no-room-requires c κs =

@@ -9,11 +9,6 @@ use Rattle.blocks.proofs.Judging.{verdict-small}
 use borrow.Author.Needs.{needs}
 use Rattle.bulletins.proofs.judge_application.Statement.{statement}
 use Rattle.bulletins.proofs.judge_application.Tie as tie
-use Rattle.bulletins.proofs.judge_application.Reads as reads
-use Rattle.bulletins.proofs.judge_application.Lts as lts
-use Rattle.blocks.proofs.judge.Reads as judge-reads
-use Rattle.blocks.proofs.judge_two.Reads as judge-two-reads
-use Rattle.bulletins.proofs.no_block.Reads as no-block-reads
 
 judge-requires : tie.Need-judge-requires
 judge-requires c κs = search needs

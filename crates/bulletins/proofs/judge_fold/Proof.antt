@@ -8,10 +8,6 @@ use Rattle.bulletins.proofs.Amending.{block-small}
 use borrow.Author.Needs.{needs}
 use Rattle.bulletins.proofs.judge_fold.Statement.{statement}
 use Rattle.bulletins.proofs.judge_fold.Tie as tie
-use Rattle.bulletins.proofs.judge_fold.Reads as reads
-use Rattle.bulletins.proofs.judge_fold.Lts as lts
-use Rattle.blocks.proofs.judge_two.Reads as judge-two-reads
-use Rattle.bulletins.proofs.no_block.Reads as no-block-reads
 
 judge-two-requires : tie.Need-judge-two-requires
 judge-two-requires c κs = search needs

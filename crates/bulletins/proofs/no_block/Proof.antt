@@ -1,8 +1,6 @@
 use Rattle.bulletins.proofs.Amending.{block-none, block-some}
 use Rattle.bulletins.proofs.no_block.Statement.{statement}
 use Rattle.bulletins.proofs.no_block.Tie as tie
-use Rattle.bulletins.proofs.no_block.Reads as reads
-use Rattle.bulletins.proofs.no_block.Lts as lts
 
 returns : tie.Need-returns
 returns c = block-none _ (c .if1 .taken)

@@ -5,11 +5,6 @@ use native.Mathlib.Omega.{arith}
 use borrow.Author.Needs.{needs}
 use Rattle.bulletins.proofs.no_room.Statement.{statement}
 use Rattle.bulletins.proofs.no_room.Tie as tie
-use Rattle.bulletins.proofs.no_room.Reads as reads
-use Rattle.bulletins.proofs.no_room.Lts as lts
-use Rattle.blocks.proofs.room_for.Reads as room-for-reads
-use Rattle.searches.proofs.count_of.Reads as count-of-reads
-use Rattle.sweeps.proofs.fits.Reads as fits-reads
 
 count-of-requires : tie.Need-count-of-requires
 count-of-requires c κs = search needs

@@ -2,9 +2,6 @@ use Rattle.bulletins.proofs.Amending.{shared-yes, shared-no}
 use borrow.Author.Needs.{needs}
 use Rattle.bulletins.proofs.shared_number.Statement.{statement}
 use Rattle.bulletins.proofs.shared_number.Tie as tie
-use Rattle.bulletins.proofs.shared_number.Reads as reads
-use Rattle.bulletins.proofs.shared_number.Lts as lts
-use Rattle.searches.proofs.share_number.Reads as share-number-reads
 
 share-number-requires : tie.Need-share-number-requires
 share-number-requires c κs = search needs

@@ -5,8 +5,6 @@ use native.Mathlib.Omega.{arith}
 use borrow.Author.Needs.{needs}
 use Rattle.edits.proofs.beyond.Statement.{statement}
 use Rattle.edits.proofs.beyond.Tie as tie
-use Rattle.edits.proofs.beyond.Reads as reads
-use Rattle.edits.proofs.beyond.Lts as lts
 
 returns : tie.Need-returns
 returns c = let s = c .before in sym (le-ltb (suc (s .args .x)) (s .args .y) (omega arith))

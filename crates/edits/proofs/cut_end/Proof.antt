@@ -1,4 +1,3 @@
-use Prim.Native.Nat.{_-_}
 use mathlib.Core.Path.{_∙_}
 use Rattle.blocks.proofs.Tests.{less-one}
 use Rattle.edits.proofs.Cuts.{no-end, an-end}
@@ -6,9 +5,6 @@ use native.Mathlib.Omega.{arith}
 use borrow.Author.Needs.{needs}
 use Rattle.edits.proofs.cut_end.Statement.{statement}
 use Rattle.edits.proofs.cut_end.Tie as tie
-use Rattle.edits.proofs.cut_end.Reads as reads
-use Rattle.edits.proofs.cut_end.Lts as lts
-use Rattle.edits.proofs.lower.Reads as lower-reads
 
 returns : tie.Need-returns
 returns c =

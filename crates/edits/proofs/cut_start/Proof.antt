@@ -1,4 +1,3 @@
-use Prim.Native.Nat.{_-_}
 use mathlib.Core.Path.{_∙_}
 use Rattle.blocks.proofs.Tests.{item-in}
 use Rattle.edits.proofs.Cuts.{no-start, a-start}
@@ -6,9 +5,6 @@ use native.Mathlib.Omega.{arith}
 use borrow.Author.Needs.{needs}
 use Rattle.edits.proofs.cut_start.Statement.{statement}
 use Rattle.edits.proofs.cut_start.Tie as tie
-use Rattle.edits.proofs.cut_start.Reads as reads
-use Rattle.edits.proofs.cut_start.Lts as lts
-use Rattle.edits.proofs.raise.Reads as raise-reads
 
 returns : tie.Need-returns
 returns c =

@@ -4,12 +4,6 @@ use Rattle.edits.proofs.Sides.{edit-refused, edit-ok, edit-backwards, e
 use borrow.Author.Needs.{needs}
 use Rattle.edits.proofs.edit_out.Statement.{statement}
 use Rattle.edits.proofs.edit_out.Tie as tie
-use Rattle.edits.proofs.edit_out.Reads as reads
-use Rattle.edits.proofs.edit_out.Lts as lts
-use Rattle.blocks.proofs.judge.Reads as judge-reads
-use Rattle.edits.proofs.take_out.Reads as take-out-reads
-use Rattle.blocks.proofs.wide.Reads as wide-reads
-use Rattle.blocks.proofs.word.Reads as word-reads
 
 judge-requires : tie.Need-judge-requires
 judge-requires c κs = search needs

@@ -7,12 +7,6 @@ use native.Mathlib.Omega.{arith}
 use borrow.Author.Needs.{needs}
 use Rattle.edits.proofs.edit_put.Statement.{statement}
 use Rattle.edits.proofs.edit_put.Tie as tie
-use Rattle.edits.proofs.edit_put.Reads as reads
-use Rattle.edits.proofs.edit_put.Lts as lts
-use Rattle.blocks.proofs.judge.Reads as judge-reads
-use Rattle.edits.proofs.put_value.Reads as put-value-reads
-use Rattle.blocks.proofs.wide.Reads as wide-reads
-use Rattle.blocks.proofs.word.Reads as word-reads
 
 judge-requires : tie.Need-judge-requires
 judge-requires c κs = search needs

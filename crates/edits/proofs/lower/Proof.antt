@@ -4,9 +4,6 @@ use lib.ListN.{set}
 use borrow.Author.Needs.{needs}
 use Rattle.edits.proofs.lower.Statement.{statement}
 use Rattle.edits.proofs.lower.Tie as tie
-use Rattle.edits.proofs.lower.Reads as reads
-use Rattle.edits.proofs.lower.Lts as lts
-use Rattle.edits.proofs.below.Reads as below-reads
 
 mul-below : tie.Need-mul-below
 mul-below c = search needs

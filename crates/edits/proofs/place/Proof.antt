@@ -6,12 +6,6 @@ use native.Mathlib.Omega.{arith}
 use borrow.Author.Needs.{needs}
 use Rattle.edits.proofs.place.Statement.{statement}
 use Rattle.edits.proofs.place.Tie as tie
-use Rattle.edits.proofs.place.Reads as reads
-use Rattle.edits.proofs.place.Lts as lts
-use Rattle.edits.proofs.cut_end.Reads as cut-end-reads
-use Rattle.edits.proofs.cut_start.Reads as cut-start-reads
-use Rattle.blocks.proofs.narrow.Reads as narrow-reads
-use Rattle.blocks.proofs.splice.Reads as splice-reads
 
 add-m : tie.Need-add-m
 add-m c =

@@ -1,19 +1,11 @@
 use Rattle.edits.specs.Steps.{valueOf}
 use Rattle.edits.proofs.Sides.{side-ok, held, list-count, put-no, put-done, put-ok, ends-length}
 use Rattle.blocks.proofs.Tests.{le-mul}
-use Prim.Native.Nat.{_-_}
 use mathlib.Core.Path.{refl, _∙_}
 use native.Mathlib.Omega.{arith}
 use borrow.Author.Needs.{needs}
 use Rattle.edits.proofs.put_value.Statement.{statement}
 use Rattle.edits.proofs.put_value.Tie as tie
-use Rattle.edits.proofs.put_value.Reads as reads
-use Rattle.edits.proofs.put_value.Lts as lts
-use Rattle.edits.proofs.left_of.Reads as left-of-reads
-use Rattle.edits.proofs.place.Reads as place-reads
-use Rattle.edits.proofs.right_of.Reads as right-of-reads
-use Rattle.blocks.proofs.room_for.Reads as room-for-reads
-use Rattle.edits.proofs.set_ends.Reads as set-ends-reads
 
 left-of-requires : tie.Need-left-of-requires
 left-of-requires c κs = let p = c .before .before .before .before .pre in side-ok (p .edit) _ (p .whole)

@@ -4,9 +4,6 @@ use lib.ListN.{set}
 use borrow.Author.Needs.{needs}
 use Rattle.edits.proofs.raise.Statement.{statement}
 use Rattle.edits.proofs.raise.Tie as tie
-use Rattle.edits.proofs.raise.Reads as reads
-use Rattle.edits.proofs.raise.Lts as lts
-use Rattle.edits.proofs.above.Reads as above-reads
 
 mul-above : tie.Need-mul-above
 mul-above c = search needs

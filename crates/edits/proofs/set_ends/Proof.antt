@@ -2,8 +2,6 @@ use Rattle.edits.proofs.Sides.{two-set}
 use borrow.Author.Needs.{needs}
 use Rattle.edits.proofs.set_ends.Statement.{statement}
 use Rattle.edits.proofs.set_ends.Tie as tie
-use Rattle.edits.proofs.set_ends.Reads as reads
-use Rattle.edits.proofs.set_ends.Lts as lts
 
 slice-write-new : tie.Need-slice-write-new
 slice-write-new c = search needs

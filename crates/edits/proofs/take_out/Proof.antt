@@ -1,18 +1,11 @@
 use Rattle.searches.proofs.Finding.{lows, highs}
 use Rattle.edits.proofs.Sides.{held, out-no, out-yes, out-ok}
 use Rattle.blocks.proofs.Tests.{le-mul}
-use Prim.Native.Nat.{_-_}
 use mathlib.Core.Path.{refl}
 use native.Mathlib.Omega.{arith}
 use borrow.Author.Needs.{needs}
 use Rattle.edits.proofs.take_out.Statement.{statement}
 use Rattle.edits.proofs.take_out.Tie as tie
-use Rattle.edits.proofs.take_out.Reads as reads
-use Rattle.edits.proofs.take_out.Lts as lts
-use Rattle.searches.proofs.first_from.Reads as first-from-reads
-use Rattle.searches.proofs.first_past.Reads as first-past-reads
-use Rattle.edits.proofs.place.Reads as place-reads
-use Rattle.blocks.proofs.room_for.Reads as room-for-reads
 
 first-from-requires : tie.Need-first-from-requires
 first-from-requires c κs = let e = c .before .before .pre .0 in lows (e .two) (e .block) (e .count)

@@ -3,9 +3,6 @@ use Rattle.fits.proofs.Asking.{ask-window, ask-zero, ask-right}
 use borrow.Author.Needs.{needs}
 use Rattle.fits.proofs.ask_verdict.Statement.{statement}
 use Rattle.fits.proofs.ask_verdict.Tie as tie
-use Rattle.fits.proofs.ask_verdict.Reads as reads
-use Rattle.fits.proofs.ask_verdict.Lts as lts
-use Rattle.searches.proofs.window_verdict.Reads as window-verdict-reads
 
 window-verdict-requires : tie.Need-window-verdict-requires
 window-verdict-requires c κs = search needs

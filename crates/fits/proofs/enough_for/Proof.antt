@@ -2,8 +2,6 @@ use Rattle.fits.proofs.Walking.{enough-best, enough-first}
 use borrow.Author.Needs.{needs}
 use Rattle.fits.proofs.enough_for.Statement.{statement}
 use Rattle.fits.proofs.enough_for.Tie as tie
-use Rattle.fits.proofs.enough_for.Reads as reads
-use Rattle.fits.proofs.enough_for.Lts as lts
 
 sub-result : tie.Need-sub-result
 sub-result c = search needs

@@ -7,11 +7,6 @@ use Rattle.fits.proofs.Asking.{asked-right, fit-refused, fit-answers, p
 use borrow.Author.Needs.{needs}
 use Rattle.fits.proofs.fit.Statement.{statement}
 use Rattle.fits.proofs.fit.Tie as tie
-use Rattle.fits.proofs.fit.Reads as reads
-use Rattle.fits.proofs.fit.Lts as lts
-use Rattle.answers.proofs.refusal_of.Reads as refusal-of-reads
-use Rattle.fits.proofs.ask_verdict.Reads as ask-verdict-reads
-use Rattle.fits.proofs.gap_for.Reads as gap-for-reads
 
 ask-verdict-requires : tie.Need-ask-verdict-requires
 ask-verdict-requires c κs = search needs

@@ -2,9 +2,6 @@ use Rattle.fits.proofs.Walking.{before-none, before-cut, before-range}
 use borrow.Author.Needs.{needs}
 use Rattle.fits.proofs.gap_before.Statement.{statement}
 use Rattle.fits.proofs.gap_before.Tie as tie
-use Rattle.fits.proofs.gap_before.Reads as reads
-use Rattle.fits.proofs.gap_before.Lts as lts
-use Rattle.fits.proofs.tried.Reads as tried-reads
 
 returns : tie.Need-returns
 returns c = let a = c .before in before-none (a .args .best) (a .args .from) (a .args .low) (a .args .b) (a .args .k) (a .pre) (c .if1 .taken)

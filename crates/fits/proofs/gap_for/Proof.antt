@@ -10,15 +10,6 @@ use borrow.Author.Needs.{needs}
 use native.Mathlib.Omega.{arith}
 use Rattle.fits.proofs.gap_for.Statement.{statement}
 use Rattle.fits.proofs.gap_for.Tie as tie
-use Rattle.fits.proofs.gap_for.Reads as reads
-use Rattle.fits.proofs.gap_for.Lts as lts
-use Rattle.blocks.proofs.word.Reads as word-reads
-use Rattle.edits.proofs.above.Reads as above-reads
-use Rattle.fits.proofs.enough_for.Reads as enough-for-reads
-use Rattle.fits.proofs.gap_before.Reads as gap-before-reads
-use Rattle.fits.proofs.tried.Reads as tried-reads
-use Rattle.fits.proofs.within.Reads as within-reads
-use Rattle.searches.proofs.count_of.Reads as count-of-reads
 
 abbrev Inv-loop : tie.InvT-loop
 Inv-loop block a b k shortest enough best₀ from₀ p₀ left₀ best from p left =

@@ -3,10 +3,6 @@ use native.Mathlib.Omega.{arith}
 use borrow.Author.Needs.{needs}
 use Rattle.fits.proofs.reserve.Statement.{statement}
 use Rattle.fits.proofs.reserve.Tie as tie
-use Rattle.fits.proofs.reserve.Reads as reads
-use Rattle.fits.proofs.reserve.Lts as lts
-use Rattle.fits.proofs.fit.Reads as fit-reads
-use Rattle.fits.proofs.reserve_at.Reads as reserve-at-reads
 
 fit-requires : tie.Need-fit-requires
 fit-requires c κs = search needs

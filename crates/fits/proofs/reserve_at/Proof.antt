@@ -5,11 +5,6 @@ use native.Mathlib.Omega.{arith}
 use borrow.Author.Needs.{needs}
 use Rattle.fits.proofs.reserve_at.Statement.{statement}
 use Rattle.fits.proofs.reserve_at.Tie as tie
-use Rattle.fits.proofs.reserve_at.Reads as reads
-use Rattle.fits.proofs.reserve_at.Lts as lts
-use Rattle.answers.proofs.refusal_of.Reads as refusal-of-reads
-use Rattle.edits.proofs.put_value.Reads as put-value-reads
-use Rattle.searches.proofs.count_of.Reads as count-of-reads
 
 count-of-requires : tie.Need-count-of-requires
 count-of-requires c κs = search needs

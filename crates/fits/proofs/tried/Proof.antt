@@ -3,9 +3,6 @@ use mathlib.Core.Path.{refl, sym, _∙_}
 use borrow.Author.Needs.{needs}
 use Rattle.fits.proofs.tried.Statement.{statement}
 use Rattle.fits.proofs.tried.Tie as tie
-use Rattle.fits.proofs.tried.Reads as reads
-use Rattle.fits.proofs.tried.Lts as lts
-use Rattle.fits.proofs.within.Reads as within-reads
 
 sub-less : tie.Need-sub-less
 sub-less c = search needs

@@ -2,8 +2,6 @@ use Rattle.fits.proofs.Walking.{found-test, none-test}
 use borrow.Author.Needs.{needs}
 use Rattle.fits.proofs.within.Statement.{statement}
 use Rattle.fits.proofs.within.Tie as tie
-use Rattle.fits.proofs.within.Reads as reads
-use Rattle.fits.proofs.within.Lts as lts
 
 sub-result : tie.Need-sub-result
 sub-result c = search needs

@@ -1,6 +1,5 @@
 -- `inputs::main` is safe and ends. Nothing has to hold from turn to turn; the measure is the number of arguments that are left.
 use Prim.Native.Nat.{_-_}
-use borrow.Author.Needs.{needs}
 use native.Mathlib.Omega.{arith}
 use Rattle.inputs.proofs.main.Statement.{statement}
 use Rattle.inputs.proofs.main.Tie as tie

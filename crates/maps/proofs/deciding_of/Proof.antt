@@ -1,11 +1,7 @@
 use Rattle.maps.proofs.Sites.{site-decides, factory-decides}
-use native.Mathlib.Omega.{arith}
 use borrow.Author.Needs.{needs}
 use Rattle.maps.proofs.deciding_of.Statement.{statement}
 use Rattle.maps.proofs.deciding_of.Tie as tie
-use Rattle.maps.proofs.deciding_of.Reads as reads
-use Rattle.maps.proofs.deciding_of.Lts as lts
-use Rattle.searches.proofs.entry_part.Reads as entry-part-reads
 
 entry-part-requires : tie.Need-entry-part-requires
 entry-part-requires c κs = search needs

@@ -14,9 +14,6 @@ use native.Mathlib.Omega.{arith}
 use borrow.Author.Needs.{needs}
 use Rattle.maps.proofs.domain.Statement.{statement}
 use Rattle.maps.proofs.domain.Tie as tie
-use Rattle.maps.proofs.domain.Reads as reads
-use Rattle.maps.proofs.domain.Lts as lts
-use Rattle.operations.proofs.from_one.Reads as from-one-reads
 
 from-one-requires : tie.Need-from-one-requires
 from-one-requires c κs = domain-fit

@@ -3,10 +3,6 @@ use Rattle.answers.proofs.Numbers.{numbered-as}
 use borrow.Author.Needs.{needs}
 use Rattle.maps.proofs.erase.Statement.{statement}
 use Rattle.maps.proofs.erase.Tie as tie
-use Rattle.maps.proofs.erase.Reads as reads
-use Rattle.maps.proofs.erase.Lts as lts
-use Rattle.answers.proofs.judged_of.Reads as judged-of-reads
-use Rattle.edits.proofs.edit_out.Reads as edit-out-reads
 
 edit-out-requires : tie.Need-edit-out-requires
 edit-out-requires c κs = search needs

@@ -6,11 +6,6 @@ use Rattle.maps.proofs.Looking.{look-refused, look-given}
 use borrow.Author.Needs.{needs}
 use Rattle.maps.proofs.look_up.Statement.{statement}
 use Rattle.maps.proofs.look_up.Tie as tie
-use Rattle.maps.proofs.look_up.Reads as reads
-use Rattle.maps.proofs.look_up.Lts as lts
-use Rattle.answers.proofs.refusal_of.Reads as refusal-of-reads
-use Rattle.blocks.proofs.judge.Reads as judge-reads
-use Rattle.maps.proofs.value_in.Reads as value-in-reads
 
 judge-requires : tie.Need-judge-requires
 judge-requires c κs = search needs

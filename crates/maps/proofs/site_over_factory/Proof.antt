@@ -6,7 +6,6 @@ use Rattle.searches.specs.Parts.{noPart}
 use mathlib.Core.Path.{_≡_, refl, _∙_, ap}
 use Prim.Native.Nat.{ℕ, _+_, _-_}
 use lib.ListN.{take, drop}
-use Rattle.searches.proofs.Windows.{is-part}
 use Rattle.answers.proofs.Turns.{refused-part, given-part}
 use Rattle.maps.specs.Calls.{siteRefusals, partIn, deciding, siteOverFactoryCall}
 use Rattle.maps.proofs.Sites.{placed, first-map, second-map, held-site, held-factory, held-either}
@@ -14,10 +13,6 @@ use native.Mathlib.Omega.{arith}
 use borrow.Author.Needs.{needs}
 use Rattle.maps.proofs.site_over_factory.Statement.{statement}
 use Rattle.maps.proofs.site_over_factory.Tie as tie
-use Rattle.maps.proofs.site_over_factory.Reads as reads
-use Rattle.maps.proofs.site_over_factory.Lts as lts
-use Rattle.blocks.proofs.judge_two.Reads as judge-two-reads
-use Rattle.maps.proofs.deciding_of.Reads as deciding-of-reads
 
 judge-two-requires : tie.Need-judge-two-requires
 judge-two-requires c κs = search needs

@@ -2,19 +2,12 @@ use denote.Ref.{now}
 use mathlib.Core.List.{[]}
 use Rattle.blocks.specs.Blocks.{mapLayout}
 use Rattle.blocks.proofs.Judging.{verdict-sound}
-use Rattle.searches.specs.Parts.{noPart}
 use Rattle.answers.proofs.Turns.{refusal-by, given-by}
 use Rattle.maps.specs.Calls.{siteRefusals, siteOverFactoryAtCall}
 use Rattle.maps.proofs.Sites.{decided-nothing, decided-entry}
-use native.Mathlib.Omega.{arith}
 use borrow.Author.Needs.{needs}
 use Rattle.maps.proofs.site_over_factory_at.Statement.{statement}
 use Rattle.maps.proofs.site_over_factory_at.Tie as tie
-use Rattle.maps.proofs.site_over_factory_at.Reads as reads
-use Rattle.maps.proofs.site_over_factory_at.Lts as lts
-use Rattle.answers.proofs.refusal_of.Reads as refusal-of-reads
-use Rattle.blocks.proofs.judge_two.Reads as judge-two-reads
-use Rattle.maps.proofs.deciding_of.Reads as deciding-of-reads
 
 judge-two-requires : tie.Need-judge-two-requires
 judge-two-requires c κs = search needs

@@ -5,10 +5,6 @@ use denote.Ref.{now}
 use borrow.Author.Needs.{needs}
 use Rattle.maps.proofs.site_over_factory_refusal.Statement.{statement}
 use Rattle.maps.proofs.site_over_factory_refusal.Tie as tie
-use Rattle.maps.proofs.site_over_factory_refusal.Reads as reads
-use Rattle.maps.proofs.site_over_factory_refusal.Lts as lts
-use Rattle.answers.proofs.judged_of.Reads as judged-of-reads
-use Rattle.blocks.proofs.judge_two.Reads as judge-two-reads
 
 judge-two-requires : tie.Need-judge-two-requires
 judge-two-requires c κs = search needs

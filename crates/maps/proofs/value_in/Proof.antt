@@ -3,10 +3,6 @@ use native.Mathlib.Omega.{arith}
 use borrow.Author.Needs.{needs}
 use Rattle.maps.proofs.value_in.Statement.{statement}
 use Rattle.maps.proofs.value_in.Tie as tie
-use Rattle.maps.proofs.value_in.Reads as reads
-use Rattle.maps.proofs.value_in.Lts as lts
-use Rattle.blocks.proofs.word.Reads as word-reads
-use Rattle.searches.proofs.entry_part.Reads as entry-part-reads
 
 entry-part-requires : tie.Need-entry-part-requires
 entry-part-requires c κs = search needs

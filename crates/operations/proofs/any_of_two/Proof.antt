@@ -2,9 +2,6 @@ use Rattle.operations.proofs.Making.{any-inputs, any-fit}
 use borrow.Author.Needs.{needs}
 use Rattle.operations.proofs.any_of_two.Statement.{statement}
 use Rattle.operations.proofs.any_of_two.Tie as tie
-use Rattle.operations.proofs.any_of_two.Reads as reads
-use Rattle.operations.proofs.any_of_two.Lts as lts
-use Rattle.sweeps.proofs.any.Reads as any-reads
 
 slice-aggregate-any : tie.Need-slice-aggregate-any
 slice-aggregate-any c = search needs

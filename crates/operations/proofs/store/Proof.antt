@@ -9,11 +9,6 @@ use native.Mathlib.Omega.{arith}
 use borrow.Author.Needs.{needs}
 use Rattle.operations.proofs.store.Statement.{statement}
 use Rattle.operations.proofs.store.Tie as tie
-use Rattle.operations.proofs.store.Reads as reads
-use Rattle.operations.proofs.store.Lts as lts
-use Rattle.blocks.proofs.room_for.Reads as room-for-reads
-use Rattle.sweeps.proofs.fits.Reads as fits-reads
-use Rattle.sweeps.proofs.write.Reads as write-reads
 
 room-for-requires : tie.Need-room-for-requires
 room-for-requires c κs = search needs

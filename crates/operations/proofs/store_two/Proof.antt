@@ -2,9 +2,6 @@ use Rattle.operations.proofs.Making.{store-inputs, store-fit, store-mos
 use borrow.Author.Needs.{needs}
 use Rattle.operations.proofs.store_two.Statement.{statement}
 use Rattle.operations.proofs.store_two.Tie as tie
-use Rattle.operations.proofs.store_two.Reads as reads
-use Rattle.operations.proofs.store_two.Lts as lts
-use Rattle.operations.proofs.store.Reads as store-reads
 
 slice-aggregate-store : tie.Need-slice-aggregate-store
 slice-aggregate-store c = search needs

@@ -2,14 +2,8 @@
 -- that are left.
 use Prim.Native.Nat.{_≤_}
 use borrow.Author.Needs.{needs}
-use native.Mathlib.Omega.{arith}
 use Rattle.program.proofs.ranges.Statement.{statement}
 use Rattle.program.proofs.ranges.Tie as tie
-use Rattle.program.proofs.ranges.Reads as reads
-use Rattle.program.proofs.ranges.Lts as lts
-use Rattle.io.proofs.print_decimal.Reads as print-decimal-reads
-use Rattle.io.proofs.write_all.Reads as write-all-reads
-use Rattle.program.proofs.line.Reads as line-reads
 
 abbrev Inv-loop : tie.InvT-loop
 Inv-loop words n p₀ left₀ p left = 0 ≤ p

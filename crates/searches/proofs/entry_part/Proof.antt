@@ -4,9 +4,6 @@ use native.Mathlib.Omega.{arith}
 use borrow.Author.Needs.{needs}
 use Rattle.searches.proofs.entry_part.Statement.{statement}
 use Rattle.searches.proofs.entry_part.Tie as tie
-use Rattle.searches.proofs.entry_part.Reads as reads
-use Rattle.searches.proofs.entry_part.Lts as lts
-use Rattle.searches.proofs.spot_of.Reads as spot-of-reads
 
 spot-of-requires : tie.Need-spot-of-requires
 spot-of-requires c κs = search needs

@@ -7,9 +7,6 @@ use native.Mathlib.Omega.{arith}
 use borrow.Author.Needs.{needs}
 use Rattle.searches.proofs.first_from.Statement.{statement}
 use Rattle.searches.proofs.first_from.Tie as tie
-use Rattle.searches.proofs.first_from.Reads as reads
-use Rattle.searches.proofs.first_from.Lts as lts
-use Rattle.blocks.proofs.word.Reads as word-reads
 
 abbrev Inv-loop : tie.InvT-loop
 Inv-loop block s off n x i₀ i = (i ≤ n) × ((k : ℕ) → k < i → getD block (s * k + off) 0 < x)

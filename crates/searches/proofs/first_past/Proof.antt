@@ -3,9 +3,6 @@ use native.Mathlib.Omega.{arith}
 use borrow.Author.Needs.{needs}
 use Rattle.searches.proofs.first_past.Statement.{statement}
 use Rattle.searches.proofs.first_past.Tie as tie
-use Rattle.searches.proofs.first_past.Reads as reads
-use Rattle.searches.proofs.first_past.Lts as lts
-use Rattle.searches.proofs.first_from.Reads as first-from-reads
 
 returns : tie.Need-returns
 returns c =

@@ -6,9 +6,6 @@ use native.Mathlib.Omega.{arith}
 use borrow.Author.Needs.{needs}
 use Rattle.searches.proofs.meeting.Statement.{statement}
 use Rattle.searches.proofs.meeting.Tie as tie
-use Rattle.searches.proofs.meeting.Reads as reads
-use Rattle.searches.proofs.meeting.Lts as lts
-use Rattle.searches.proofs.part_at.Reads as part-at-reads
 
 part-at-requires : tie.Need-part-at-requires
 part-at-requires c κs = search needs

@@ -4,11 +4,6 @@ use native.Mathlib.Omega.{arith}
 use borrow.Author.Needs.{needs}
 use Rattle.searches.proofs.part_at.Statement.{statement}
 use Rattle.searches.proofs.part_at.Tie as tie
-use Rattle.searches.proofs.part_at.Reads as reads
-use Rattle.searches.proofs.part_at.Lts as lts
-use Rattle.searches.proofs.first_from.Reads as first-from-reads
-use Rattle.searches.proofs.first_past.Reads as first-past-reads
-use Rattle.searches.proofs.count_of.Reads as count-of-reads
 
 count-of-requires : tie.Need-count-of-requires
 count-of-requires c κs = search needs

@@ -11,11 +11,6 @@ use borrow.Author.Needs.{needs}
 use native.Mathlib.Omega.{arith}
 use Rattle.searches.proofs.share_number.Statement.{statement}
 use Rattle.searches.proofs.share_number.Tie as tie
-use Rattle.searches.proofs.share_number.Reads as reads
-use Rattle.searches.proofs.share_number.Lts as lts
-use Rattle.blocks.proofs.word.Reads as word-reads
-use Rattle.searches.proofs.count_of.Reads as count-of-reads
-use Rattle.blocks.proofs.chosen.Reads as chosen-reads
 
 abbrev Inv-loop : tie.InvT-loop
 Inv-loop a b i₀ left₀ j₀ others₀ i left j others =

@@ -4,11 +4,6 @@ use native.Mathlib.Omega.{arith}
 use borrow.Author.Needs.{needs}
 use Rattle.searches.proofs.spot_of.Statement.{statement}
 use Rattle.searches.proofs.spot_of.Tie as tie
-use Rattle.searches.proofs.spot_of.Reads as reads
-use Rattle.searches.proofs.spot_of.Lts as lts
-use Rattle.blocks.proofs.word.Reads as word-reads
-use Rattle.searches.proofs.count_of.Reads as count-of-reads
-use Rattle.searches.proofs.first_from.Reads as first-from-reads
 
 count-of-requires : tie.Need-count-of-requires
 count-of-requires c κs = search needs

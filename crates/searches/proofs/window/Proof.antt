@@ -9,10 +9,6 @@ use Rattle.searches.specs.Parts.{noPart}
 use borrow.Author.Needs.{needs}
 use Rattle.searches.proofs.window.Statement.{statement}
 use Rattle.searches.proofs.window.Tie as tie
-use Rattle.searches.proofs.window.Reads as reads
-use Rattle.searches.proofs.window.Lts as lts
-use Rattle.searches.proofs.meeting.Reads as meeting-reads
-use Rattle.searches.proofs.window_verdict.Reads as window-verdict-reads
 
 window-verdict-requires : tie.Need-window-verdict-requires
 window-verdict-requires c κs = search needs

@@ -5,15 +5,9 @@ use Rattle.answers.proofs.Turns.{refusal-by, given-by}
 use Rattle.searches.specs.Parts.{partSays}
 use Rattle.searches.specs.Calls.{windowPart, windowRefusals, windowAtCall}
 use Rattle.searches.proofs.Windows.{clear-window, part-empty, part-some}
-use native.Mathlib.Omega.{arith}
 use borrow.Author.Needs.{needs}
 use Rattle.searches.proofs.window_at.Statement.{statement}
 use Rattle.searches.proofs.window_at.Tie as tie
-use Rattle.searches.proofs.window_at.Reads as reads
-use Rattle.searches.proofs.window_at.Lts as lts
-use Rattle.answers.proofs.refusal_of.Reads as refusal-of-reads
-use Rattle.searches.proofs.part_at.Reads as part-at-reads
-use Rattle.searches.proofs.window_verdict.Reads as window-verdict-reads
 
 window-verdict-requires : tie.Need-window-verdict-requires
 window-verdict-requires c κs = search needs

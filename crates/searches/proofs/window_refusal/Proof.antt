@@ -6,10 +6,6 @@ use Rattle.searches.specs.Calls.{windowRefusals, windowRefusalCall}
 use borrow.Author.Needs.{needs}
 use Rattle.searches.proofs.window_refusal.Statement.{statement}
 use Rattle.searches.proofs.window_refusal.Tie as tie
-use Rattle.searches.proofs.window_refusal.Reads as reads
-use Rattle.searches.proofs.window_refusal.Lts as lts
-use Rattle.answers.proofs.judged_of.Reads as judged-of-reads
-use Rattle.searches.proofs.window_verdict.Reads as window-verdict-reads
 
 window-verdict-requires : tie.Need-window-verdict-requires
 window-verdict-requires c κs = search needs

@@ -3,9 +3,6 @@ use Rattle.searches.proofs.Windows.{window-refused, window-backwards, w
 use borrow.Author.Needs.{needs}
 use Rattle.searches.proofs.window_verdict.Statement.{statement}
 use Rattle.searches.proofs.window_verdict.Tie as tie
-use Rattle.searches.proofs.window_verdict.Reads as reads
-use Rattle.searches.proofs.window_verdict.Lts as lts
-use Rattle.blocks.proofs.judge.Reads as judge-reads
 
 judge-requires : tie.Need-judge-requires
 judge-requires c κs = search needs

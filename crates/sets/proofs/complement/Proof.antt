@@ -12,9 +12,6 @@ use Rattle.sets.proofs.Operating.{complement-fit}
 use borrow.Author.Needs.{needs}
 use Rattle.sets.proofs.complement.Statement.{statement}
 use Rattle.sets.proofs.complement.Tie as tie
-use Rattle.sets.proofs.complement.Reads as reads
-use Rattle.sets.proofs.complement.Lts as lts
-use Rattle.operations.proofs.from_one.Reads as from-one-reads
 
 from-one-requires : tie.Need-from-one-requires
 from-one-requires c κs = complement-fit

@@ -3,10 +3,6 @@ use Rattle.answers.proofs.Numbers.{numbered-as}
 use borrow.Author.Needs.{needs}
 use Rattle.sets.proofs.insert.Statement.{statement}
 use Rattle.sets.proofs.insert.Tie as tie
-use Rattle.sets.proofs.insert.Reads as reads
-use Rattle.sets.proofs.insert.Lts as lts
-use Rattle.answers.proofs.judged_of.Reads as judged-of-reads
-use Rattle.edits.proofs.edit_put.Reads as edit-put-reads
 
 slice-aggregate-edit-put : tie.Need-slice-aggregate-edit-put
 slice-aggregate-edit-put c = search needs

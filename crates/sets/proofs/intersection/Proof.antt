@@ -13,9 +13,6 @@ use native.Mathlib.Omega.{arith}
 use borrow.Author.Needs.{needs}
 use Rattle.sets.proofs.intersection.Statement.{statement}
 use Rattle.sets.proofs.intersection.Tie as tie
-use Rattle.sets.proofs.intersection.Reads as reads
-use Rattle.sets.proofs.intersection.Lts as lts
-use Rattle.sets.proofs.two_sets.Reads as two-sets-reads
 
 two-sets-requires : tie.Need-two-sets-requires
 two-sets-requires c κs = intersection-fit

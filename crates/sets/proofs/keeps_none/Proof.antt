@@ -13,11 +13,6 @@ use native.Mathlib.Omega.{arith}
 use borrow.Author.Needs.{needs}
 use Rattle.sets.proofs.keeps_none.Statement.{statement}
 use Rattle.sets.proofs.keeps_none.Tie as tie
-use Rattle.sets.proofs.keeps_none.Reads as reads
-use Rattle.sets.proofs.keeps_none.Lts as lts
-use Rattle.answers.proofs.refusal_of.Reads as refusal-of-reads
-use Rattle.blocks.proofs.judge.Reads as judge-reads
-use Rattle.operations.proofs.any_of_two.Reads as any-of-two-reads
 
 judge-requires : tie.Need-judge-requires
 judge-requires c κs = search needs

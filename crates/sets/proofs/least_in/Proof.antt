@@ -3,11 +3,6 @@ use native.Mathlib.Omega.{arith}
 use borrow.Author.Needs.{needs}
 use Rattle.sets.proofs.least_in.Statement.{statement}
 use Rattle.sets.proofs.least_in.Tie as tie
-use Rattle.sets.proofs.least_in.Reads as reads
-use Rattle.sets.proofs.least_in.Lts as lts
-use Rattle.blocks.proofs.word.Reads as word-reads
-use Rattle.searches.proofs.count_of.Reads as count-of-reads
-use Rattle.searches.proofs.spot_of.Reads as spot-of-reads
 
 spot-of-requires : tie.Need-spot-of-requires
 spot-of-requires c κs = search needs

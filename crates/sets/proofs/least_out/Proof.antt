@@ -4,10 +4,6 @@ use native.Mathlib.Omega.{arith}
 use borrow.Author.Needs.{needs}
 use Rattle.sets.proofs.least_out.Statement.{statement}
 use Rattle.sets.proofs.least_out.Tie as tie
-use Rattle.sets.proofs.least_out.Reads as reads
-use Rattle.sets.proofs.least_out.Lts as lts
-use Rattle.blocks.proofs.word.Reads as word-reads
-use Rattle.searches.proofs.spot_of.Reads as spot-of-reads
 
 spot-of-requires : tie.Need-spot-of-requires
 spot-of-requires c κs = search needs

@@ -2,10 +2,6 @@ use Rattle.sets.proofs.Emptying.{empty-refused, empty-done}
 use borrow.Author.Needs.{needs}
 use Rattle.sets.proofs.make_empty.Statement.{statement}
 use Rattle.sets.proofs.make_empty.Tie as tie
-use Rattle.sets.proofs.make_empty.Reads as reads
-use Rattle.sets.proofs.make_empty.Lts as lts
-use Rattle.answers.proofs.judged_of.Reads as judged-of-reads
-use Rattle.blocks.proofs.clear.Reads as clear-reads
 
 judged-of-requires : tie.Need-judged-of-requires
 judged-of-requires c κs = search needs

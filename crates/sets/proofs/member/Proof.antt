@@ -12,11 +12,6 @@ use native.Mathlib.Omega.{arith}
 use borrow.Author.Needs.{needs}
 use Rattle.sets.proofs.member.Statement.{statement}
 use Rattle.sets.proofs.member.Tie as tie
-use Rattle.sets.proofs.member.Reads as reads
-use Rattle.sets.proofs.member.Lts as lts
-use Rattle.answers.proofs.refusal_of.Reads as refusal-of-reads
-use Rattle.blocks.proofs.judge.Reads as judge-reads
-use Rattle.searches.proofs.spot_of.Reads as spot-of-reads
 
 judge-requires : tie.Need-judge-requires
 judge-requires c κs = search needs

@@ -10,11 +10,6 @@ use Rattle.sets.proofs.Asking.{refuse-asked, give-asked}
 use borrow.Author.Needs.{needs}
 use Rattle.sets.proofs.range_at.Statement.{statement}
 use Rattle.sets.proofs.range_at.Tie as tie
-use Rattle.sets.proofs.range_at.Reads as reads
-use Rattle.sets.proofs.range_at.Lts as lts
-use Rattle.answers.proofs.refusal_of.Reads as refusal-of-reads
-use Rattle.blocks.proofs.judge.Reads as judge-reads
-use Rattle.sets.proofs.range_in.Reads as range-in-reads
 
 judge-requires : tie.Need-judge-requires
 judge-requires c κs = search needs

@@ -7,11 +7,6 @@ use Rattle.sets.proofs.Asking.{range-none, range-is}
 use borrow.Author.Needs.{needs}
 use Rattle.sets.proofs.range_in.Statement.{statement}
 use Rattle.sets.proofs.range_in.Tie as tie
-use Rattle.sets.proofs.range_in.Reads as reads
-use Rattle.sets.proofs.range_in.Lts as lts
-use Rattle.blocks.proofs.wide.Reads as wide-reads
-use Rattle.blocks.proofs.word.Reads as word-reads
-use Rattle.searches.proofs.count_of.Reads as count-of-reads
 
 count-of-requires : tie.Need-count-of-requires
 count-of-requires c κs = search needs

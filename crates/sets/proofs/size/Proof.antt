@@ -13,12 +13,6 @@ use native.Mathlib.Omega.{arith}
 use borrow.Author.Needs.{needs}
 use Rattle.sets.proofs.size.Statement.{statement}
 use Rattle.sets.proofs.size.Tie as tie
-use Rattle.sets.proofs.size.Reads as reads
-use Rattle.sets.proofs.size.Lts as lts
-use Rattle.answers.proofs.refusal_of.Reads as refusal-of-reads
-use Rattle.blocks.proofs.judge.Reads as judge-reads
-use Rattle.searches.proofs.count_of.Reads as count-of-reads
-use Rattle.sets.proofs.size_less_one.Reads as size-less-one-reads
 
 judge-requires : tie.Need-judge-requires
 judge-requires c κs = search needs

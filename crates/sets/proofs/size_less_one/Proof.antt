@@ -6,9 +6,6 @@ use borrow.Author.Needs.{needs}
 use native.Mathlib.Omega.{arith}
 use Rattle.sets.proofs.size_less_one.Statement.{statement}
 use Rattle.sets.proofs.size_less_one.Tie as tie
-use Rattle.sets.proofs.size_less_one.Reads as reads
-use Rattle.sets.proofs.size_less_one.Lts as lts
-use Rattle.blocks.proofs.word.Reads as word-reads
 
 abbrev Inv-loop : tie.InvT-loop
 Inv-loop block n total₀ p₀ left₀ total p left = Summed block (total + 1) p left

@@ -13,9 +13,6 @@ use native.Mathlib.Omega.{arith}
 use borrow.Author.Needs.{needs}
 use Rattle.sets.proofs.union.Statement.{statement}
 use Rattle.sets.proofs.union.Tie as tie
-use Rattle.sets.proofs.union.Reads as reads
-use Rattle.sets.proofs.union.Lts as lts
-use Rattle.sets.proofs.two_sets.Reads as two-sets-reads
 
 two-sets-requires : tie.Need-two-sets-requires
 two-sets-requires c κs = union-fit

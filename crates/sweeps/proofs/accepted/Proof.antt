@@ -2,9 +2,6 @@ use Rattle.sweeps.specs.Sweeps.{accepts}
 use borrow.Author.Needs.{needs}
 use Rattle.sweeps.proofs.accepted.Statement.{statement}
 use Rattle.sweeps.proofs.accepted.Tie as tie
-use Rattle.sweeps.proofs.accepted.Reads as reads
-use Rattle.sweeps.proofs.accepted.Lts as lts
-use Rattle.sweeps.proofs.bit_of.Reads as bit-of-reads
 
 bit-of-requires : tie.Need-bit-of-requires
 bit-of-requires c κs = search needs

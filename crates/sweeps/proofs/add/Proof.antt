@@ -4,11 +4,6 @@ use Rattle.sweeps.proofs.Storing.{add-room, add-count, added}
 use borrow.Author.Needs.{needs}
 use Rattle.sweeps.proofs.add.Statement.{statement}
 use Rattle.sweeps.proofs.add.Tie as tie
-use Rattle.sweeps.proofs.add.Reads as reads
-use Rattle.sweeps.proofs.add.Lts as lts
-use Rattle.sweeps.proofs.less.Reads as less-reads
-use Rattle.sweeps.proofs.more.Reads as more-reads
-use Rattle.sweeps.proofs.store.Reads as store-reads
 
 less-requires : tie.Need-less-requires
 less-requires c κs = search needs

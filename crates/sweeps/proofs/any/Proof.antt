@@ -4,9 +4,6 @@ use native.Mathlib.Omega.{arith}
 use borrow.Author.Needs.{needs}
 use Rattle.sweeps.proofs.any.Statement.{statement}
 use Rattle.sweeps.proofs.any.Tie as tie
-use Rattle.sweeps.proofs.any.Reads as reads
-use Rattle.sweeps.proofs.any.Lts as lts
-use Rattle.sweeps.proofs.sweep.Reads as sweep-reads
 
 slice-aggregate-sweep : tie.Need-slice-aggregate-sweep
 slice-aggregate-sweep c = search needs

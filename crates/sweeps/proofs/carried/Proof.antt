@@ -2,10 +2,6 @@ use Rattle.sweeps.proofs.Segments.{carried-set, carried-none, reach-a, 
 use borrow.Author.Needs.{needs}
 use Rattle.sweeps.proofs.carried.Statement.{statement}
 use Rattle.sweeps.proofs.carried.Tie as tie
-use Rattle.sweeps.proofs.carried.Reads as reads
-use Rattle.sweeps.proofs.carried.Lts as lts
-use Rattle.sweeps.proofs.nothing.Reads as nothing-reads
-use Rattle.sweeps.proofs.words_behind.Reads as words-behind-reads
 
 nothing-requires : tie.Need-nothing-requires
 nothing-requires c κs = search needs

@@ -4,9 +4,6 @@ use native.Mathlib.Omega.{arith}
 use borrow.Author.Needs.{needs}
 use Rattle.sweeps.proofs.fits.Statement.{statement}
 use Rattle.sweeps.proofs.fits.Tie as tie
-use Rattle.sweeps.proofs.fits.Reads as reads
-use Rattle.sweeps.proofs.fits.Lts as lts
-use Rattle.sweeps.proofs.sweep.Reads as sweep-reads
 
 returns : tie.Need-returns
 returns c =

@@ -3,10 +3,6 @@ use Rattle.sweeps.proofs.Runs.{turn-end, word-here, set-found, turn-set
 use native.Mathlib.Omega.{arith}
 use Rattle.sweeps.proofs.flip.Statement.{statement}
 use Rattle.sweeps.proofs.flip.Tie as tie
-use Rattle.sweeps.proofs.flip.Reads as reads
-use Rattle.sweeps.proofs.flip.Lts as lts
-use Rattle.blocks.proofs.word.Reads as word-reads
-use Rattle.sweeps.proofs.last_of.Reads as last-of-reads
 
 returns : tie.Need-returns
 returns c =

@@ -1,9 +1,6 @@
 use borrow.Author.Needs.{needs}
 use Rattle.sweeps.proofs.joins.Statement.{statement}
 use Rattle.sweeps.proofs.joins.Tie as tie
-use Rattle.sweeps.proofs.joins.Reads as reads
-use Rattle.sweeps.proofs.joins.Lts as lts
-use Rattle.sweeps.proofs.same_value.Reads as same-value-reads
 
 same-value-requires : tie.Need-same-value-requires
 same-value-requires c κs = search needs

@@ -1,8 +1,6 @@
 use native.Mathlib.Omega.{arith}
 use Rattle.sweeps.proofs.last_of.Statement.{statement}
 use Rattle.sweeps.proofs.last_of.Tie as tie
-use Rattle.sweeps.proofs.last_of.Reads as reads
-use Rattle.sweeps.proofs.last_of.Lts as lts
 
 sub-result : tie.Need-sub-result
 sub-result c = let h = rw (c .if1 .left) at (c .before .pre) in omega arith

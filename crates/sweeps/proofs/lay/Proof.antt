@@ -5,9 +5,6 @@ use native.Mathlib.Omega.{arith}
 use borrow.Author.Needs.{needs}
 use Rattle.sweeps.proofs.lay.Statement.{statement}
 use Rattle.sweeps.proofs.lay.Tie as tie
-use Rattle.sweeps.proofs.lay.Reads as reads
-use Rattle.sweeps.proofs.lay.Lts as lts
-use Rattle.sweeps.proofs.more.Reads as more-reads
 
 more-requires : tie.Need-more-requires
 more-requires c κs = search needs

@@ -5,9 +5,6 @@ use native.Mathlib.Omega.{arith}
 use borrow.Author.Needs.{needs}
 use Rattle.sweeps.proofs.leave.Statement.{statement}
 use Rattle.sweeps.proofs.leave.Tie as tie
-use Rattle.sweeps.proofs.leave.Reads as reads
-use Rattle.sweeps.proofs.leave.Lts as lts
-use Rattle.blocks.proofs.word.Reads as word-reads
 
 word-requires : tie.Need-word-requires
 word-requires c κs =

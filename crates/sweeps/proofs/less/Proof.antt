@@ -1,8 +1,6 @@
 use native.Mathlib.Omega.{arith}
 use Rattle.sweeps.proofs.less.Statement.{statement}
 use Rattle.sweeps.proofs.less.Tie as tie
-use Rattle.sweeps.proofs.less.Reads as reads
-use Rattle.sweeps.proofs.less.Lts as lts
 
 sub-result : tie.Need-sub-result
 sub-result c = let h = rw (c .if1 .taken) at (c .before .pre) in omega arith

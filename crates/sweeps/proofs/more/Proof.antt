@@ -2,8 +2,6 @@ use native.Mathlib.Omega.{arith}
 use borrow.Author.Needs.{needs}
 use Rattle.sweeps.proofs.more.Statement.{statement}
 use Rattle.sweeps.proofs.more.Tie as tie
-use Rattle.sweeps.proofs.more.Reads as reads
-use Rattle.sweeps.proofs.more.Lts as lts
 
 add-result : tie.Need-add-result
 add-result c = search needs

@@ -1,8 +1,6 @@
 use borrow.Author.Tests.{eq-eqb, ne-eqb}
 use Rattle.sweeps.proofs.only_sets.Statement.{statement}
 use Rattle.sweeps.proofs.only_sets.Tie as tie
-use Rattle.sweeps.proofs.only_sets.Reads as reads
-use Rattle.sweeps.proofs.only_sets.Lts as lts
 
 returns : tie.Need-returns
 returns c = rw (ne-eqb _ _ (c .if1 .taken))

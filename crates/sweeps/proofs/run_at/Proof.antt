@@ -4,10 +4,6 @@ use Rattle.sweeps.proofs.Runs.{point-as, turn-as, turn-none, out-side, 
 use native.Mathlib.Omega.{arith}
 use Rattle.sweeps.proofs.run_at.Statement.{statement}
 use Rattle.sweeps.proofs.run_at.Tie as tie
-use Rattle.sweeps.proofs.run_at.Reads as reads
-use Rattle.sweeps.proofs.run_at.Lts as lts
-use Rattle.blocks.proofs.word.Reads as word-reads
-use Rattle.sweeps.proofs.leave.Reads as leave-reads
 
 leave-requires : tie.Need-leave-requires
 leave-requires c κs =

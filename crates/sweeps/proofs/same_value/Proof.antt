@@ -2,8 +2,6 @@ use Rattle.sweeps.proofs.Segments.{same-two, same-three, same-four, sam
 use native.Mathlib.Omega.{arith}
 use Rattle.sweeps.proofs.same_value.Statement.{statement}
 use Rattle.sweeps.proofs.same_value.Tie as tie
-use Rattle.sweeps.proofs.same_value.Reads as reads
-use Rattle.sweeps.proofs.same_value.Lts as lts
 
 returns : tie.Need-returns
 returns c = let a = c .before in same-two (a .args .s) (a .args .u) (a .args .v) (c .if1 .taken)

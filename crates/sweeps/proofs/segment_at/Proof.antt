@@ -3,14 +3,6 @@ use Rattle.sweeps.proofs.Segments.{segment-made}
 use borrow.Author.Needs.{needs}
 use Rattle.sweeps.proofs.segment_at.Statement.{statement}
 use Rattle.sweeps.proofs.segment_at.Tie as tie
-use Rattle.sweeps.proofs.segment_at.Reads as reads
-use Rattle.sweeps.proofs.segment_at.Lts as lts
-use Rattle.sweeps.proofs.accepted.Reads as accepted-reads
-use Rattle.sweeps.proofs.carried.Reads as carried-reads
-use Rattle.sweeps.proofs.least.Reads as least-reads
-use Rattle.blocks.proofs.chosen.Reads as chosen-reads
-use Rattle.sweeps.proofs.run_at.Reads as run-at-reads
-use Rattle.sweeps.proofs.turned.Reads as turned-reads
 
 run-at-requires : tie.Need-run-at-requires
 run-at-requires c κs = search needs

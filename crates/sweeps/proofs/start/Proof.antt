@@ -6,10 +6,6 @@ use native.Mathlib.Omega.{arith}
 use borrow.Author.Needs.{needs}
 use Rattle.sweeps.proofs.start.Statement.{statement}
 use Rattle.sweeps.proofs.start.Tie as tie
-use Rattle.sweeps.proofs.start.Reads as reads
-use Rattle.sweeps.proofs.start.Lts as lts
-use Rattle.blocks.proofs.wide.Reads as wide-reads
-use Rattle.blocks.proofs.word.Reads as word-reads
 
 word-requires : tie.Need-word-requires
 word-requires c κs = search needs

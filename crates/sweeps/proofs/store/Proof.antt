@@ -6,9 +6,6 @@ use native.Mathlib.Omega.{arith}
 use borrow.Author.Needs.{needs}
 use Rattle.sweeps.proofs.store.Statement.{statement}
 use Rattle.sweeps.proofs.store.Tie as tie
-use Rattle.sweeps.proofs.store.Reads as reads
-use Rattle.sweeps.proofs.store.Lts as lts
-use Rattle.sweeps.proofs.lay.Reads as lay-reads
 
 mul-q : tie.Need-mul-q
 mul-q c = let a = c .before .before in let h = rw (c .if1 .taken) at (a .pre .2) in record { fits = omega arith }

@@ -10,11 +10,6 @@ use Rattle.sweeps.proofs.Standing.{sets-only}
 use borrow.Author.Needs.{needs}
 use Rattle.sweeps.proofs.sweep.Statement.{statement}
 use Rattle.sweeps.proofs.sweep.Tie as tie
-use Rattle.sweeps.proofs.sweep.Reads as reads
-use Rattle.sweeps.proofs.sweep.Lts as lts
-use Rattle.sweeps.proofs.only_sets.Reads as only-sets-reads
-use Rattle.sweeps.proofs.sweep_any.Reads as sweep-any-reads
-use Rattle.sweeps.proofs.sweep_sets.Reads as sweep-sets-reads
 
 only-sets-requires : tie.Need-only-sets-requires
 only-sets-requires c κs = search needs

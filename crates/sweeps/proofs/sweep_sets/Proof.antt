@@ -6,12 +6,6 @@ use Rattle.sweeps.specs.declared.Plan.{Plan}
 use borrow.Author.Needs.{needs}
 use Rattle.sweeps.proofs.sweep_sets.Statement.{statement}
 use Rattle.sweeps.proofs.sweep_sets.Tie as tie
-use Rattle.sweeps.proofs.sweep_sets.Reads as reads
-use Rattle.sweeps.proofs.sweep_sets.Lts as lts
-use Rattle.sweeps.proofs.begin.Reads as begin-reads
-use Rattle.sweeps.proofs.set_plan.Reads as set-plan-reads
-use Rattle.sweeps.proofs.sweep_pair.Reads as sweep-pair-reads
-use Rattle.sweeps.proofs.sweep_three.Reads as sweep-three-reads
 
 set-plan-requires : tie.Need-set-plan-requires
 set-plan-requires c κs = search needs

@@ -6,9 +6,6 @@ use native.Mathlib.Omega.{arith}
 use borrow.Author.Needs.{needs}
 use Rattle.sweeps.proofs.words_behind.Statement.{statement}
 use Rattle.sweeps.proofs.words_behind.Tie as tie
-use Rattle.sweeps.proofs.words_behind.Reads as reads
-use Rattle.sweeps.proofs.words_behind.Lts as lts
-use Rattle.blocks.proofs.word.Reads as word-reads
 
 returns : tie.Need-returns
 returns c = search needs

@@ -6,11 +6,6 @@ use native.Mathlib.Omega.{arith}
 use borrow.Author.Needs.{needs}
 use Rattle.sweeps.proofs.write.Statement.{statement}
 use Rattle.sweeps.proofs.write.Tie as tie
-use Rattle.sweeps.proofs.write.Reads as reads
-use Rattle.sweeps.proofs.write.Lts as lts
-use Rattle.blocks.proofs.clear.Reads as clear-reads
-use Rattle.blocks.proofs.narrow.Reads as narrow-reads
-use Rattle.sweeps.proofs.sweep.Reads as sweep-reads
 
 sweep-requires : tie.Need-sweep-requires
 sweep-requires c κs = search needs
