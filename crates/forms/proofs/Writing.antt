@@ -21,7 +21,7 @@ use Rattle.blocks.specs.Blocks.{setLayout, entriesOf, itemsOf, verdict, SoundBl
 use Rattle.blocks.specs.declared.Layout.{Layout}
 use Rattle.blocks.proofs.Words.{Shaped, items-shaped, items-length}
 use Rattle.blocks.proofs.Judging.{verdict-sound, verdict-small, room-words}
-use Rattle.numbers.specs.Numbers.{countBytes, over}
+use Rattle.numbers.specs.Numbers.{past2, countBytes, over}
 use Rattle.numbers.proofs.Patch.{tail-part, mid-patch, mid-over}
 use Rattle.records.specs.Records.{startRecord}
 use Rattle.records.specs.Reads.{countsOf}
@@ -33,14 +33,14 @@ use Rattle.verdicts.specs.declared.Form.{Form}
 use Rattle.verdicts.specs.Forms.{formOf, startSize, overlap}
 use Rattle.forms.specs.Calls.{heldIn, inputs, noSpace, blockRefusals, writtenAt, writeCall}
 use Rattle.verdicts.specs.Steps.{Shape, lone, pair, FormKind, eachOf, itemSize, secondAt}
-use Rattle.forms.specs.Steps.{countHeld, Puts}
+use Rattle.forms.specs.Steps.{countHeld, twoCounts, mostBytes, Puts}
 use Rattle.runs.proofs.Several.{shapes}
 use Rattle.verdicts.proofs.Whole.{as-many, size}
 use Rattle.forms.proofs.Forms.{held-fine, many-held, space-clear}
 use Rattle.verdicts.proofs.Two.{not-one}
 
 -- the size of a form fits
-small-size : (s n : ℕ) → s ≤ 4 → n < 131072 → (8 * s + 5) * n ≤ 4849664
+small-size : (s n : ℕ) → s ≤ 4 → n < twoCounts → (8 * s + 5) * n ≤ mostBytes
 small-size s n h l =
     let k : 8 * s + 5 ≤ 37 = omega arith in
     omega (arith, mul-le-mul-left n k, mul-comm n (8 * s + 5))
@@ -147,7 +147,7 @@ second-there : (r : ℕ) (layout : Layout) (l : ℕ) → Shape r layout → ((r 
 second-there r layout l lone h = omega arith
 second-there r layout l pair h = omega (arith, h (λ z. omega arith))
 
-second-small : (r : ℕ) (l : Layout) (m : ℕ) (y : List ℕ) → Shape r l → m ≡ countHeld r y → ((r ≡ 1 → ⊥) → getD y 0 0 < 65536) → m < 65536
+second-small : (r : ℕ) (l : Layout) (m : ℕ) (y : List ℕ) → Shape r l → m ≡ countHeld r y → ((r ≡ 1 → ⊥) → getD y 0 0 < past2) → m < past2
 second-small r l m y lone e h = omega arith
 second-small r l m y pair e h = omega (arith, h (λ z. omega arith))
 
@@ -230,15 +230,15 @@ module _ {f : Form} {x y : List ℕ} {v : Finding} (h : Passed f x y v) where
     room-first : 1 + f .layout .width * n ≤ length x
     room-first = room-words (f .layout) (length x) n (first-sound .some) (omega (arith, first-sound .fits))
 
-    small : n < 65536
+    small : n < past2
     small = omega (arith, first-sound .fits, h .kind .small)
 
-    small-too : m < 65536
+    small-too : m < past2
     small-too = second-small (f .runs) (f .layout) m y (h .kind .shape) em (λ nz. omega (arith, second-sound nz .fits, h .kind .small))
 
-    pub size-small : (n + m < 131072) × (itemSize f * (n + m) ≤ 4849664)
+    pub size-small : (n + m < twoCounts) × (itemSize f * (n + m) ≤ mostBytes)
     size-small =
-        let l : n + m < 131072 = omega (arith, small, small-too) in
+        let l : n + m < twoCounts = omega (arith, small, small-too) in
         (l, small-size (f .layout .width) (n + m) (h .kind .first .four) l)
 
     count-second : (f .runs ≡ 1 → ⊥) → m ≡ getD y 0 0

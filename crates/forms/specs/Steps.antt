@@ -5,6 +5,7 @@ use mathlib.Core.List.{List}
 use lib.Dec.{ltb}
 use lib.ListN.{length, getD, drop}
 use Rattle.entries.specs.Build.{pick}
+use Rattle.numbers.specs.Numbers.{past2}
 use Rattle.runs.specs.Steps.{Fills}
 use Rattle.verdicts.specs.declared.Form.{Form}
 use Rattle.verdicts.specs.Forms.{startSize}
@@ -26,11 +27,18 @@ pub record Stores (f : Form) (n m : ℕ) (b out out2 : List ℕ) : Type 0 where
 abbrev pub countHeld : ℕ → List ℕ → ℕ
 countHeld runs w = pick (ltb 1 runs) (getD w 0 0) 0
 
+-- what two counts together are below, and what the bytes of so many items are at most
+abbrev pub twoCounts : ℕ
+twoCounts = 131072
+
+abbrev pub mostBytes : ℕ
+mostBytes = 4849664
+
 -- blocks with n and m items, and bytes with room for their form
 pub record Puts (f : Form) (n m : ℕ) (w w2 b : List ℕ) : Type 0 where
   pub kind : FormKind f
-  pub small : n < 65536
-  pub small-too : m < 65536
+  pub small : n < past2
+  pub small-too : m < past2
   pub held : secondAt f n + itemSize f * m ≤ length b
   pub room : 1 + f .layout .width * n ≤ length w
   pub room-too : (f .runs ≡ 1 → ⊥) → 1 + f .layout .width * m ≤ length w2

@@ -7,6 +7,13 @@ use lib.ListN.{length, getD, take, drop}
 abbrev pub Bytes : List ℕ → Type 0
 Bytes b = (i : ℕ) → getD b i 0 < 256
 
+-- what numbers of 2 and of 4 bytes are below
+abbrev pub past2 : ℕ
+past2 = 65536
+
+abbrev pub past4 : ℕ
+past4 = 4294967296
+
 -- [Y1] the number of 2, 4, 8 bytes at place q
 abbrev pub num2 : List ℕ → ℕ → ℕ
 num2 b q = getD b q 0 * 256 + getD b (q + 1) 0

@@ -4,7 +4,7 @@ ghost use mathlib.Core.Path.{_≡_};
 ghost use mathlib.Core.List.{[], _∷_};
 ghost use Prim.Native.Nat.{_+_, _*_, _≤_, _<_};
 ghost use lib.ListN.{length};
-ghost use Rattle.numbers.specs.Numbers.{num2, num4, num8, be2, be4, be8, wordsIn, wordBytes, over};
+ghost use Rattle.numbers.specs.Numbers.{past2, past4, num2, num4, num8, be2, be4, be8, wordsIn, wordBytes, over};
 ghost use Rattle.numbers.specs.Check.{checkOf};
 ghost use Rattle.numbers.specs.Steps.{goOn, Small, After, Begun, Laid, weight4};
 
@@ -17,7 +17,7 @@ fn wide(x: u8) -> u64
 
 // A number of 2 bytes as a word.
 pub fn wide2(x: u16) -> u64
-    ensures { λ r. ⌜ (r ≡ x) × (r < 65536) ⌝ }
+    ensures { λ r. ⌜ (r ≡ x) × (r < past2) ⌝ }
 {
     x as u64
 }
@@ -38,7 +38,7 @@ pub fn sums_from(kind: u8, mark: u16) -> Sums
 
 // The sums with the 2 bytes of v behind. 256 leaves 1 when divided by 255, so a number adds to them what its bytes add.
 pub fn sum2(s: Sums, v: u64) -> Sums
-    requires { ⌜ Small s × (v < 65536) ⌝ }
+    requires { ⌜ Small s × (v < past2) ⌝ }
     ensures { λ r. ⌜ After (be2 v) s r ⌝ }
 {
     Sums {
@@ -49,7 +49,7 @@ pub fn sum2(s: Sums, v: u64) -> Sums
 
 // What the 4 bytes of v add to the second sum: each is in it once, and once more for each of them behind it.
 fn weight(v: u64) -> u64
-    requires { ⌜ v < 4294967296 ⌝ }
+    requires { ⌜ v < past4 ⌝ }
     ensures { λ r. ⌜ (r ≡ weight4 v) × (r < 8589934592) ⌝ }
 {
     v + v / 256 + v / 65536 + v / 16777216
@@ -70,7 +70,7 @@ pub fn sum8(s: Sums, v: u64) -> Sums
 
 // The check of the bytes in the sums, in a record with this mark. Here the remainders are taken, once a record.
 pub fn check_from(s: Sums, mark: u16) -> u64
-    ensures { λ r. ⌜ (r ≡ goOn s []) × (r < 65536) ⌝ }
+    ensures { λ r. ⌜ (r ≡ goOn s []) × (r < past2) ⌝ }
 {
     s.b % 255 * 256 + s.a % 255
 }
@@ -78,7 +78,7 @@ pub fn check_from(s: Sums, mark: u16) -> u64
 // The check of at most 33 bytes.
 pub fn check_of(bytes: &[u8], mark: u16) -> u64
     requires { ⌜ length (now bytes) ≤ 33 ⌝ }
-    ensures { λ r. ⌜ (r ≡ checkOf mark (now (bytes .entry))) × (r < 65536) ⌝ }
+    ensures { λ r. ⌜ (r ≡ checkOf mark (now (bytes .entry))) × (r < past2) ⌝ }
 {
     let mut a: u64 = 0;
     let mut b: u64 = 0;
@@ -94,7 +94,7 @@ pub fn check_of(bytes: &[u8], mark: u16) -> u64
 // The number of 2 bytes at place q.
 pub fn get2(bytes: &[u8], q: usize) -> u64
     requires { ⌜ q + 2 ≤ length (now bytes) ⌝ }
-    ensures { λ r. ⌜ (r ≡ num2 (now (bytes .entry)) q) × (r < 65536) ⌝ }
+    ensures { λ r. ⌜ (r ≡ num2 (now (bytes .entry)) q) × (r < past2) ⌝ }
 {
     wide(bytes[q]) * 256 + wide(bytes[q + 1])
 }
@@ -102,7 +102,7 @@ pub fn get2(bytes: &[u8], q: usize) -> u64
 // The number of 4 bytes at place q.
 fn get4(bytes: &[u8], q: usize) -> u64
     requires { ⌜ q + 4 ≤ length (now bytes) ⌝ }
-    ensures { λ r. ⌜ (r ≡ num4 (now (bytes .entry)) q) × (r < 4294967296) ⌝ }
+    ensures { λ r. ⌜ (r ≡ num4 (now (bytes .entry)) q) × (r < past4) ⌝ }
 {
     get2(bytes, q) * 65536 + get2(bytes, q + 2)
 }
@@ -117,7 +117,7 @@ pub fn get8(bytes: &[u8], q: usize) -> u64
 
 // Writes a number of 2 bytes at the front.
 pub fn put2(bytes: &mut [u8], v: u64)
-    requires { ⌜ (v < 65536) × (2 ≤ length (now bytes)) ⌝ }
+    requires { ⌜ (v < past2) × (2 ≤ length (now bytes)) ⌝ }
     ensures { λ _. ⌜ now (bytes .exit) ≡ over (be2 v) (now (bytes .entry)) ⌝ }
 {
     bytes[0] = (v / 256) as u8;
@@ -126,7 +126,7 @@ pub fn put2(bytes: &mut [u8], v: u64)
 
 // Writes a number of 4 bytes at the front.
 fn put4(bytes: &mut [u8], v: u64)
-    requires { ⌜ (v < 4294967296) × (4 ≤ length (now bytes)) ⌝ }
+    requires { ⌜ (v < past4) × (4 ≤ length (now bytes)) ⌝ }
     ensures { λ _. ⌜ now (bytes .exit) ≡ over (be4 v) (now (bytes .entry)) ⌝ }
 {
     put2(bytes, v / 65536);

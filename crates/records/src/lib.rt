@@ -6,7 +6,7 @@ ghost use lib.Dec.{ltb, leb, eqb};
 ghost use lib.ListN.{length};
 ghost use Rattle.entries.specs.Build.{pick, andb, sameWords};
 ghost use Rattle.blocks.specs.Blocks.{afterb};
-ghost use Rattle.numbers.specs.Numbers.{num2, num8, be2, wordBytes, countBytes, over};
+ghost use Rattle.numbers.specs.Numbers.{past2, num2, num8, be2, wordBytes, countBytes, over};
 ghost use Rattle.numbers.specs.Check.{checkOf};
 ghost use Rattle.numbers.specs.Steps.{goOn};
 ghost use Rattle.records.specs.Records.{bodyLength, recordOf, startRecord, startVerdict, inOrder, itemVerdict};
@@ -102,7 +102,7 @@ fn rest_verdict(told: bool, content: bool) -> u8
 // The second count of the start record at the front of the bytes, or 0 if it has k = 1 counts.
 pub fn second_count(bytes: &[u8], k: usize) -> u64
     requires { ⌜ 2 * k + 5 ≤ length (now bytes) ⌝ }
-    ensures { λ r. ⌜ (r ≡ secondCount k (now (bytes .entry))) × (r < 65536) ⌝ }
+    ensures { λ r. ⌜ (r ≡ secondCount k (now (bytes .entry))) × (r < past2) ⌝ }
 {
     if 1 < k {
         return numbers::get2(bytes, 5);
@@ -112,7 +112,7 @@ pub fn second_count(bytes: &[u8], k: usize) -> u64
 
 // The sums over the kind and the k counts of a start.
 fn start_sums(kind: u8, mark: u16, k: usize, n: u64, m: u64) -> Sums
-    requires { ⌜ (1 ≤ k) × (k ≤ 2) × (n < 65536) × (m < 65536) ⌝ }
+    requires { ⌜ (1 ≤ k) × (k ≤ 2) × (n < past2) × (m < past2) ⌝ }
     ensures { λ r. ⌜ goOn r [] ≡ checkOf mark (kind ∷ countBytes (countsOf k n m)) ⌝ }
 {
     let one = numbers::sum2(numbers::sums_from(kind, mark), n);
@@ -295,7 +295,7 @@ fn put_head(bytes: &mut [u8], mark: u16, kind: u8)
 
 // Writes the k counts of a start.
 fn put_counts(bytes: &mut [u8], k: usize, n: u64, m: u64)
-    requires { ⌜ (1 ≤ k) × (k ≤ 2) × (n < 65536) × (m < 65536) × (2 * k ≤ length (now bytes)) ⌝ }
+    requires { ⌜ (1 ≤ k) × (k ≤ 2) × (n < past2) × (m < past2) × (2 * k ≤ length (now bytes)) ⌝ }
     ensures { λ _. ⌜ now (bytes .exit) ≡ over (countBytes (countsOf k n m)) (now (bytes .entry)) ⌝ }
 {
     numbers::put2(bytes, n);
@@ -307,7 +307,7 @@ fn put_counts(bytes: &mut [u8], k: usize, n: u64, m: u64)
 
 // Writes a start record with k counts.
 pub fn write_start(bytes: &mut [u8], mark: u16, kind: u8, k: usize, n: u64, m: u64)
-    requires { ⌜ (1 ≤ k) × (k ≤ 2) × (n < 65536) × (m < 65536) × (2 * k + 5 ≤ length (now bytes)) ⌝ }
+    requires { ⌜ (1 ≤ k) × (k ≤ 2) × (n < past2) × (m < past2) × (2 * k + 5 ≤ length (now bytes)) ⌝ }
     ensures { λ _. ⌜ now (bytes .exit) ≡ over (startRecord mark kind (countsOf k n m)) (now (bytes .entry)) ⌝ }
 {
     put_head(bytes, mark, kind);

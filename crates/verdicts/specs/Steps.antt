@@ -7,6 +7,7 @@ use Rattle.entries.specs.Entries.{Entry, Sound}
 use Rattle.answers.specs.declared.Finding.{Finding}
 use Rattle.blocks.specs.Blocks.{setLayout}
 use Rattle.blocks.specs.declared.Layout.{Layout}
+use Rattle.numbers.specs.Numbers.{past2}
 use Rattle.records.specs.Steps.{StartKind, ItemKind}
 use Rattle.verdicts.specs.declared.Form.{Form}
 use Rattle.runs.specs.Runs.{entriesIn, runRefusals}
@@ -23,7 +24,7 @@ pub record FormKind (f : Form) : Type 0 where
   pub first : ItemKind (f .first) (f .layout .width)
   pub second : ItemKind (f .second) (f .layout .width)
   pub shape : Shape (f .runs) (f .layout)
-  pub small : f .layout .limit < 65536
+  pub small : f .layout .limit < past2
 
 -- what stands or is lent for the first and the second run, the second not where there is one run
 abbrev pub eachOf : {A : Type 0} → Form → A → A → List A

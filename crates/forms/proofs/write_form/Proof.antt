@@ -4,6 +4,7 @@ use native.Mathlib.Omega.{arith}
 use lib.ListN.{length}
 use borrow.Author.Needs.{needs}
 use Rattle.verdicts.specs.Steps.{itemSize}
+use Rattle.forms.specs.Steps.{twoCounts, mostBytes}
 use Rattle.forms.proofs.Writing.{Passed, blocks-refused, first-sound, second-words, size-small, space-refused, place-there, to-put, write-good}
 use Rattle.forms.proofs.write_form.Statement.{statement}
 use Rattle.forms.proofs.write_form.Tie as tie
@@ -28,9 +29,9 @@ second-held-requires : tie.Need-second-held-requires
 second-held-requires c κs = second-words (passed (c .before .before))
 
 -- the size is small
-small : (h : tie.After-second-held) → (h .before .wide .result + h .second-held .result < 131072)
+small : (h : tie.After-second-held) → (h .before .wide .result + h .second-held .result < twoCounts)
     × (itemSize (h .before .before .before .before .before .before .before .before .before .args .form) *
-    (h .before .wide .result + h .second-held .result) ≤ 4849664)
+    (h .before .wide .result + h .second-held .result) ≤ mostBytes)
 small h = size-small (passed (h .before .before .before)) (h .before .wide .ensures ∙ h .before .before .word .ensures) (h .second-held .ensures)
 
 add-size-3 : tie.Need-add-size-3
