@@ -58,7 +58,7 @@ true-sound (e ∷ es) s = rw (le-leb (e .low) (e .high) (s .0), link es (s .1)) 
 
 -- verdict 0 exactly of sound blocks
 module _ (l : Layout) (w : List ℕ) where
-  -- [R1, R2, R3]
+  -- [R1, R2, R3] what is not refused is sound,
   pub verdict-sound : verdict l w ≡ 0 → SoundBlock l w
   unfolding verdict
   verdict-sound v = go (eqb (length w) 0) refl (ltb (capacity l (length w)) (getD w 0 0)) refl (soundb (entriesOf (l .width) w)) refl v
@@ -75,7 +75,7 @@ module _ (l : Layout) (w : List ℕ) where
             sound = sound-true (entriesOf (l .width) w) g;
           }
 
-  -- [R1, R2, R3]
+  -- [R1, R2, R3] and what is sound is not refused
   pub sound-verdict : SoundBlock l w → verdict l w ≡ 0
   unfolding verdict
   sound-verdict b =

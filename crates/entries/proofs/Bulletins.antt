@@ -102,10 +102,10 @@ same-withdrawn false false false false p q e h = refl
 -- two bulletins with the same effect on every number, listed before (true) or not (false), name the same numbers
 module _ (r w r′ w′ : List Entry) (p : Apart r w) (q : Apart r′ w′)
     (h : (listed : Bool) (x : ℕ) → amend listed (member r x) (member w x) ≡ amend listed (member r′ x) (member w′ x)) where
-  -- [D7]
+  -- [D7] in what they release,
   pub effect-released : (x : ℕ) → member r x ≡ member r′ x
   effect-released x = h false x
 
-  -- [D7]
+  -- [D7] and in what they withdraw
   pub effect-withdrawn : (x : ℕ) → member w x ≡ member w′ x
   effect-withdrawn x = same-withdrawn (member r x) (member w x) (member r′ x) (member w′ x) (p x) (q x) (effect-released x) (h true x)

@@ -66,7 +66,7 @@ abbrev setF : (Bool → Bool → Bool) → Option Value → Option Value → Opt
 setF g o p = mark (g (has o) (has p))
 
 module _ (a b : List Entry) (sa : Sound a) (sb : Sound b) where
-  -- [S14]
+  -- [S14] union: at most n+m ranges
   pub union-bound : length (union a b) ≤ length a + length b
   unfolding union
   union-bound =
@@ -76,7 +76,7 @@ module _ (a b : List Entry) (sa : Sound a) (sb : Sound b) where
       (down-imp (prev (valueAt b) x) (valueAt b x) (starts b sb x (m .1))))) in
       omega (arith, length-append (lows a) (lows b), length-lows a, length-lows b)
 
-  -- [S14]
+  -- [S14] difference: at most n+m ranges
   pub difference-bound : length (difference a b) ≤ length a + length b
   unfolding difference
   difference-bound =
@@ -86,7 +86,7 @@ module _ (a b : List Entry) (sa : Sound a) (sb : Sound b) where
       (up-imp (prev (valueAt b) x) (valueAt b x) (stops b sb x (m .1))))) in
       omega (arith, length-append (lows a) (ends b), length-lows a, length-ends b)
 
-  -- [S14]
+  -- [S14] symmetric difference: at most n+m ranges
   pub symmetric-bound : length (symmetricDifference a b) ≤ length a + length b
   unfolding symmetricDifference
   symmetric-bound =
@@ -168,7 +168,7 @@ module _ (e f : Entry) (a b : List Entry) (sa : Sound (e ∷ a)) (sb : Sound (f 
       let w : valueAt (e ∷ a) x ≡ none = none-under e a sa x (omega arith) in
       rw w (nothing (prev (valueAt (e ∷ a)) x) (prev (valueAt (f ∷ b)) x) false)
 
-  -- [S14]
+  -- [S14] intersection: at most n+m-1 ranges, where neither has none
   pub intersection-bound : length (intersection (e ∷ a) (f ∷ b)) ≤ length (e ∷ a) + length (f ∷ b) - 1
   unfolding intersection P
   intersection-bound = go (decLe (e .low) (f .low))
@@ -186,7 +186,7 @@ module _ (e f : Entry) (a b : List Entry) (sa : Sound (e ∷ a)) (sb : Sound (f 
           (λ x n. second (omega arith) x n (ℕ-discrete x (f .low))) in
           omega (arith, length-append (lows (e ∷ a)) (lows b), length-lows a, length-lows b)
 
--- [S14]
+-- [S14] complement: at most n+1 ranges
 pub complement-bound : (a : List Entry) → Sound a → length (complement a) ≤ length a + 1
 unfolding imp
 complement-bound a sa =
@@ -218,7 +218,6 @@ module _ (es : List Entry) (a b : ℕ) (ab : a ≤ b) (o : Option Value) (s : So
       go (no k) (no h) (yes e) v r = q e v r
       go (no k) (no h) (no e) v r = with-past es a b o y (omega arith) ∙ starts es s (suc y) n v (sym (with-past es a b o (suc y) (omega arith)) ∙ r)
 
-  -- «Assign v to a..b .. at most n+2 entries after»
   -- [M2] at most n+2 entries after an assignment
   pub put-bound : length (put es a b o) ≤ length es + 2
   put-bound =
@@ -249,13 +248,13 @@ insert-bound es a b ab s f =
         with-in es a b (some []) y (omega arith) (omega arith)
         ∙ ap some (sym (plain-marks es f (suc y) v (sym (with-past es a b (some []) (suc y) (omega arith)) ∙ r)))
 
--- the set of numbers that have a value: no more ranges than entries
+-- [M6] `domain` is the sound list of the numbers that have a value
 pub domain-lists : (es : List Entry) → ListOf (λ x. mark (member es x)) (domain es)
 unfolding domain
 domain-lists es = built (λ x. mark (member es x)) (endOf es) (cutsOf es) (λ y h. ap (λ (o : Option Value). mark (has o)) (value-ends es y h))
     (λ y n. ap (λ (o : Option Value). mark (has o)) (value-changes es y n))
 
--- [M6]
+-- [M6] and it has no more ranges than the map has entries
 pub domain-bound : (es : List Entry) → Sound es → length (domain es) ≤ length es
 unfolding imp
 domain-bound es s =

@@ -22,7 +22,7 @@ range-in [] i d h = absurd (omega arith)
 range-in (e ∷ es) zero d h = refl
 range-in (e ∷ es) (suc i) d h = range-in es i d (omega arith)
 
--- [S2]
+-- [S2] and none from the length on
 pub range-out : (es : List Entry) (i : ℕ) → length es ≤ i → rangeAt es i ≡ none
 range-out [] i h = refl
 range-out (e ∷ es) zero h = absurd (omega arith)
@@ -121,7 +121,7 @@ abbrev pub LeastOf : (ℕ → Bool) → ℕ → Option ℕ → Type 0
 LeastOf m x (some y) = Least m x y
 LeastOf m x none = (z : ℕ) → x ≤ z → m z ≡ false
 
--- [S4]
+-- [S4] the least member
 pub least-member : (es : List Entry) (x : ℕ) → Sound es → LeastOf (member es) x (leastMember es x)
 least-member [] x s = λ z h. refl
 least-member (e ∷ es) x s = go (leb x (e .high)) refl (leastMember es x) (least-member es x (s .2))
@@ -141,7 +141,7 @@ least-member (e ∷ es) x s = go (leb x (e .high)) refl (leastMember es x) (leas
     }
     go false q o k = on (leb-false x (e .high) q) o k
 
--- [S5]
+-- [S5] the least number that is no member
 pub least-free : (es : List Entry) (x : ℕ) → Sound es → Least (λ z. not (member es z)) x (leastFree es x)
 least-free [] x s = record { from = omega arith; is = refl; least = λ z p q. absurd (omega arith) }
 least-free (e ∷ es) x s = go (side e x) (λ y. least-free es y (s .2))

@@ -42,22 +42,22 @@ set-unique m es fs s t = set-canonical es fs (s .sound) (t .sound) (s .plain) (t
 pub setOp-is : (g : Bool → Bool → Bool) → g false false ≡ false → (a b : List Entry) → SetOf (λ x. g (member a x) (member b x)) (setOp g a b)
 setOp-is g z a b = set-of (λ x. g (member a x) (member b x)) (setOp g a b) (combined (λ o p. mark (g (has o) (has p))) (ap mark z) a b)
 
--- [S11]
+-- [S11] union: in at least one
 pub union-is : (a b : List Entry) → SetOf (λ x. orb (member a x) (member b x)) (union a b)
 unfolding union
 union-is = setOp-is orb refl
 
--- [S11]
+-- [S11] intersection: in both
 pub intersection-is : (a b : List Entry) → SetOf (λ x. andb (member a x) (member b x)) (intersection a b)
 unfolding intersection
 intersection-is = setOp-is andb refl
 
--- [S11]
+-- [S11] difference: in the first and not in the second
 pub difference-is : (a b : List Entry) → SetOf (λ x. lessb (member a x) (member b x)) (difference a b)
 unfolding difference
 difference-is = setOp-is lessb refl
 
--- [S11]
+-- [S11] symmetric difference: in exactly one
 pub symmetric-is : (a b : List Entry) → SetOf (λ x. xorb (member a x) (member b x)) (symmetricDifference a b)
 unfolding symmetricDifference
 symmetric-is = setOp-is xorb refl
@@ -76,6 +76,6 @@ complement-lists a = built (λ x. mark (lessb (leb x M) (member a x))) (suc M) (
     changes : Changes (λ x. mark (lessb (leb x M) (member a x))) (suc M ∷ cutsOf a)
     changes y n = ap₂ (λ (t u : Bool). mark (lessb t u)) (same y (n .0) (decLt y M)) (ap has (value-changes a y (n .1)))
 
--- [S12]
+-- [S12] complement: at most M and not in the set
 pub complement-is : (a : List Entry) → SetOf (λ x. lessb (leb x M) (member a x)) (complement a)
 complement-is a = set-of (λ x. lessb (leb x M) (member a x)) (complement a) (complement-lists a)

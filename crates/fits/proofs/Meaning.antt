@@ -76,7 +76,7 @@ best-at up Allowed u a b k es one =
 any : LeastUp anywhere (λ s. Unit {0})
 any = record { above = λ s. omega arith; allowed = λ s. tt; least = λ s t p q. p }
 
--- [F2]
+-- [F2] first fit
 pub first-fit : (a b k : ℕ) (es : List Entry) → 1 ≤ k → FirstOf a b k es (firstFit a b k es)
 first-fit a b k es one = go (firstFit a b k es) (first-at anywhere (λ s. Unit {0}) any a b k es one)
   where
@@ -84,7 +84,7 @@ first-fit a b k es one = go (firstFit a b k es) (first-at anywhere (λ s. Unit {
     go none n = λ t q. n t tt q
     go (some s) c = record { run = c .run; least = λ t q. c .least t tt q }
 
--- [F3]
+-- [F3] best fit
 pub best-fit : (a b k : ℕ) (es : List Entry) → 1 ≤ k → BestOf a b k es (bestFit a b k es)
 best-fit a b k es one = go (bestFit a b k es) (best-at anywhere (λ s. Unit {0}) any a b k es one)
   where
@@ -160,11 +160,11 @@ module _ (w : List ℕ) (a b k : ℕ) (sound : SoundBlock setLayout w) (order : 
   run-none : NoRun → firstFit a b k (entriesOf 2 w) ≡ none
   run-none n = first-only a b k (entriesOf 2 w) (firstFit a b k (entriesOf 2 w)) none (first-fit a b k (entriesOf 2 w) one) n
 
-  -- [R7]
+  -- [R7] of first fit,
   pub first-no-gap : (firstFitCall w a b k ≡ refuse 7 0 [] → NoRun) × (NoRun → firstFitCall w a b k ≡ refuse 7 0 [])
   first-no-gap = (λ e. none-run (no-place firstFit e), λ n. place-no firstFit (run-none n))
 
-  -- [R7]
+  -- [R7] and of best fit
   pub best-no-gap : (bestFitCall w a b k ≡ refuse 7 0 [] → NoRun) × (NoRun → bestFitCall w a b k ≡ refuse 7 0 [])
   best-no-gap = (
     λ e. none-run (best-none anywhere a b k (entriesOf 2 w) (no-place bestFit e)),

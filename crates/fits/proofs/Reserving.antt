@@ -72,7 +72,7 @@ module _ (fit : ℕ → ℕ → ℕ → List Entry → Option ℕ) (w : List ℕ
       go zero l = refl
       go (suc n) l = refl
 
-  -- [F4]
+  -- [F4] where the question is refused, so is the reservation, with the same number and place
   pub reserve-refuses : (n p : ℕ) → fitCall fit w a b k ≡ outcome (refused n p) [] → reserveCall fit w a b k ≡ outcome (refused n p) (w ∷ [])
   unfolding fitCall reserveCall
   reserve-refuses n p e = go (askRefusals w a b k) (fit a b k (entriesOf 2 w)) e

@@ -31,25 +31,31 @@ tableOf f =
     + 64 * bit (f false true true)
     + 128 * bit (f true true true)
 
--- the tables: of the operations on two lists, of those on one, and of a bulletin (the list, what is released, what is withdrawn)
+-- The tables of the operations on two lists, of those on one, and of a bulletin. Union and overlay: in either.
 abbrev pub inEither : ℕ
 inEither = tableOf (λ a b c. orb a b)
 
+-- intersection and restriction: in both
 abbrev pub inBoth : ℕ
 inBoth = tableOf (λ a b c. andb a b)
 
+-- difference: in the first and not in the second
 abbrev pub firstAlone : ℕ
 firstAlone = tableOf (λ a b c. lessb a b)
 
+-- symmetric difference: in exactly one
 abbrev pub justOne : ℕ
 justOne = tableOf (λ a b c. xorb a b)
 
+-- complement: not in the set
 abbrev pub notFirst : ℕ
 notFirst = tableOf (λ a b c. not a)
 
+-- the numbers that have a value: in the map
 abbrev pub inFirst : ℕ
 inFirst = tableOf (λ a b c. a)
 
+-- a bulletin, of the list, what is released and what is withdrawn: without the third, then joined with the second
 abbrev pub amending : ℕ
 amending = tableOf (λ a b c. orb (lessb a c) b)
 
