@@ -31,23 +31,23 @@ pub record Read (f : Form) (b : List ℕ) (outs ws : List (List ℕ)) : Type 0 w
 
 -- [D4, Y2, Y3, Y4, Y5, Y6, Y7, Y8, Y9, Y12, Y13, Y15] READING is accepted exactly if the bytes are a byte form and the outputs have room
 abbrev pub ReadExactly : Type 0
-ReadExactly = {f : Form} → OfThree f → (b : List ℕ) → Bytes b → (outs ws : List (List ℕ)) → Iff (readCall f b outs ≡ outcome (given []) ws) (Read f b outs ws)
+ReadExactly = (f : Form) → OfThree f → (b : List ℕ) → Bytes b → (outs ws : List (List ℕ)) → Iff (readCall f b outs ≡ outcome (given []) ws) (Read f b outs ws)
 
 -- [Y14, D9] and a form is told by all its bytes: bytes that are refused nowhere are the form of what was read, from the first record to
 -- the last
 abbrev pub WholeForm : Type 0
-WholeForm = {f : Form} → OfThree f → (b : List ℕ) → Bytes b → (outs ws : List (List ℕ)) → readCall f b outs ≡ outcome (given []) ws
+WholeForm = (f : Form) → OfThree f → (b : List ℕ) → Bytes b → (outs ws : List (List ℕ)) → readCall f b outs ≡ outcome (given []) ws
     → (r : Read f b outs ws) → b ≡ formOf f (r .runs)
 
 -- [D4, Y1] writing into enough bytes gives back the bytes read
 abbrev pub ReadWritten : Type 0
-ReadWritten = {f : Form} → OfThree f → (b : List ℕ) (outs ws : List (List ℕ)) (bytes : List ℕ) (p : ℕ) → Bytes b → length outs ≡ f .runs
+ReadWritten = (f : Form) → OfThree f → (b : List ℕ) (outs ws : List (List ℕ)) (bytes : List ℕ) (p : ℕ) → Bytes b → length outs ≡ f .runs
     → readCall f b outs ≡ outcome (given []) ws → p + length b ≤ length bytes
     → writeCall f ws bytes p ≡ outcome (given (length b ∷ [])) (patch p b bytes ∷ [])
 
 -- [D4, Y11] and reading what was written gives the same entries
 abbrev pub WrittenRead : Type 0
-WrittenRead = {f : Form} → OfThree f → (ws : List (List ℕ)) (bytes bytes′ : List ℕ) (outs : List (List ℕ)) (p n : ℕ) → length ws ≡ f .runs
+WrittenRead = (f : Form) → OfThree f → (ws : List (List ℕ)) (bytes bytes′ : List ℕ) (outs : List (List ℕ)) (p n : ℕ) → length ws ≡ f .runs
     → writeCall f ws bytes p ≡ outcome (given (n ∷ [])) (bytes′ ∷ []) → Clear (outRefusals (f .layout) (lengths outs) (lengths (heldIn (f .layout) ws)))
     → readCall f (take n (drop p bytes′)) outs ≡ outcome (given []) (storedIn outs (heldIn (f .layout) ws))
 
