@@ -256,12 +256,13 @@ pub fn read_item(bytes: &[u8], mark: u16, kind: u8, s: usize, first: bool, befor
         return ItemRead::Bad(h);
     }
     let item = item_here(bytes, s);
-    let told = is_told(bytes, 8 * s + 3, item_sums(kind, mark, item, s), mark);
-    let v = rest_verdict(told, in_order(item, first, before, s));
-    if v != 0 {
-        return ItemRead::Bad(v);
+    if is_told(bytes, 8 * s + 3, item_sums(kind, mark, item, s), mark) {
+        if in_order(item, first, before, s) {
+            return ItemRead::Good(item);
+        }
+        return ItemRead::Bad(12);
     }
-    ItemRead::Good(item)
+    ItemRead::Bad(11)
 }
 
 // The number of a start record's refusal, 0 for a good one.

@@ -1,6 +1,9 @@
-use mathlib.Core.Path.{_≡_}
-use Rattle.records.specs.Records.{itemVerdict}
-use Rattle.records.specs.Reads.{previous}
+use Prim.Native.Nat.{ℕ}
+use mathlib.Core.Bool.{Bool, true, false}
+use mathlib.Core.Path.{_≡_, refl, sym, _∙_}
+use Rattle.entries.specs.Build.{pick}
+use Rattle.records.specs.Records.{inOrder, itemVerdict}
+use Rattle.records.specs.Reads.{entryOf, previous}
 use Rattle.records.proofs.Items.{item-bad, item-good}
 use Rattle.records.proofs.Told.{item-judged}
 use borrow.Author.Needs.{needs}
@@ -23,26 +26,30 @@ is-told-requires c κs =
     let f = c .before .before .before in
     omega (arith, f .read-front .ensures .good (c .before .before .if1 .left) .long _ (f .before .before .pre .body))
 
--- the verdict on the record whose front is good
-judged : (k : tie.After-rest-verdict)
-    → (let a = k .before .before .before .before .before .before .before .before .args in
-    k .rest-verdict .result ≡ itemVerdict (a .mark) (a .kind) (a .s) (previous (a .first) (a .s) (a .before)) (a .bytes .now))
-judged k =
-    let f = k .before .before .before .before .before .before in
+-- the verdict on the record whose front is good, by the comparison of its check and the test of its content
+judged : (k : tie.After-is-told) (t u : Bool) (r : ℕ) → r ≡ pick t (pick u 0 12) 11 → k .is-told .result ≡ t
+    → (let a = k .before .before .before .before .before .before .args in
+    u ≡ inOrder (previous (a .first) (a .s) (a .before)) (entryOf (a .s) (k .before .before .item-here .result))
+    → r ≡ itemVerdict (a .mark) (a .kind) (a .s) (previous (a .first) (a .s) (a .before)) (a .bytes .now))
+judged k t u r v e w =
+    let f = k .before .before .before .before in
     let a = f .before .before .args in
-    item-judged _ _ _ (f .read-front .ensures .good (k .before .before .before .before .before .if1 .left))
-    (λ j. f .before .shared-slice-known .given j .fits) _ _ _ _ (k .rest-verdict .ensures) _
-    (previous (a .first) (a .s) (a .before)) _ (f .before .before .pre) (k .before .before .before .before .item-here .ensures)
-    (k .before .before .before .item-sums .ensures) (k .before .before .is-told .ensures) (k .before .in-order .ensures)
+    item-judged _ _ _ (f .read-front .ensures .good (k .before .before .before .if1 .left)) (λ j. f .before .shared-slice-known .given j .fits) _ t u r v _
+    (previous (a .first) (a .s) (a .before)) _ (f .before .before .pre) (k .before .before .item-here .ensures) (k .before .item-sums .ensures) (sym e ∙ k .is-told .ensures) w
 
 returns-2 : tie.Need-returns-2
-returns-2 c = item-bad _ _ _ (judged (c .before)) (c .if2 .taken)
+returns-2 c =
+    let k = c .before .before .before in
+    item-good 0 _ _ _ (judged k true true 0 refl (c .before .before .if2 .taken) (sym (c .if3 .taken) ∙ c .before .in-order .ensures)) refl (k .before .before .item-here .ensures)
 
 returns-3 : tie.Need-returns-3
-returns-3 c = item-good _ _ _ _ (judged (c .before)) (c .if2 .left) (c .before .before .before .before .before .item-here .ensures)
+returns-3 c = item-bad 12 _ _ (judged (c .before .before .before) true false 12 refl (c .before .before .if2 .taken) (sym (c .if3 .left) ∙ c .before .in-order .ensures)) (λ z. omega arith)
+
+returns-4 : tie.Need-returns-4
+returns-4 c = item-bad 11 _ _ (judged (c .before) false _ 11 refl (c .if2 .left) refl) (λ z. omega arith)
 
 pub read-item-spec : {M : Type 1} → statement M
 read-item-spec =
     tie.close
     (tie.spec (λ c κs. search needs) returns item-here-requires (λ c. search needs) (λ c. search needs) (λ c κs. search needs) is-told-requires
-    (λ c κs. search needs) (λ c κs. search needs) returns-2 returns-3)
+    (λ c κs. search needs) returns-2 returns-3 returns-4)
