@@ -23,9 +23,11 @@ use Rattle.verdicts.specs.declared.Form.{Form}
 use Rattle.verdicts.specs.Steps.{FormKind}
 use Rattle.verdicts.specs.Forms.{formEntries, formRefusals, outRefusals, ofSet, ofMap, ofBulletin, formOf, overlap, sizeOf}
 use Rattle.verdicts.proofs.Whole.{set-kind, map-kind, bulletin-kind, size}
-use Rattle.forms.specs.Calls.{storedIn, readCall, readSetCall, oneNumber, firstOf, memberOfFormCall, heldIn, inputs, blockRefusals, writeRefusals, writtenAt, writeCall, writeSetCall, writeMapCall, writeBulletinCall}
+use Rattle.forms.specs.Calls.{storedIn, readCall, readSetCall, oneNumber, firstOf, memberOfFormCall, heldIn, inputs, blockRefusals, writeRefusals, writtenAt}
+use Rattle.forms.specs.Calls.{writeCall, writeSetCall, writeMapCall, writeBulletinCall}
 use Rattle.forms.proofs.Forms.{accepted-formed, formed-accepted, read-written, written-read, held-fine, many-held}
-use Rattle.demands.specs.Bytes.{OfThree, of-set, of-map, of-bulletin, Read, ReadExactly, WholeForm, ReadWritten, WrittenRead, BytesKeep, HostQuestion, WriteSizes}
+use Rattle.demands.specs.Bytes.{OfThree, of-set, of-map, of-bulletin, Read, ReadExactly, WholeForm, ReadWritten, WrittenRead, BytesKeep, HostQuestion}
+use Rattle.demands.specs.Bytes.{WriteSizes}
 use Rattle.demands.proofs.Bytes.{read-keeps, write-keeps}
 
 kind-of : {f : Form} → OfThree f → FormKind f
@@ -92,7 +94,8 @@ host-question b x y = (given-by, refused-by)
         let r = was-read ofSet set-kind b y (out ∷ []) (w ∷ []) e in
         let a = formed-accepted ofSet set-kind b (r .runs) (r .form) in
         let k : w ≡ blockOf (length out) (firstOf (r .runs)) = only-run out w (r .runs) (r .form .many) (r .left) in
-        let i : entriesOf 2 w ≡ firstOf (r .runs) = ap (entriesOf 2) k ∙ entries-stored 2 (omega arith) (length out) (firstOf (r .runs)) (first-shaped (r .runs) (r .form .fine)) in
+        let i : entriesOf 2 w ≡ firstOf (r .runs) = ap (entriesOf 2) k
+        ∙ entries-stored 2 (omega arith) (length out) (firstOf (r .runs)) (first-shaped (r .runs) (r .form .fine)) in
         ap oneNumber (clear-turn (formRefusals ofSet b) [] (answer (formEntries ofSet b)) (a .0))
         ∙ one (member (firstOf (formEntries ofSet b)) x)
         ∙ ap (λ (es : List Entry). pick (member es x) 1 0) (ap firstOf (a .1) ∙ sym i)

@@ -62,7 +62,7 @@ fn fill_run(bytes: &[u8], kind: u8, s: usize, n: usize, out: &mut [u64])
 }
 
 // [G4] Writes the n items whose words begin at the front of words as item records, at the front of the bytes.
-pub fn write_run(words: &[u64], s: usize, n: usize, mark: u16, kind: u8, bytes: &mut [u8])
+fn write_records(words: &[u64], s: usize, n: usize, mark: u16, kind: u8, bytes: &mut [u8])
     requires { ⌜ Fills s n (now bytes) (now words) ⌝ }
     ensures { λ _. ⌜ now (bytes .exit) ≡ over (runOf mark kind (itemsOf s n (now (words .entry)))) (now (bytes .entry)) ⌝ }
 {
@@ -75,6 +75,18 @@ pub fn write_run(words: &[u64], s: usize, n: usize, mark: u16, kind: u8, bytes: 
         w += s;
         left -= 1;
     }
+}
+
+// The same, with the words of a range told apart: where every item has two, the compiler knows how many bytes a record has.
+pub fn write_run(words: &[u64], s: usize, n: usize, mark: u16, kind: u8, bytes: &mut [u8])
+    requires { ⌜ Fills s n (now bytes) (now words) ⌝ }
+    ensures { λ _. ⌜ now (bytes .exit) ≡ over (runOf mark kind (itemsOf s n (now (words .entry)))) (now (bytes .entry)) ⌝ }
+{
+    if s == 2 {
+        write_records(words, 2, n, mark, kind, bytes);
+        return;
+    }
+    write_records(words, s, n, mark, kind, bytes);
 }
 
 // Writes word 0.

@@ -1,58 +1,45 @@
--- Invariant: writing the items left, whose words begin at w, at q gives the whole. Measure: the items left.
-use Prim.Native.Nat.{_+_, _-_, _*_, _≤_}
-use mathlib.Core.Path.{_≡_, sym, _∙_}
-use lib.ListN.{length, drop, length-take, length-drop}
-use borrow.Rule.Slice.PartMut.{same-len-mid}
+use denote.Ref.{now}
+use mathlib.Core.Path.{sym, _∙_, ap, subst}
+use Prim.Native.Nat.{ℕ}
 use Rattle.blocks.specs.Blocks.{itemsOf}
-use Rattle.blocks.proofs.Tests.{less-one}
-use Rattle.numbers.specs.Numbers.{patch}
+use Rattle.numbers.specs.Numbers.{over}
 use Rattle.runs.specs.Runs.{runOf}
-use Rattle.runs.proofs.Turns.{write-turn, write-end}
+use Rattle.runs.specs.Steps.{Fills}
 use borrow.Author.Needs.{needs}
-use native.Mathlib.Omega.{arith}
 use Rattle.runs.proofs.write_run.Statement.{statement}
 use Rattle.runs.proofs.write_run.Tie as tie
 
-abbrev Inv-loop : tie.InvT-loop
-Inv-loop words s n mark kind bytes₀ left₀ q₀ w₀ bytes left q w = (w + s * left ≤ length words) × (q + (8 * s + 5) * left ≤ length bytes) ×
-    (length bytes ≡ length bytes₀) × (patch 0 (runOf mark kind (itemsOf s n words)) bytes₀ ≡ patch q (runOf mark kind (itemsOf s left (drop w words))) bytes)
+write-records-requires : tie.Need-write-records-requires
+write-records-requires c κs =
+    let start = c .before .before .before .before in
+    subst (λ (s : ℕ). Fills s (start .args .n) (now (start .args .bytes)) (now (start .args .words))) (c .before .if1 .taken) (start .pre)
 
-abbrev μ-loop : tie.MeasureT-loop
-μ-loop words s n mark kind bytes₀ left₀ q₀ w₀ bytes left q w = left
+same-length : tie.Need-same-length
+same-length c = search needs
 
-part-write-item-end-2 : tie.Need-part-write-item-end-2 Inv-loop μ-loop
-part-write-item-end-2 c = omega (arith, less-one (c .before .before .before .before .before .args .s) (c .before .before .loop .left) (omega arith))
+returns : tie.Need-returns
+returns c =
+    let start = c .before .before .before .before .before .before .before in
+    c .before .before .write-records .ensures
+    ∙ ap (λ (s : ℕ). over (runOf (start .args .mark) (start .args .kind) (itemsOf s (start .args .n) (now (start .args .words)))) (now (start .args .bytes)))
+    (sym (c .before .before .before .before .if1 .taken))
 
-write-item-requires : tie.Need-write-item-requires Inv-loop μ-loop
-write-item-requires c κs = let l = c .before .before .before in
-    let a = c .before .before .before .before .before .before .args in
-    let k = less-one (a .s) (l .loop .left) (omega arith) in
-    let m = less-one (8 * a .s + 5) (l .loop .left) (omega arith) in
-    (simp (length-take, length-drop) (omega arith), simp (length-take, length-drop) (omega arith))
+write-records-requires-2 : tie.Need-write-records-requires-2
+write-records-requires-2 c κs = search needs
 
-loop-again : tie.Need-loop-again Inv-loop μ-loop
-loop-again c =
-    let c9 = c .before .before .before .before .before .before .before .before .before in
-    let r = c .before .before in
-    let l = c .before .before .before .before .before .before in
-    let a = c9 .args in
-    let k = less-one (a .s) (l .loop .left) (omega arith) in
-    let m = less-one (8 * a .s + 5) (l .loop .left) (omega arith) in
-    let e = same-len-mid (l .loop .q) (length (l .loop .bytes) - l .loop .q) (l .loop .bytes) (r .write-item .last .0) (r .write-item .kept .0) in (
-      omega arith,
-      omega (arith, e),
-      omega (arith, e),
-      write-turn (a .mark) (a .kind) (a .s) (a .words .now) (c9 .pre .two) (l .loop .bytes) _ _ (l .loop .w)
-          (l .loop .q) (l .loop .left) (omega arith) (omega arith) (omega arith) (l .loop .inv .3) (r .write-item .ensures),
-    )
+same-length-2 : tie.Need-same-length-2
+same-length-2 c = search needs
 
-returns : tie.Need-returns Inv-loop μ-loop
-returns c = let l = c .before in let a = c .before .before .before .before .args in sym (l .loop .inv .3 ∙ write-end (a .mark) (a .kind) (a .s)
-    (l .loop .left) (l .loop .q) _ (l .loop .bytes) (omega arith))
+returns-2 : tie.Need-returns-2
+returns-2 c = search needs
 
 pub write-run-spec : {M : Type 1} → statement M
 write-run-spec =
     tie.close
-    (tie.spec Inv-loop μ-loop (λ c. search needs) (λ c. search needs) (λ c. search needs) (λ c. search needs) (λ c. search needs) (λ c. search needs)
-    (λ c. search needs) (λ c. search needs) part-write-item-end-2 write-item-requires (λ c. search needs) (λ c. search needs) (λ c. search needs)
-    (λ c. search needs) (λ c. search needs) (λ c. search needs) loop-again (λ c. search needs) returns)
+    (tie.spec
+    write-records-requires
+    same-length
+    returns
+    write-records-requires-2
+    same-length-2
+    returns-2)
