@@ -109,7 +109,7 @@ fn follows(block: &[u64], s: usize, p: usize) -> bool
 }
 
 // Whether the n items of s words are sound: each in order, and each may stand after the one before it.
-fn all_sound(block: &[u64], s: usize, n: usize) -> bool
+fn items_sound(block: &[u64], s: usize, n: usize) -> bool
     requires { ⌜ Held s n (now block) ⌝ }
     ensures { λ r. ⌜ r ≡ soundb (itemsOf s n (drop 1 (now (block .entry)))) ⌝ }
 {
@@ -128,6 +128,17 @@ fn all_sound(block: &[u64], s: usize, n: usize) -> bool
     }
     let low = word(block, p);
     low <= word(block, p + 1)
+}
+
+// The same, with the words of a range told apart: where every item has two, the compiler knows how far it is to the next.
+fn all_sound(block: &[u64], s: usize, n: usize) -> bool
+    requires { ⌜ Held s n (now block) ⌝ }
+    ensures { λ r. ⌜ r ≡ soundb (itemsOf s n (drop 1 (now (block .entry)))) ⌝ }
+{
+    if s == 2 {
+        return items_sound(block, 2, n);
+    }
+    items_sound(block, s, n)
 }
 
 // The judge of any words lent as a block: 0 where they are a sound block of the layout, else the number of the refusal, 1, 2 or 3.

@@ -46,7 +46,7 @@ pub fn judge_run(bytes: &[u8], from: usize, mark: u16, kind: u8, s: usize, n: us
 }
 
 // Fills the front of out with the words of the n item records at the front of the bytes.
-fn fill_run(bytes: &[u8], kind: u8, s: usize, n: usize, out: &mut [u64])
+fn fill_records(bytes: &[u8], kind: u8, s: usize, n: usize, out: &mut [u64])
     requires { ⌜ Fills s n (now bytes) (now out) ⌝ }
     ensures { λ _. ⌜ now (out .exit) ≡ over (wordsOf (entriesIn kind s n (now (bytes .entry)))) (now (out .entry)) ⌝ }
 {
@@ -59,6 +59,18 @@ fn fill_run(bytes: &[u8], kind: u8, s: usize, n: usize, out: &mut [u64])
         w += s;
         left -= 1;
     }
+}
+
+// The same, with the words of a range told apart, as in `write_run`.
+fn fill_run(bytes: &[u8], kind: u8, s: usize, n: usize, out: &mut [u64])
+    requires { ⌜ Fills s n (now bytes) (now out) ⌝ }
+    ensures { λ _. ⌜ now (out .exit) ≡ over (wordsOf (entriesIn kind s n (now (bytes .entry)))) (now (out .entry)) ⌝ }
+{
+    if s == 2 {
+        fill_records(bytes, kind, 2, n, out);
+        return;
+    }
+    fill_records(bytes, kind, s, n, out);
 }
 
 // [G4] Writes the n items whose words begin at the front of words as item records, at the front of the bytes.
