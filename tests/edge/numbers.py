@@ -48,9 +48,9 @@ def sizes_due():
         sys.exit("numbers.py: capacity is no longer defined as the header says")
     body = {int(kind, 16): int(size) for kind, size in re.findall(r"\(eqb kind (0x\w\w)\) \(some (\d+)\)", records)}
     record = {kind: 5 + size for kind, size in body.items()}  # the mark, the kind and the check are five bytes
-    set_form = only(r"^pub set-size :.* length b ≡ (\d+) \+ (\d+) \* length \(", laws)
-    map_form = only(r"^pub map-size :.* length b ≡ (\d+) \+ (\d+) \* length \(", laws)
-    bulletin = only(r"^pub bulletin-size :.* length b ≡ (\d+) \+ (\d+) \* \(length \(.*\) \+ length \(", laws)
+    set_form = only(r"^pub set-size :[^∷]*? length b ≡ (\d+) \+ (\d+) \* total \(", laws)
+    map_form = only(r"^pub map-size :[^∷]*? length b ≡ (\d+) \+ (\d+) \* total \(", laws)
+    bulletin = only(r"^pub bulletin-size :[^∷]*? length b ≡ (\d+) \+ (\d+) \* total \(", laws)
     expect("the records of the laws", [*set_form, *map_form, *bulletin], [record[k] for k in (0x01, 0x10, 0x02, 0x11, 0x03, 0x12)])
     expect("released and withdrawn ranges", record[0x12], record[0x13])
     return {

@@ -50,7 +50,7 @@ pub fold-keeps : (r₁ w₁ r₂ w₂ outR outW : List ℕ) → Keeps (outR ∷ 
 unfolding foldCall
 fold-keeps r₁ w₁ r₂ w₂ outR outW = turn-keeps (foldRefusals r₁ w₁ r₂ w₂ (length outR) (length outW)) (outR ∷ outW ∷ []) _ tt
 
-overlap-apart : (r w : List Entry) → overlapping r w ≡ 0 → Apart r w
+pub overlap-apart : (r w : List Entry) → overlapping r w ≡ 0 → Apart r w
 unfolding shareb
 overlap-apart r w e = disjoint-means r w (go (intersection r w) e)
   where
@@ -58,7 +58,7 @@ overlap-apart r w e = disjoint-means r w (go (intersection r w) e)
     go [] e = refl
     go (x ∷ es) e = absurd (let z : 14 ≡ 0 = rw (lt-ltb 0 (length (x ∷ es)) (omega arith)) at e in omega arith)
 
-apart-overlap : (r w : List Entry) → Apart r w → overlapping r w ≡ 0
+pub apart-overlap : (r w : List Entry) → Apart r w → overlapping r w ≡ 0
 unfolding shareb
 apart-overlap r w h = go (intersection r w) (means-disjoint r w h)
   where

@@ -30,25 +30,25 @@ use Rattle.demands.proofs.Maps.{assign-means, erase-means}
 use Rattle.demands.proofs.Changes.{edit-accepted}
 
 -- a test gives its own number and no other
-another : (t : Bool) (n m : ℕ) → (n ≡ m → ⊥) → (0 ≡ m → ⊥) → applies t n ≡ m → ⊥
+pub another : (t : Bool) (n m : ℕ) → (n ≡ m → ⊥) → (0 ≡ m → ⊥) → applies t n ≡ m → ⊥
 another true n m p q e = p e
 another false n m p q e = q e
 
 -- room is refused exactly where the result does not fit
-no-room : (l : Layout) (L : ℕ) (es : List Entry) → capacity l L < length es → noRoom l L es ≡ 5
+pub no-room : (l : Layout) (L : ℕ) (es : List Entry) → capacity l L < length es → noRoom l L es ≡ 5
 no-room l L es h = rw (lt-ltb (capacity l L) (length es) h)
 
-room-not : (l : Layout) (L : ℕ) (es : List Entry) → (noRoom l L es ≡ 0 → ⊥) → capacity l L < length es
+pub room-not : (l : Layout) (L : ℕ) (es : List Entry) → (noRoom l L es ≡ 0 → ⊥) → capacity l L < length es
 room-not l L es n = go (ltb (capacity l L) (length es)) refl n
   where
     go : (t : Bool) → ltb (capacity l L) (length es) ≡ t → (applies t 5 ≡ 0 → ⊥) → capacity l L < length es
     go true e n = ltb-true (capacity l L) (length es) e
     go false e n = absurd (n refl)
 
-verdict-not : (l : Layout) (w : List ℕ) → verdict l w ≡ 5 → ⊥
+pub verdict-not : (l : Layout) (w : List ℕ) → verdict l w ≡ 5 → ⊥
 verdict-not l w e = omega (arith, verdict-most l w)
 
-words-some : (words : ℕ) → 0 < words → noBlock words ≡ 0
+pub words-some : (words : ℕ) → 0 < words → noBlock words ≡ 0
 words-some words h = let n : words ≡ 0 → ⊥ = λ z. omega arith in rw (ne-eqb words 0 n)
 
 pub edit-room : EditRoom

@@ -12,4 +12,5 @@ pub mod Stored
 pub mod Bulletins
 pub mod Bytes
 pub mod Forms
+pub mod Folding
 pub mod Table

@@ -4,3 +4,4 @@ pub mod Changes
 pub mod Fits
 pub mod Stored
 pub mod Bytes
+pub mod Bulletins
