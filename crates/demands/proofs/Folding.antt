@@ -19,7 +19,8 @@ use Rattle.bulletins.specs.Calls.{amendedWith, applyRefusals, applyCall}
 use Rattle.demands.specs.Plain.{Iff, SoundSet}
 use Rattle.demands.specs.Bulletins.{NoCommon, Apply, Fold, FoldIsOne, FoldApplies, FoldGroups, EitherOrder, ApplyRoom}
 use Rattle.demands.proofs.Exactly.{another, no-room, room-not, verdict-not, words-some}
-use Rattle.demands.proofs.Bulletins.{apply-means, fold-released, fold-withdrawn, fold-bulletin, fold-applies, fold-groups, fold-either-order, overlap-apart, apart-overlap}
+use Rattle.demands.proofs.Bulletins.{apply-means, fold-released, fold-withdrawn, fold-bulletin, fold-applies, fold-groups, fold-either-order}
+use Rattle.demands.proofs.Bulletins.{overlap-apart, apart-overlap}
 
 pub apply-leaves : Apply
 apply-leaves = apply-means
@@ -64,9 +65,14 @@ apply-room list released withdrawn out = record { to = to; from = from }
         → SoundSet list × SoundSet released × SoundSet withdrawn × (0 < length out) × NoCommon released withdrawn
         × (capacity setLayout (length out) < length es)
     to e =
-        let k = refused-only fs (out ∷ []) [] _ 5 3 5 (out ∷ []) only e in
-        (k .before 0 (omega arith), k .before 1 (omega arith), k .before 2 (omega arith), some-words (length out) (k .before 3 (omega arith)),
-         overlap-apart (entriesOf 2 released) (entriesOf 2 withdrawn) (k .before 4 (omega arith)), room-not setLayout (length out) es (k .here))
+        let k = refused-only fs (out ∷ []) [] _ 5 3 5 (out ∷ []) only e in (
+          k .before 0 (omega arith),
+          k .before 1 (omega arith),
+          k .before 2 (omega arith),
+          some-words (length out) (k .before 3 (omega arith)),
+          overlap-apart (entriesOf 2 released) (entriesOf 2 withdrawn) (k .before 4 (omega arith)),
+          room-not setLayout (length out) es (k .here),
+        )
 
     from : SoundSet list × SoundSet released × SoundSet withdrawn × (0 < length out) × NoCommon released withdrawn
         × (capacity setLayout (length out) < length es) → applyCall list released withdrawn out ≡ refuse 5 3 (out ∷ [])

@@ -35,15 +35,18 @@ judged k t u r v e w =
     let f = k .before .before .before .before in
     let a = f .before .before .args in
     item-judged _ _ _ (f .read-front .ensures .good (k .before .before .before .if1 .left)) (λ j. f .before .shared-slice-known .given j .fits) _ t u r v _
-    (previous (a .first) (a .s) (a .before)) _ (f .before .before .pre) (k .before .before .item-here .ensures) (k .before .item-sums .ensures) (sym e ∙ k .is-told .ensures) w
+    (previous (a .first) (a .s) (a .before)) _ (f .before .before .pre) (k .before .before .item-here .ensures) (k .before .item-sums .ensures)
+    (sym e ∙ k .is-told .ensures) w
 
 returns-2 : tie.Need-returns-2
 returns-2 c =
     let k = c .before .before .before in
-    item-good 0 _ _ _ (judged k true true 0 refl (c .before .before .if2 .taken) (sym (c .if3 .taken) ∙ c .before .in-order .ensures)) refl (k .before .before .item-here .ensures)
+    item-good 0 _ _ _ (judged k true true 0 refl (c .before .before .if2 .taken) (sym (c .if3 .taken) ∙ c .before .in-order .ensures)) refl
+    (k .before .before .item-here .ensures)
 
 returns-3 : tie.Need-returns-3
-returns-3 c = item-bad 12 _ _ (judged (c .before .before .before) true false 12 refl (c .before .before .if2 .taken) (sym (c .if3 .left) ∙ c .before .in-order .ensures)) (λ z. omega arith)
+returns-3 c = item-bad 12 _ _ (judged (c .before .before .before) true false 12 refl (c .before .before .if2 .taken)
+    (sym (c .if3 .left) ∙ c .before .in-order .ensures)) (λ z. omega arith)
 
 returns-4 : tie.Need-returns-4
 returns-4 c = item-bad 11 _ _ (judged (c .before) false _ 11 refl (c .if2 .left) refl) (λ z. omega arith)
