@@ -96,7 +96,7 @@ fn main() {
     no_input(&empty, &mut block);
     no_block(&empty, &mut block);
     range_check(b"O check of 0..0: ", 0, 0);
-    range_check(b"O check of 0..M: ", 0, 18446744073709551615);
+    range_check(b"O check of 0..M: ", 0, blocks::M);
     published(b"abcde: ", b"abcde");
     published(b"abcdef: ", b"abcdef");
     published(b"abcdefgh: ", b"abcdefgh");

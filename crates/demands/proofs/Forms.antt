@@ -10,7 +10,7 @@ use native.Mathlib.Omega.{arith}
 use lib.ListN.{length, getD, drop}
 use Rattle.entries.specs.Build.{pick}
 use Rattle.entries.specs.Sets.{member}
-use Rattle.blocks.specs.Blocks.{entriesOf, blockOf}
+use Rattle.blocks.specs.Blocks.{entriesOf, blockOf, setLayout}
 use Rattle.demands.specs.Plain.{In, leaves}
 use Rattle.answers.proofs.Turns.{turn-accepted, clear-turn, refused≢given}
 use Rattle.runs.proofs.Running.{clear-split, clear-join}
@@ -100,7 +100,7 @@ host-question b x y = (given-by, refused-by)
         ∙ one (member (firstOf (formEntries ofSet b)) x)
         ∙ ap (λ (es : List Entry). pick (member es x) 1 0) (ap firstOf (a .1) ∙ sym i)
       where
-        first-shaped : (runs : List (List Entry)) → Each (Fine 2 4095) runs → Shaped 2 (firstOf runs)
+        first-shaped : (runs : List (List Entry)) → Each (Fine 2 (setLayout .limit)) runs → Shaped 2 (firstOf runs)
         first-shaped [] f = tt
         first-shaped (es ∷ runs) f = f .0 .shaped
 

@@ -1,6 +1,7 @@
 -- Published and worked checks, by computing the definition: for the mark of 01.
 use mathlib.Core.List.{[], _∷_}
 use mathlib.Core.Path.{_≡_, refl}
+use Rattle.entries.specs.Sets.{M}
 use Rattle.numbers.specs.Numbers.{wordBytes}
 use Rattle.numbers.specs.Check.{fletcher, checkOf}
 
@@ -10,6 +11,6 @@ unfolding checkOf fletcher
 abcde = refl
 
 -- case O: «range records for 0..0 and for 0..M both have check 11 10»
-both : checkOf 0xC53A (0x10 ∷ wordBytes (0 ∷ 0 ∷ [])) ∷ checkOf 0xC53A (0x10 ∷ wordBytes (0 ∷ 18446744073709551615 ∷ [])) ∷ [] ≡ 0x1110 ∷ 0x1110 ∷ []
+both : checkOf 0xC53A (0x10 ∷ wordBytes (0 ∷ 0 ∷ [])) ∷ checkOf 0xC53A (0x10 ∷ wordBytes (0 ∷ M ∷ [])) ∷ [] ≡ 0x1110 ∷ 0x1110 ∷ []
 unfolding checkOf fletcher
 both = refl
