@@ -25,9 +25,9 @@ MACHINES = {"x86_64": "x86-64", "aarch64": "64-bit Arm"}
 RETURN_ADDRESS = {"x86_64": 8, "aarch64": 0}
 NEEDED = ["memset"]
 # No more than this, in bytes: near what is measured, so that growth is noticed.
-MOST_CODE = {"x86_64": 27500, "aarch64": 26000}
-MOST_CONSTANTS = {"x86_64": 600, "aarch64": 450}
-MOST_STACK = {"x86_64": 640, "aarch64": 512}
+MOST_CODE = {"x86_64": 23500, "aarch64": 20200}
+MOST_CONSTANTS = {"x86_64": 450, "aarch64": 720}
+MOST_STACK = {"x86_64": 700, "aarch64": 592}
 # The calls of README.md's table.
 SHOWN = ["member", "set_member", "set_insert", "set_union", "map_site_over_factory", "set_reserve_best", "bulletin_apply", "set_read"]
 
