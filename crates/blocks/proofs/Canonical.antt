@@ -12,8 +12,8 @@ use Rattle.entries.proofs.Canon.{none≢some}
 use Rattle.entries.proofs.Sides.{Side, under, inside, past, side, val-in, val-under, val-past, none-upto}
 use Rattle.entries.specs.Sets.{Plain}
 use Rattle.blocks.specs.declared.Layout.{Layout}
-use Rattle.blocks.specs.Blocks.{entriesOf, wordsOf, blockOf, capacity, verdict, SoundBlock}
-use Rattle.blocks.proofs.Words.{Shaped, words-length, items-length, read-back, write-back}
+use Rattle.blocks.specs.Blocks.{entriesOf, wordsOf, blockOf, capacity, verdict, SoundBlock, Shaped}
+use Rattle.blocks.proofs.Words.{words-length, items-length, read-back, write-back}
 use Rattle.blocks.proofs.Moves.{zeros, block-path}
 use Rattle.blocks.proofs.Judging.{room-words, sound-verdict}
 

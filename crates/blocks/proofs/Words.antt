@@ -7,12 +7,7 @@ use native.Mathlib.Nat.{mul-suc}
 use lib.ListN.{length, getD, take, drop, length-append, length-take, length-drop}
 use lib.Seq.{take-add, drop-drop, take-at, drop-at}
 use Rattle.entries.specs.Entries.{Entry, entry}
-use Rattle.blocks.specs.Blocks.{itemOf, itemsOf, wordsOf}
-
--- every value has s - 2 words
-abbrev pub Shaped : ℕ → List Entry → Type 0
-Shaped s [] = Unit {0}
-Shaped s (e ∷ es) = (2 + length (e .value) ≡ s) × Shaped s es
+use Rattle.blocks.specs.Blocks.{itemOf, itemsOf, wordsOf, Shaped}
 
 pub words-append : (a b : List Entry) → wordsOf (a ++ b) ≡ wordsOf a ++ wordsOf b
 words-append [] b = refl

@@ -1,11 +1,12 @@
 -- Blocks of words: the entries that they say, the words of entries, capacity, and the judge's verdict.
 -- An item has s words: low, high, and s - 2 words of value. Sets have s = 2, maps s = 3.
+use mathlib.Core.Path.{_≡_}
 use mathlib.Core.Bool.{Bool, true, not}
 use mathlib.Core.List.{List, [], _∷_, _++_}
 use Prim.Native.Nat.{ℕ, zero, suc, _+_, _-_, _/_, _≤_, _<_, min}
 use lib.Dec.{leb, ltb, eqb}
 use lib.ListN.{length, getD, take, drop, replicate}
-use Rattle.entries.specs.Entries.{Entry, entry, Sound}
+use Rattle.entries.specs.Entries.{Each, Entry, entry, Sound}
 use Rattle.entries.specs.Sets.{pastM}
 use Rattle.entries.specs.Build.{pick, andb, sameWords}
 use Rattle.blocks.specs.declared.Layout.{Layout}
@@ -44,6 +45,10 @@ entriesOf s w = itemsOf s (getD w 0 0) (drop 1 w)
 abbrev pub wordsOf : List Entry → List ℕ
 wordsOf [] = []
 wordsOf (e ∷ es) = e .low ∷ e .high ∷ (e .value ++ wordsOf es)
+
+-- items of s words: every value has s - 2
+abbrev pub Shaped : ℕ → List Entry → Type 0
+Shaped s = Each (λ e. 2 + length (e .value) ≡ s)
 
 -- [B7, B8] The block of L words that says es: the stored form is word 0 and the items, and every later word is 0.
 unfoldable pub blockOf : ℕ → List Entry → List ℕ

@@ -12,10 +12,10 @@ use borrow.Author.Tests.{lt-ltb}
 use Rattle.entries.specs.Entries.{Entry}
 use Rattle.entries.specs.Sets.{M, pastM, has, member, intersection}
 use Rattle.entries.specs.Questions.{isEmpty}
-use Rattle.entries.specs.Bulletins.{amended, shareb}
+use Rattle.entries.specs.Bulletins.{amended, amend, Apart, shareb}
 use Rattle.entries.proofs.Values.{true≢false}
 use Rattle.entries.proofs.Plain.{set-canonical}
-use Rattle.entries.proofs.Bulletins.{amend, Apart, apart-sym, amended-is, amended-amended, amended-apart, amended-swap, effect-released, effect-withdrawn}
+use Rattle.entries.proofs.Bulletins.{apart-sym, amended-is, amended-amended, amended-apart, amended-swap, effect-released, effect-withdrawn}
 use Rattle.answers.specs.Answers.{given, Outcome, outcome, applies, Keeps, Clear}
 use Rattle.blocks.specs.Blocks.{setLayout, entriesOf, blockOf, verdict, Lent}
 use Rattle.blocks.specs.Calls.{noBlock, noRoom}

@@ -8,13 +8,12 @@ use lib.ListN.{length, take, drop}
 use Rattle.entries.specs.Entries.{Entry}
 use Rattle.answers.specs.Answers.{given, outcome, Keeps, Clear}
 use Rattle.answers.proofs.Turns.{turn-keeps}
-use Rattle.blocks.specs.Blocks.{setLayout, mapLayout, capacity, entriesOf, blockOf}
-use Rattle.blocks.proofs.Words.{Shaped}
+use Rattle.blocks.specs.Blocks.{setLayout, mapLayout, capacity, entriesOf, blockOf, Shaped}
 use Rattle.numbers.specs.Numbers.{Bytes, patch}
 use Rattle.runs.specs.Runs.{total, lengths}
 use Rattle.verdicts.specs.declared.Form.{Form}
-use Rattle.verdicts.specs.Forms.{ofSet, ofMap, ofBulletin, formOf, setForm, mapForm, bulletinForm, formEntries, formRefusals, outRefusals}
-use Rattle.verdicts.proofs.Whole.{Formed, set-kind, map-kind, bulletin-kind}
+use Rattle.verdicts.specs.Forms.{ofSet, ofMap, ofBulletin, formOf, setForm, mapForm, bulletinForm, formEntries, formRefusals, outRefusals, Formed}
+use Rattle.verdicts.proofs.Whole.{set-kind, map-kind, bulletin-kind}
 use Rattle.forms.specs.Calls.{storedIn, readCall, readSetCall, readMapCall, readBulletinCall, heldIn, writeRefusals, writtenAt}
 use Rattle.forms.specs.Calls.{writeCall, writeSetCall, writeMapCall, writeBulletinCall}
 use Rattle.forms.proofs.Forms as every-form

@@ -2,7 +2,7 @@
 use mathlib.Core.Path.{_≡_, sym, _∙_, ap, subst, refl}
 use mathlib.Core.List.{List, [], _∷_, _++_}
 use Prim.Native.Nat.{ℕ, _+_, zero, suc, _*_}
-use Rattle.entries.specs.Entries.{Entry}
+use Rattle.entries.specs.Entries.{Entry, Each}
 use Rattle.answers.specs.declared.Finding.{Finding}
 use Rattle.answers.specs.Answers.{given, outcome, Clear, Outcome, refuse, truth, judged, inTurn}
 use mathlib.Core.Bool.{Bool, true, false}
@@ -10,15 +10,15 @@ use native.Mathlib.Omega.{arith}
 use lib.ListN.{length, getD, drop}
 use Rattle.entries.specs.Build.{pick}
 use Rattle.entries.specs.Sets.{member}
-use Rattle.blocks.specs.Blocks.{entriesOf, blockOf, setLayout}
+use Rattle.blocks.specs.Blocks.{entriesOf, blockOf, setLayout, Shaped}
 use Rattle.demands.specs.Plain.{In, leaves}
 use Rattle.answers.proofs.Turns.{turn-accepted, clear-turn, refused≢given}
 use Rattle.runs.proofs.Running.{clear-split, clear-join}
-use Rattle.runs.proofs.Several.{Each, Fine, shapes}
-use Rattle.blocks.proofs.Words.{Shaped, items-length}
+use Rattle.runs.proofs.Several.{shapes}
+use Rattle.blocks.proofs.Words.{items-length}
 use Rattle.blocks.proofs.Canonical.{entries-stored}
 use Rattle.numbers.specs.Numbers.{Bytes, patch}
-use Rattle.runs.specs.Runs.{lengths}
+use Rattle.runs.specs.Runs.{lengths, Fine}
 use Rattle.verdicts.specs.declared.Form.{Form}
 use Rattle.verdicts.specs.Steps.{FormKind}
 use Rattle.verdicts.specs.Forms.{formEntries, formRefusals, outRefusals, ofSet, ofMap, ofBulletin, formOf, overlap, sizeOf}

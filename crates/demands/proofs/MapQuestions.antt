@@ -13,14 +13,14 @@ use Rattle.entries.specs.Build.{pick}
 use Rattle.entries.specs.Sets.{has}
 use Rattle.entries.specs.Questions.{meeting, whollyBelow}
 use Rattle.entries.proofs.Values.{true≢false}
-use Rattle.entries.proofs.Sides.{Side, under, inside, past, side, val-in, val-past, none-under, none-upto}
+use Rattle.entries.proofs.Windows.{one-meets}
 use Rattle.answers.specs.Answers.{given, Outcome, outcome, handed}
 use Rattle.answers.proofs.Turns.{clear-turn}
 use Rattle.blocks.specs.Blocks.{mapLayout}
 use Rattle.blocks.specs.Calls.{input}
 use Rattle.blocks.proofs.Judging.{verdict-sound, room-words}
 use Rattle.searches.specs.Parts.{part, noPart, wordsAt}
-use Rattle.searches.specs.Calls.{windowPart, windowRefusals, windowCall, entryPart}
+use Rattle.searches.specs.Calls.{windowPart, windowRefusals, windowCall}
 use Rattle.maps.specs.declared.Deciding.{Deciding}
 use Rattle.maps.specs.Calls.{mapEntries, worth, lookUpCall, mapWindowCall, partIn, deciding, siteRefusals, siteOverFactoryCall, wordsOfTwo}
 use Rattle.demands.specs.Plain.{SoundMap, InEntry, ValueOf, answers}
@@ -103,40 +103,12 @@ look-up-means w x s = (
 pub map-window-means : MapWindow
 map-window-means w a b s order = window-means mapLayout (omega arith) w a b s order
 
--- THE DECIDING ENTRY is the window x..x: one entry where x has a value, and else none
-meets : (e : Entry) (es : List Entry) (x : ℕ) → Sound (e ∷ es) → Side e x → length (meeting x x es) ≡ pick (has (valueAt es x)) 1 0
-    → length (meeting x x (e ∷ es)) ≡ pick (has (valueAt (e ∷ es) x)) 1 0
-meets e es x s (under h) ih =
-    let l : length (meeting x x (e ∷ es)) ≡ length (meeting x x es) = rw (lt-leb (e .low) x h) refl in
-    l ∙ ih ∙ ap (λ (o : Option Value). pick (has o) 1 0) (none-upto e es (s .1) (s .2) x (omega (arith, s .0)) ∙ sym (none-under e es s x h))
-meets e es x s (inside h k) ih =
-    let l : length (meeting x x (e ∷ es)) ≡ suc (length (meeting x x es)) = rw (le-leb (e .low) x h, le-leb x (e .high) k) refl in
-    l ∙ ap suc (ih ∙ ap (λ (o : Option Value). pick (has o) 1 0) (none-upto e es (s .1) (s .2) x k))
-    ∙ sym (ap (λ (o : Option Value). pick (has o) 1 0) (val-in e es x h k))
-meets e es x s (past h) ih =
-    let l : length (meeting x x (e ∷ es)) ≡ length (meeting x x es) = rw (le-leb (e .low) x (omega (arith, s .0)), lt-leb x (e .high) h) refl in
-    l ∙ ih ∙ sym (ap (λ (o : Option Value). pick (has o) 1 0) (val-past e es x h))
-
-count-here : (es : List Entry) (x : ℕ) → Sound es → length (meeting x x es) ≡ pick (has (valueAt es x)) 1 0
-count-here [] x s = refl
-count-here (e ∷ es) x s = meets e es x s (side e x) (count-here es x (s .2))
-
-entry-window : (w : List ℕ) (x : ℕ) → SoundMap w → wordsAt w (entryPart (mapLayout .width) w x) ≡ wordsAt w (mapWindowCall w x x)
-unfolding windowCall entryPart
+-- THE DECIDING ENTRY: its part is the window's that the call of that name hands back
+entry-window : (w : List ℕ) (x : ℕ) → SoundMap w → windowPart (mapLayout .width) w x x ≡ mapWindowCall w x x
+unfolding windowCall
 entry-window w x s =
-    go (has (ValueOf w x)) (length (meeting x x es)) (count-here es x (verdict-sound mapLayout w s .sound))
-    ∙ sym (ap (λ (o : Outcome). wordsAt w (handed o (windowPart (mapLayout .width) w x x) noPart))
+    sym (ap (λ (o : Outcome). handed o (windowPart (mapLayout .width) w x x) noPart)
     (clear-turn (windowRefusals mapLayout w x x) [] (outcome (given []) []) (s, (rw (le-ltb x x (omega arith)), tt))))
-  where
-    es : List Entry
-    es = mapEntries w
-
-    below : ℕ
-    below = length (whollyBelow x es)
-
-    go : (t : Bool) (n : ℕ) → n ≡ pick t 1 0 → wordsAt w (pick t (part (1 + 3 * below) 3) noPart) ≡ take (3 * n) (drop (1 + 3 * below) w)
-    go true n e = let k : 3 ≡ 3 * n = omega arith in ap (λ (m : ℕ). take m (drop (1 + 3 * below) w)) k
-    go false n e = let k : 0 ≡ 3 * n = omega arith in ap (λ (m : ℕ). take m (drop (1 + 3 * below) w)) k
 
 module _ (site factory : List ℕ) (x : ℕ) (p : SoundMap site) (q : SoundMap factory) where
   decided-here : siteOverFactoryCall site factory x ≡ deciding site factory x
@@ -146,10 +118,10 @@ module _ (site factory : List ℕ) (x : ℕ) (p : SoundMap site) (q : SoundMap f
       (clear-turn (siteRefusals site factory) [] (outcome (given []) []) (p, (q, tt)))
 
   decided-words : (t : Bool) → has (ValueOf site x) ≡ t
-      → wordsOfTwo site factory (pick t (partIn 0 (entryPart (mapLayout .width) site x)) (partIn 1 (entryPart (mapLayout .width) factory x)))
+      → wordsOfTwo site factory (pick t (partIn 0 (windowPart (mapLayout .width) site x x)) (partIn 1 (windowPart (mapLayout .width) factory x x)))
       ≡ pick t (wordsAt site (mapWindowCall site x x)) (wordsAt factory (mapWindowCall factory x x))
-  decided-words true e = entry-window site x p
-  decided-words false e = entry-window factory x q
+  decided-words true e = ap (wordsAt site) (entry-window site x p)
+  decided-words false e = ap (wordsAt factory) (entry-window factory x q)
 
 pub site-over-factory-means : SiteOverFactory
 site-over-factory-means site factory x p q =
@@ -171,21 +143,26 @@ some-entry w x s h = go (ValueOf w x) refl
         absurd (h v (value-in w x v s (e ∙ ap some k)))
 
 pub which-map-means : WhichMap
-unfolding entryPart
 which-map-means site factory x p q = (ap (λ (d : Deciding). d .position) here ∙ position (has (ValueOf site x)), record { to = nothing; from = alone })
   where
     here : siteOverFactoryCall site factory x ≡ deciding site factory x
     here = decided-here site factory x p q
 
-    position : (t : Bool) → (pick t (partIn 0 (entryPart (mapLayout .width) site x)) (partIn 1 (entryPart (mapLayout .width) factory x))) .position ≡ pick t 0 1
+    position : (t : Bool) → (pick t (partIn 0 (windowPart (mapLayout .width) site x x)) (partIn 1 (windowPart (mapLayout .width) factory x x))) .position ≡ pick t 0 1
     position true = refl
     position false = refl
 
+    one : (w : List ℕ) → SoundMap w → (t : Bool) → has (ValueOf w x) ≡ t → windowPart (mapLayout .width) w x x .length ≡ pick t 3 0
+    one w s t e = three t (length (meeting x x (mapEntries w))) (one-meets (mapEntries w) x (verdict-sound mapLayout w s .sound) ∙ rw e)
+      where
+        three : (t : Bool) (n : ℕ) → n ≡ pick t 1 0 → 3 * n ≡ pick t 3 0
+        three true n k = omega arith
+        three false n k = omega arith
+
     -- the length is that of the deciding entry
     long : (t u : Bool) → has (ValueOf site x) ≡ t → has (ValueOf factory x) ≡ u → siteOverFactoryCall site factory x .length ≡ pick t 3 (pick u 3 0)
-    long true u e f = ap (λ (d : Deciding). d .length) here ∙ rw e
-    long false true e f = ap (λ (d : Deciding). d .length) here ∙ rw (e, f)
-    long false false e f = ap (λ (d : Deciding). d .length) here ∙ rw (e, f)
+    long true u e f = ap (λ (d : Deciding). d .length) here ∙ rw e (one site p true e)
+    long false u e f = ap (λ (d : Deciding). d .length) here ∙ rw e (one factory q u f)
 
     none-of : (t u : Bool) → _≡_ {A = ℕ} (pick t 3 (pick u 3 0)) 0 → (t ≡ false) × (u ≡ false)
     none-of true u e = absurd (omega arith)

@@ -15,11 +15,10 @@ use Rattle.entries.specs.Sets.{has, member}
 use Rattle.entries.specs.Maps.{keepIf, overlay, restriction, domain}
 use Rattle.entries.proofs.Limits.{domain-lists}
 use Rattle.answers.specs.Answers.{given, outcome}
-use Rattle.blocks.specs.Blocks.{entriesOf, blockOf, verdict, setLayout, mapLayout}
+use Rattle.blocks.specs.Blocks.{entriesOf, blockOf, verdict, setLayout, mapLayout, Shaped}
 use Rattle.blocks.proofs.Judging.{verdict-sound}
 use Rattle.blocks.proofs.Canonical.{Zeros, block-is, listed-shaped, shaped-value}
 use Rattle.entries.proofs.Canon.{canonical, none≢some}
-use Rattle.blocks.proofs.Words.{Shaped}
 use Rattle.edits.specs.Calls.{edited, editRefusals, editCall}
 use Rattle.blocks.specs.declared.Layout.{Layout}
 use Rattle.operations.specs.Calls.{twoRefusals, fromTwo, oneRefusals}

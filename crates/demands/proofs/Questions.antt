@@ -7,13 +7,14 @@ use Prim.Native.Nat.{ℕ, suc, _+_, _*_, _-_, _≤_, _<_}
 use native.Mathlib.Omega.{arith}
 use lib.Dec.{leb, eqb}
 use lib.ListN.{length, getD}
-use borrow.Author.Tests.{le-ltb, leb-true, leb-false, eqb-true, eqb-false, ne-eqb}
+use borrow.Author.Tests.{le-ltb, leb-true, eqb-true, eqb-false, ne-eqb}
 use Rattle.entries.specs.Entries.{Value, Entry, Sound, valueAt}
 use Rattle.entries.specs.Build.{pick, andb}
-use Rattle.entries.specs.Sets.{M, pastM, has, member, symmetricDifference, difference, intersection}
-use Rattle.entries.specs.Questions.{rangeAt, sizeOf, leastMember, leastFree, isEmpty, meeting, count}
+use Rattle.entries.specs.Sets.{M, pastM, has, member, lessb, symmetricDifference, difference, intersection, complement}
+use Rattle.entries.specs.Questions.{rangeAt, sizeOf, leastMember, isEmpty, meeting, count}
 use Rattle.entries.proofs.Values.{true≢false}
-use Rattle.entries.proofs.Questions.{size-counts, Least, LeastOf, least-member, least-free, range-in, range-out, none-empty}
+use Rattle.entries.proofs.Sets.{complement-is}
+use Rattle.entries.proofs.Questions.{size-counts, LeastOf, least-member, outside, non-member, non-member-none, range-in, range-out, none-empty}
 use Rattle.answers.specs.Answers.{Answer, given, Outcome, outcome, truth, optional, lessOne, handed}
 use Rattle.answers.proofs.Turns.{clear-turn}
 use Rattle.blocks.specs.Blocks.{setLayout, entriesOf, wordsOf, verdict, Lent}
@@ -159,42 +160,34 @@ least-non-member-means w x s = (found, record { to = nothing; from = alone })
     es : List Entry
     es = entriesOf 2 w
 
-    free : Least (λ z. not (member es z)) x (leastFree es x)
-    free = least-free es x (verdict-sound setLayout w s .sound)
-
     asked-here : leastNonMemberCall w x ≡ outcome (optional (nonMember es x)) []
     asked-here = asked-sound w (λ es. optional (nonMember es x)) s
 
-    -- the least free number, which is at most M or not
-    at-most : (t : Bool) → leb (leastFree es x) M ≡ t → nonMember es x ≡ pick t (some (leastFree es x)) none
-    at-most t e = ap (λ (u : Bool). pick u (some (leastFree es x)) none) e
+    least : (o : Option ℕ) → nonMember es x ≡ o → LeastOf (member (complement es)) x o
+    least o e = subst (LeastOf (member (complement es)) x) e (outside es x)
 
-    some-is : (t : Bool) (y : ℕ) → leb (leastFree es x) M ≡ t → pick t (some (leastFree es x)) none ≡ some y → (leastFree es x ≡ y) × (leastFree es x ≤ M)
-    some-is true y e q = (cc, leb-true (leastFree es x) M e)
-    some-is false y e q = let z : _≡_ {A = ℕ} 0 1 = cc in absurd (omega arith)
+    below : (y : ℕ) → member (complement es) y ≡ true → y ≤ M
+    below y e = go (leb y M) refl (sym (complement-is es .members y) ∙ e)
+      where
+        go : (t : Bool) → leb y M ≡ t → lessb t (member es y) ≡ true → y ≤ M
+        go true q d = leb-true y M q
+        go false q d = absurd (true≢false (sym d))
 
     found : (y : ℕ) → leastNonMemberCall w x ≡ answers (y ∷ []) → (x ≤ y) × (y ≤ M) × (In w y ≡ false) × ((z : ℕ) → x ≤ z → z < y → In w z ≡ true)
     found y e =
-        let k = some-is (leb (leastFree es x) M) y refl (optional-some (nonMember es x) y (sym asked-here ∙ e)) in
-        let f = subst (Least (λ z. not (member es z)) x) (k .0) free in
-        (f .from, omega (arith, k .1, k .0), not-back (member es y) true (f .is), λ z h l. not-back (member es z) false (f .least z h l))
-
-    past : (t : Bool) → leb (leastFree es x) M ≡ t → pick t (some (leastFree es x)) none ≡ none → M < leastFree es x
-    past true e q = let z : _≡_ {A = ℕ} 0 1 = cc in absurd (omega arith)
-    past false e q = leb-false (leastFree es x) M e
+        let l = least (some y) (optional-some (nonMember es x) y (sym asked-here ∙ e)) in
+        let m = below y (l .is) in (
+          l .from,
+          m,
+          not-back (member es y) true (sym (non-member es x y m) ∙ l .is),
+          λ z h k. not-back (member es z) false (sym (non-member es x z (omega arith)) ∙ l .least z h k),
+        )
 
     nothing : leastNonMemberCall w x ≡ answers [] → (z : ℕ) → x ≤ z → z ≤ M → In w z ≡ true
-    nothing e z h l =
-        let k = past (leb (leastFree es x) M) refl (optional-none (nonMember es x) (sym asked-here ∙ e)) in
-        not-back (member es z) false (free .least z h (omega (arith, k)))
+    nothing e z h m = not-back (member es z) false (sym (non-member es x z m) ∙ least none (optional-none (nonMember es x) (sym asked-here ∙ e)) z h)
 
     alone : ((z : ℕ) → x ≤ z → z ≤ M → In w z ≡ true) → leastNonMemberCall w x ≡ answers []
-    alone h = asked-here ∙ ap (λ (o : Option ℕ). outcome (optional o) []) (go (leb (leastFree es x) M) refl)
-      where
-        go : (t : Bool) → leb (leastFree es x) M ≡ t → pick t (some (leastFree es x)) none ≡ none
-        go true e =
-            absurd (true≢false (sym (h (leastFree es x) (free .from) (leb-true (leastFree es x) M e)) ∙ not-back (member es (leastFree es x)) true (free .is)))
-        go false e = refl
+    alone h = asked-here ∙ ap (λ (o : Option ℕ). outcome (optional o) []) (non-member-none es x h)
 
 -- a sound list with no number is empty
 no-size : (es : List Entry) → Sound es → sizeOf es ≡ 0 → es ≡ []

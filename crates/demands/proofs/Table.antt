@@ -21,7 +21,7 @@ use Rattle.entries.specs.Maps.{overlay, restriction, domain}
 use Rattle.answers.specs.declared.Reason.the-variants.{Overlap}
 use Rattle.answers.specs.Says.{numberOf, refusalSays, judgedSays, refusalOf, judgedOf}
 use Rattle.searches.specs.Parts.{partSays}
-use Rattle.searches.specs.Calls.{windowCall, windowAtCall, windowRefusalCall, entryPart}
+use Rattle.searches.specs.Calls.{windowCall, windowAtCall, windowRefusalCall}
 use Rattle.sets.specs.Calls.{makeEmptyCall, rangeAtCall, leastMemberCall, setWindowCall, setWindowAtCall, setWindowRefusalCall}
 use Rattle.sets.specs.Calls.{equalCall, withinCall, disjointCall, intersectionCall, differenceCall, symmetricDifferenceCall}
 use Rattle.maps.specs.Calls.{lookUpCall, eraseCall, overlayCall, restrictionCall, domainCall, mapWindowCall, mapWindowAtCall, mapWindowRefusalCall}
@@ -234,5 +234,5 @@ unfolding editCall verdict put blockOf memberCall sizeCall leastNonMemberCall un
     runOf runRefusals entriesIn said saying recordVerdict bodyLength checkOf fletcher
     makeEmptyCall rangeAtCall leastMemberCall windowCall windowAtCall windowRefusalCall equalCall withinCall disjointCall intersectionCall
     differenceCall symmetricDifferenceCall symmetricDifference lookUpCall overlayCall overlay restrictionCall restriction domainCall domain
-    siteOverFactoryCall siteOverFactoryAtCall siteRefusalCall entryPart
+    siteOverFactoryCall siteOverFactoryAtCall siteRefusalCall
 worked = refl

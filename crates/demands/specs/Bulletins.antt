@@ -4,7 +4,7 @@ use mathlib.Core.List.{List, [], _∷_}
 use Prim.Native.Nat.{ℕ, _<_}
 use lib.ListN.{length}
 use Rattle.entries.specs.Sets.{member}
-use Rattle.entries.proofs.Bulletins.{amend, Apart}
+use Rattle.entries.specs.Bulletins.{amend, Apart}
 use Rattle.answers.specs.Answers.{Outcome, outcome, given, refuse}
 use Rattle.blocks.specs.Blocks.{setLayout, capacity, entriesOf}
 use Rattle.bulletins.specs.Calls.{amendedWith, applyCall, foldCall}

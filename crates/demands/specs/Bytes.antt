@@ -10,8 +10,7 @@ use Rattle.blocks.specs.Blocks.{setLayout, mapLayout, entriesOf}
 use Rattle.numbers.specs.Numbers.{Bytes, patch}
 use Rattle.runs.specs.Runs.{lengths}
 use Rattle.verdicts.specs.declared.Form.{Form}
-use Rattle.verdicts.specs.Forms.{ofSet, ofMap, ofBulletin, formOf, outRefusals}
-use Rattle.verdicts.proofs.Whole.{Formed}
+use Rattle.verdicts.specs.Forms.{ofSet, ofMap, ofBulletin, formOf, outRefusals, Formed}
 use Rattle.forms.specs.Calls.{storedIn, heldIn, readCall, readSetCall, writeCall, writeSetCall, writeMapCall, writeBulletinCall, memberOfFormCall}
 use Rattle.demands.specs.Plain.{Iff, In, leaves}
 

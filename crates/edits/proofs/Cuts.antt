@@ -8,8 +8,8 @@ use lib.ListN.{length, getD, set, replicate, length-append}
 use borrow.Author.Tests.{eq-eqb, ne-eqb, lt-ltb, le-ltb}
 use Rattle.entries.specs.Entries.{Entry}
 use Rattle.entries.proofs.Put.{raise, trimEnd, trimStart}
-use Rattle.blocks.specs.Blocks.{wordsOf, blockOf}
-use Rattle.blocks.proofs.Words.{Shaped, words-append, words-length, shaped-append}
+use Rattle.blocks.specs.Blocks.{wordsOf, blockOf, Shaped}
+use Rattle.blocks.proofs.Words.{words-append, words-length, shaped-append}
 use Rattle.edits.specs.Steps.{update, cutEnd, cutStart}
 use Rattle.blocks.proofs.Moves.{block-path}
 use lib.Seq.{getD-append-add}

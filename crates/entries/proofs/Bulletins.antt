@@ -8,15 +8,11 @@ use lib.ListN.{length}
 use Rattle.entries.specs.Entries.{Entry, Sound}
 use Rattle.entries.specs.Build.{andb}
 use Rattle.entries.specs.Sets.{member, orb, lessb, difference}
-use Rattle.entries.specs.Bulletins.{amended}
+use Rattle.entries.specs.Bulletins.{amended, amend, Apart}
 use Rattle.entries.proofs.Taut.{taut2, taut4, taut5}
 use Rattle.entries.proofs.Plain.{set-canonical}
 use Rattle.entries.proofs.Sets.{SetOf, union-is, difference-is}
 use Rattle.entries.proofs.Limits.{union-bound, difference-bound}
-
--- at one number: without w, then joined with r
-abbrev pub amend : Bool → Bool → Bool → Bool
-amend s r w = orb (lessb s w) r
 
 amend-amend : (s r₁ w₁ r₂ w₂ : Bool) → amend s (amend r₁ r₂ w₂) (amend w₁ w₂ r₂) ≡ amend (amend s r₁ w₁) r₂ w₂
 amend-amend = taut5 _ _ tt
@@ -37,10 +33,6 @@ and-comm = taut2 _ _ tt
 
 amend-swap : (r₁ w₁ r₂ w₂ : Bool) → andb r₁ w₂ ≡ false → andb r₂ w₁ ≡ false → amend r₁ r₂ w₂ ≡ amend r₂ r₁ w₁
 amend-swap r₁ w₁ r₂ w₂ p q = simp (less-apart r₁ w₂ p, less-apart r₂ w₁ q) (or-comm r₁ r₂)
-
--- [U1] no number in common
-abbrev pub Apart : List Entry → List Entry → Type 0
-Apart a b = (x : ℕ) → andb (member a x) (member b x) ≡ false
 
 pub apart-sym : (a b : List Entry) → Apart a b → Apart b a
 apart-sym a b h x = and-comm (member b x) (member a x) ∙ h x

@@ -1,23 +1,24 @@
--- What the first entry that ends at or past x tells: the value at x, the least member and the least non-member from x on.
+-- What the first entry that ends at or past x tells: the value at x, and the least member from x on;
+-- and in a set, that the number right behind a range is in none.
 use mathlib.Core.Path.{_≡_, refl, sym, _∙_}
 use mathlib.Core.Bool.{true}
 use mathlib.Core.Option.{none, some}
 use mathlib.Core.List.{List, [], _∷_}
 use Prim.Native.Nat.{ℕ, zero, suc, _≤_, _<_, max}
 use native.Mathlib.Omega.{arith}
+use native.Mathlib.Decide.{decLt}
 use lib.Dec.{ltb}
 use lib.ListN.{length, getD}
 use borrow.Author.Tests.{le-leb, lt-leb, lt-ltb}
 use Rattle.entries.proofs.Canon.{none≢some}
 use Rattle.entries.proofs.Sides.{none-under, val-in, val-past, Side, under, inside, past, side}
 use Rattle.entries.proofs.Windows.{below-none, Passed}
-use Rattle.entries.specs.Questions.{whollyBelow, leastMember, leastFree}
+use Rattle.entries.specs.Questions.{whollyBelow, leastMember}
 use Rattle.entries.specs.Entries.{valueAt, Value, Entry, Sound}
 use Rattle.entries.specs.Sets.{Plain}
-use Rattle.entries.proofs.Index.{rises}
+use Rattle.entries.proofs.Index.{rises, sound-ok}
 use Rattle.entries.proofs.Append.{value-index, value-gap}
 use Rattle.entries.proofs.Plain.{gap-of}
-use Rattle.entries.proofs.Questions.{within-in, within-under, within-past}
 
 module _ (d : Entry) where
   tail : (e : Entry) (es : List Entry) (x i : ℕ) → Passed d (e ∷ es) x (suc i) → Passed d es x i
@@ -42,30 +43,19 @@ module _ (d : Entry) where
   least-end (e ∷ es) x zero n h = absurd (omega arith)
   least-end (e ∷ es) x (suc i) n h = rw (lt-leb x (e .high) (n .before zero (omega arith))) (least-end es x i (tail e es x i n) (omega arith))
 
-  -- nothing begins at or below x
-  free-here : (es : List Entry) (x : ℕ) → Sound es → (zero < length es → x < (getD es zero d) .low) → leastFree es x ≡ x
-  free-here [] x s h = refl
-  free-here (e ∷ es) x s h =
-      rw (within-under (e .low) (e .high) x (h (omega arith)))
-      (free-here es x (s .2) (λ p. omega (arith, h (omega arith), rises d (e ∷ es) s zero (suc zero) (omega arith) (omega arith), s .0)))
+  -- in a set the number right behind a range is in no range
+  apart-next : (es : List Entry) (i : ℕ) → Plain es → Sound es → suc i < length es → suc ((getD es i d) .high) < (getD es (suc i) d) .low
+  apart-next [] i f s h = absurd (omega arith)
+  apart-next (e ∷ []) zero f s h = absurd (omega arith)
+  apart-next (e ∷ g ∷ es) zero f s h = omega (arith, gap-of e (g ∷ es) f (s .1))
+  apart-next (e ∷ es) (suc i) f s h = apart-next es i (f .1) (s .2) (omega arith)
 
-  pub free-under : (es : List Entry) (x i : ℕ) → Sound es → Passed d es x i → (i < length es → x < (getD es i d) .low) → leastFree es x ≡ x
-  free-under es x zero s n h = free-here es x s h
-  free-under [] x (suc i) s n h = refl
-  free-under (e ∷ es) x (suc i) s n h =
-      rw (within-past (e .low) (e .high) x (n .before zero (omega arith))) (free-under es x i (s .2) (tail e es x i n) (λ p. h (omega arith)))
-
-  pub free-in : (es : List Entry) (x i : ℕ) → Plain es → Sound es → Passed d es x i → i < length es → (getD es i d) .low ≤ x → leastFree es x
-      ≡ suc ((getD es i d) .high)
-  free-in [] x i f s n h l = absurd (omega arith)
-  free-in (e ∷ es) x zero f s n h l =
-      rw (within-in (e .low) (e .high) x l (n .from h)) (free-here es (suc (e .high)) (s .2) (λ p. apart es f s p))
+  pub behind-free : (es : List Entry) (i : ℕ) → Plain es → Sound es → i < length es → valueAt es (suc ((getD es i d) .high)) ≡ none
+  behind-free es i f s h = value-gap es (suc i) d s (suc ((getD es i d) .high)) (λ j p. before j p (decLt j i)) (λ p. apart-next es i f s p)
     where
-      apart : (fs : List Entry) → Plain (e ∷ fs) → Sound (e ∷ fs) → zero < length fs → suc (e .high) < (getD fs zero d) .low
-      apart [] f s p = absurd (omega arith)
-      apart (g ∷ fs) f s p = omega (arith, gap-of e (g ∷ fs) f (s .1))
-  free-in (e ∷ es) x (suc i) f s n h l =
-      rw (within-past (e .low) (e .high) x (n .before zero (omega arith))) (free-in es x i (f .1) (s .2) (tail e es x i n) (omega arith) l)
+      before : (j : ℕ) → j < suc i → Dec (j < i) → (getD es j d) .high < suc ((getD es i d) .high)
+      before j p (yes q) = omega (arith, rises d es s j i q h, sound-ok d es s i h)
+      before j p (no q) = let k : j ≡ i = omega arith in rw k (omega arith)
 
   -- a number that has a value has it from the entry behind those wholly below it
   pub record FoundBelow (es : List Entry) (x : ℕ) (v : Value) : Type 0 where

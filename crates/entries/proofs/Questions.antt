@@ -10,9 +10,10 @@ use lib.Dec.{leb}
 use lib.ListN.{length, getD}
 use borrow.Author.Tests.{le-leb, lt-leb, leb-true, leb-false}
 use Rattle.entries.proofs.Values.{true≢false}
-use Rattle.entries.specs.Questions.{isEmpty, leastMember, leastFree, rangeAt, sizeOf, bit, count}
+use Rattle.entries.proofs.Sets.{complement-is}
+use Rattle.entries.specs.Questions.{isEmpty, leastMember, rangeAt, sizeOf, bit, count}
 use Rattle.entries.proofs.Sides.{val-in, val-under, val-past, none-upto, none-under, Side, under, inside, past, side}
-use Rattle.entries.specs.Sets.{has, member}
+use Rattle.entries.specs.Sets.{M, has, member, lessb, complement}
 use Rattle.entries.specs.Build.{pick, andb}
 use Rattle.entries.specs.Entries.{Value, Entry, Sound}
 
@@ -141,42 +142,50 @@ least-member (e ∷ es) x s = go (leb x (e .high)) refl (leastMember es x) (leas
     }
     go false q o k = on (leb-false x (e .high) q) o k
 
--- [S5] the least number that is no member
-pub least-free : (es : List Entry) (x : ℕ) → Sound es → Least (λ z. not (member es z)) x (leastFree es x)
-least-free [] x s = record { from = omega arith; is = refl; least = λ z p q. absurd (omega arith) }
-least-free (e ∷ es) x s = go (side e x) (λ y. least-free es y (s .2))
+-- there is one answer
+pub least-one : (m : ℕ → Bool) (x : ℕ) (o : Option ℕ) → LeastOf m x o → (y : ℕ) → Least m x y → o ≡ some y
+least-one m x none k y l = absurd (true≢false (sym (l .is) ∙ k y (l .from)))
+least-one m x (some w) k y l = go (decLt w y) (decLt y w)
   where
-    free : (z : ℕ) → Option Value → Bool
-    free z o = not (has o)
+    go : Dec (w < y) → Dec (y < w) → some w ≡ some y
+    go (yes h) q = absurd (true≢false (sym (k .is) ∙ l .least w (k .from) h))
+    go (no g) (yes h) = absurd (true≢false (sym (l .is) ∙ k .least y (l .from) h))
+    go (no g) (no h) = let e : w ≡ y = omega arith in ap some e
 
-    go : Side e x → ((y : ℕ) → Least (λ z. not (member es z)) y (leastFree es y)) → Least (λ z. not (member (e ∷ es) z)) x (leastFree (e ∷ es) x)
-    go (under h) ih = rw (within-under (e .low) (e .high) x h) (same (leastFree es x) (ih x) (decLt x (leastFree es x)))
-      where
-        same : (y : ℕ) → Least (λ z. not (member es z)) x y → Dec (x < y) → Least (λ z. not (member (e ∷ es) z)) x y
-        same y k (yes p) = absurd (true≢false (sym (ap (free x) (none-upto e es (s .1) (s .2) x (omega arith))) ∙ k .least x (omega arith) p))
-        same y k (no p) =
-            let i : y ≡ x = omega (arith, k .from) in
-            record { from = k .from; is = ap (free y) (none-under e es s y (omega arith)); least = λ z a b. absurd (omega arith) }
-    go (inside h k) ih = rw (within-in (e .low) (e .high) x h k) (raised (leastFree es (suc (e .high))) (ih (suc (e .high))))
-      where
-        raised : (y : ℕ) → Least (λ z. not (member es z)) (suc (e .high)) y → Least (λ z. not (member (e ∷ es) z)) x y
-        raised y m = record {
-          from = omega (arith, m .from);
-          is = ap (free y) (val-past e es y (m .from)) ∙ m .is;
-          least = λ z a b. on z a b (decLe z (e .high));
-        }
-          where
-            on : (z : ℕ) → x ≤ z → z < y → Dec (z ≤ e .high) → not (member (e ∷ es) z) ≡ false
-            on z a b (yes c) = ap (free z) (val-in e es z (omega arith) c)
-            on z a b (no c) = ap (free z) (val-past e es z (omega arith)) ∙ m .least z (omega arith) b
-    go (past h) ih = rw (within-past (e .low) (e .high) x h) (kept (leastFree es x) (ih x))
-      where
-        kept : (y : ℕ) → Least (λ z. not (member es z)) x y → Least (λ z. not (member (e ∷ es) z)) x y
-        kept y k = record {
-          from = k .from;
-          is = ap (free y) (val-past e es y (omega (arith, k .from))) ∙ k .is;
-          least = λ z a b. ap (free z) (val-past e es z (omega arith)) ∙ k .least z a b;
-        }
+pub least-none : (m : ℕ → Bool) (x : ℕ) (o : Option ℕ) → LeastOf m x o → ((z : ℕ) → x ≤ z → m z ≡ false) → o ≡ none
+least-none m x none k h = refl
+least-none m x (some y) k h = absurd (true≢false (sym (k .is) ∙ h y (k .from)))
+
+-- [S5] the least member of the complement is the least number of 0..M that is no member
+module _ (es : List Entry) (x : ℕ) where
+  pub outside : LeastOf (member (complement es)) x (leastMember (complement es) x)
+  outside = least-member (complement es) x (complement-is es .sound)
+
+  pub non-member : (z : ℕ) → z ≤ M → member (complement es) z ≡ not (member es z)
+  non-member z h = complement-is es .members z ∙ rw (le-leb z M h) (other (member es z))
+    where
+      other : (t : Bool) → lessb true t ≡ not t
+      other true = refl
+      other false = refl
+
+  past-last : (z : ℕ) → M < z → member (complement es) z ≡ false
+  past-last z h = complement-is es .members z ∙ rw (lt-leb z M h)
+
+  pub non-member-is : (y : ℕ) → x ≤ y → y ≤ M → member es y ≡ false → ((z : ℕ) → x ≤ z → z < y → member es z ≡ true)
+      → leastMember (complement es) x ≡ some y
+  non-member-is y h m out in-before =
+      least-one (member (complement es)) x (leastMember (complement es) x) outside y (record {
+        from = h;
+        is = non-member y m ∙ ap not out;
+        least = λ z p q. non-member z (omega arith) ∙ ap not (in-before z p q);
+      })
+
+  pub non-member-none : ((z : ℕ) → x ≤ z → z ≤ M → member es z ≡ true) → leastMember (complement es) x ≡ none
+  non-member-none h = least-none (member (complement es)) x (leastMember (complement es) x) outside (λ z p. go z p (decLe z M))
+    where
+      go : (z : ℕ) → x ≤ z → Dec (z ≤ M) → member (complement es) z ≡ false
+      go z p (yes q) = non-member z q ∙ ap not (h z p q)
+      go z p (no q) = past-last z (omega arith)
 
 -- EMPTY. A list is empty exactly where no number has a value.
 pub empty-none : (es : List Entry) → isEmpty es ≡ true → (x : ℕ) → member es x ≡ false

@@ -1,16 +1,19 @@
 -- The entries wholly below a number, and those that meet a window, are consecutive parts of a sound list.
-use mathlib.Core.Path.{_≡_, refl, ap}
+use mathlib.Core.Path.{_≡_, refl, sym, _∙_, ap}
 use mathlib.Core.Bool.{Bool, true, false}
+use mathlib.Core.Option.{Option}
 use mathlib.Core.List.{List, [], _∷_}
 use Prim.Native.Nat.{ℕ, zero, suc, _-_, _≤_, _<_}
 use native.Mathlib.Omega.{arith}
 use lib.Dec.{leb}
 use lib.ListN.{length, getD, take, drop}
 use borrow.Author.Tests.{le-leb, lt-leb, lt-ltb, le-ltb}
-use Rattle.entries.specs.Entries.{Entry, Sound}
-use Rattle.entries.specs.Build.{andb}
+use Rattle.entries.specs.Entries.{Value, Entry, Sound, valueAt}
+use Rattle.entries.specs.Build.{pick, andb}
+use Rattle.entries.specs.Sets.{has}
 use Rattle.entries.specs.Questions.{meeting, whollyBelow}
 use Rattle.entries.proofs.Index.{rises, sound-ok}
+use Rattle.entries.proofs.Sides.{Side, under, inside, past, side, val-in, val-past, none-under, none-upto}
 
 -- how a window's test answers
 meets-in : (a b : ℕ) (e : Entry) → e .low ≤ b → a ≤ e .high → andb (leb (e .low) b) (leb a (e .high)) ≡ true
@@ -96,3 +99,21 @@ module _ (d : Entry) where
         (record { within = omega (arith, m .within); before = λ k p. m .before (suc k) (omega arith); from = λ p. m .from (omega arith) })
         (record { within = omega (arith, n .within); before = λ k p. n .before (suc k) (omega arith); from = λ p. n .from (omega arith) }) in
         omega arith
+
+-- one entry meets the window x..x where x has a value, and else none
+meets-one : (e : Entry) (es : List Entry) (x : ℕ) → Sound (e ∷ es) → Side e x → length (meeting x x es) ≡ pick (has (valueAt es x)) 1 0
+    → length (meeting x x (e ∷ es)) ≡ pick (has (valueAt (e ∷ es) x)) 1 0
+meets-one e es x s (under h) ih =
+    let l : length (meeting x x (e ∷ es)) ≡ length (meeting x x es) = rw (lt-leb (e .low) x h) refl in
+    l ∙ ih ∙ ap (λ (o : Option Value). pick (has o) 1 0) (none-upto e es (s .1) (s .2) x (omega (arith, s .0)) ∙ sym (none-under e es s x h))
+meets-one e es x s (inside h k) ih =
+    let l : length (meeting x x (e ∷ es)) ≡ suc (length (meeting x x es)) = rw (le-leb (e .low) x h, le-leb x (e .high) k) refl in
+    l ∙ ap suc (ih ∙ ap (λ (o : Option Value). pick (has o) 1 0) (none-upto e es (s .1) (s .2) x k))
+    ∙ sym (ap (λ (o : Option Value). pick (has o) 1 0) (val-in e es x h k))
+meets-one e es x s (past h) ih =
+    let l : length (meeting x x (e ∷ es)) ≡ length (meeting x x es) = rw (le-leb (e .low) x (omega (arith, s .0)), lt-leb x (e .high) h) refl in
+    l ∙ ih ∙ sym (ap (λ (o : Option Value). pick (has o) 1 0) (val-past e es x h))
+
+pub one-meets : (es : List Entry) (x : ℕ) → Sound es → length (meeting x x es) ≡ pick (has (valueAt es x)) 1 0
+one-meets [] x s = refl
+one-meets (e ∷ es) x s = meets-one e es x s (side e x) (one-meets es x (s .2))

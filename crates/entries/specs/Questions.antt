@@ -23,11 +23,6 @@ abbrev pub leastMember : List Entry → ℕ → Option ℕ
 leastMember [] x = none
 leastMember (e ∷ es) x = pick (leb x (e .high)) (some (max x (e .low))) (leastMember es x)
 
--- [S5] the least number at or above x that is no member; it may be above M (`least-free`)
-abbrev pub leastFree : List Entry → ℕ → ℕ
-leastFree [] x = x
-leastFree (e ∷ es) x = leastFree es (pick (andb (leb (e .low) x) (leb x (e .high))) (suc (e .high)) x)
-
 -- the entries that a test keeps, in order
 abbrev pub filter : (Entry → Bool) → List Entry → List Entry
 filter keep [] = []

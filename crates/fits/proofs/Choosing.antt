@@ -7,7 +7,7 @@ use Prim.Native.Nat.{ℕ, _+_, _-_, _≤_, _<_}
 use native.Mathlib.Omega.{arith}
 use lib.Dec.{leb, ltb}
 use borrow.Author.Tests.{le-leb, lt-leb, leb-true, leb-false}
-use Rattle.entries.specs.Entries.{Entry, entry}
+use Rattle.entries.specs.Entries.{Each, Entry, entry}
 use Rattle.entries.specs.Build.{pick}
 use Rattle.entries.specs.Questions.{filter}
 use Rattle.fits.specs.Fits.{numbers, fits, anywhere, firstGap, shorter, shortestGap}
@@ -18,29 +18,24 @@ abbrev pub search : ℕ → List Entry → Option Entry
 search t [] = none
 search t (g ∷ gs) = some (pick (leb (numbers g) t) g (shorter g (search t gs)))
 
--- what holds of every gap
-abbrev pub All : (Entry → Type 0) → List Entry → Type 0
-All P [] = Unit {0}
-All P (g ∷ gs) = P g × All P gs
-
-pub filter-all : (P : Entry → Type 0) (keep : Entry → Bool) (gs : List Entry) → All P gs → All P (filter keep gs)
+pub filter-all : (P : Entry → Type 0) (keep : Entry → Bool) (gs : List Entry) → Each P gs → Each P (filter keep gs)
 filter-all P keep [] h = tt
 filter-all P keep (g ∷ gs) h = go (keep g) (filter-all P keep gs (h .1))
   where
-    go : (t : Bool) → All P (filter keep gs) → All P (pick t (g ∷ filter keep gs) (filter keep gs))
+    go : (t : Bool) → Each P (filter keep gs) → Each P (pick t (g ∷ filter keep gs) (filter keep gs))
     go true ih = (h .0, ih)
     go false ih = ih
 
-pub filter-keeps : (P : Entry → Type 0) (keep : Entry → Bool) → ((g : Entry) → keep g ≡ true → P g) → (gs : List Entry) → All P (filter keep gs)
+pub filter-keeps : (P : Entry → Type 0) (keep : Entry → Bool) → ((g : Entry) → keep g ≡ true → P g) → (gs : List Entry) → Each P (filter keep gs)
 filter-keeps P keep k [] = tt
 filter-keeps P keep k (g ∷ gs) = go (keep g) refl (filter-keeps P keep k gs)
   where
-    go : (t : Bool) → keep g ≡ t → All P (filter keep gs) → All P (pick t (g ∷ filter keep gs) (filter keep gs))
+    go : (t : Bool) → keep g ≡ t → Each P (filter keep gs) → Each P (pick t (g ∷ filter keep gs) (filter keep gs))
     go true e ih = (k g e, ih)
     go false e ih = ih
 
 -- where every gap is short enough it is the first; where none is shorter than t it is the shortest
-pub search-first : (t : ℕ) (gs : List Entry) → All (λ g. numbers g ≤ t) gs → search t gs ≡ firstGap gs
+pub search-first : (t : ℕ) (gs : List Entry) → Each (λ g. numbers g ≤ t) gs → search t gs ≡ firstGap gs
 search-first t [] h = refl
 search-first t (g ∷ gs) h = rw (le-leb (numbers g) t (h .0))
 
@@ -48,7 +43,7 @@ abbrev OptAll : (Entry → Type 0) → Option Entry → Type 0
 OptAll P none = Unit {0}
 OptAll P (some g) = P g
 
-shortest-all : (P : Entry → Type 0) (gs : List Entry) → All P gs → OptAll P (shortestGap gs)
+shortest-all : (P : Entry → Type 0) (gs : List Entry) → Each P gs → OptAll P (shortestGap gs)
 shortest-all P [] h = tt
 shortest-all P (g ∷ gs) h = go (shortestGap gs) (shortest-all P gs (h .1))
   where
@@ -60,7 +55,7 @@ shortest-all P (g ∷ gs) h = go (shortestGap gs) (shortest-all P gs (h .1))
     go none p = h .0
     go (some f) p = one (leb (numbers g) (numbers f)) f p
 
-pub search-shortest : (t : ℕ) (gs : List Entry) → All (λ g. t ≤ numbers g) gs → search t gs ≡ shortestGap gs
+pub search-shortest : (t : ℕ) (gs : List Entry) → Each (λ g. t ≤ numbers g) gs → search t gs ≡ shortestGap gs
 search-shortest t [] h = refl
 search-shortest t (g ∷ gs) h = go (leb (numbers g) t) refl (search-shortest t gs (h .1))
   where

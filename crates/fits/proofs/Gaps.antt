@@ -8,7 +8,7 @@ use native.Mathlib.Omega.{arith}
 use native.Mathlib.Decide.{decLe, decLt}
 use lib.Dec.{leb, ltb}
 use borrow.Author.Tests.{le-leb, lt-leb, lt-ltb, le-ltb, ltb-true, ltb-false}
-use Rattle.entries.specs.Entries.{Value, Entry, entry, orElse, valueAt, Link, Sound}
+use Rattle.entries.specs.Entries.{Value, Entry, entry, orElse, valueAt, Link, Sound, Each}
 use Rattle.entries.specs.Build.{pick, andb}
 use Rattle.entries.specs.Sets.{Plain, has, member, orb, lessb, difference}
 use Rattle.entries.proofs.Append.{value-append}
@@ -17,7 +17,6 @@ use Rattle.entries.proofs.Sides.{Side, under, inside, past, side, val-under, va
 use Rattle.entries.proofs.Sets.{set-unique, difference-is}
 use Rattle.fits.specs.Fits.{gaps}
 use Rattle.fits.specs.Steps.{piece}
-use Rattle.fits.proofs.Choosing.{All}
 
 -- the gaps from x up to N, before and between the ranges and behind the last
 abbrev pub gapsFrom : ℕ → ℕ → List Entry → List Entry
@@ -70,16 +69,16 @@ from-plain x N (e ∷ es) =
     (from-plain (max x (suc (e .high))) N es)
 
 -- they end below N
-from-below : (x N : ℕ) (es : List Entry) → All (λ g. g .high < N) (gapsFrom x N es)
+from-below : (x N : ℕ) (es : List Entry) → Each (λ g. g .high < N) (gapsFrom x N es)
 from-below x N [] = go (ltb x N) refl
   where
-    go : (t : Bool) → ltb x N ≡ t → All (λ g. g .high < N) (pick t (entry x (N - 1) [] ∷ []) [])
+    go : (t : Bool) → ltb x N ≡ t → Each (λ g. g .high < N) (pick t (entry x (N - 1) [] ∷ []) [])
     go true e = let k = ltb-true x N e in (omega arith, tt)
     go false e = tt
 from-below x N (e ∷ es) = go (ltb x (min N (e .low))) refl (from-below (max x (suc (e .high))) N es)
   where
-    go : (t : Bool) → ltb x (min N (e .low)) ≡ t → All (λ g. g .high < N) (gapsFrom (max x (suc (e .high))) N es)
-        → All (λ g. g .high < N) (pick t (entry x (min N (e .low) - 1) [] ∷ []) [] ++ gapsFrom (max x (suc (e .high))) N es)
+    go : (t : Bool) → ltb x (min N (e .low)) ≡ t → Each (λ g. g .high < N) (gapsFrom (max x (suc (e .high))) N es)
+        → Each (λ g. g .high < N) (pick t (entry x (min N (e .low) - 1) [] ∷ []) [] ++ gapsFrom (max x (suc (e .high))) N es)
     go true q ih = let k = ltb-true x (min N (e .low)) q in (omega arith, ih)
     go false q ih = ih
 
@@ -206,5 +205,5 @@ from-is a b es s =
     })
     (difference-is (entry a b [] ∷ []) es)
 
-pub gaps-below : (a b : ℕ) (es : List Entry) → Sound es → All (λ g. g .high < suc b) (gaps a b es)
+pub gaps-below : (a b : ℕ) (es : List Entry) → Sound es → Each (λ g. g .high < suc b) (gaps a b es)
 gaps-below a b es s = rw (sym (from-is a b es s)) (from-below a (suc b) es)

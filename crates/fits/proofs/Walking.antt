@@ -10,7 +10,7 @@ use lib.Dec.{leb}
 use lib.ListN.{length, getD, drop}
 use lib.Seq.{drop-drop, getD-drop}
 use borrow.Author.Tests.{le-leb, lt-leb, lt-ltb, le-ltb, leb-true}
-use Rattle.entries.specs.Entries.{Entry, entry, Sound}
+use Rattle.entries.specs.Entries.{Entry, entry, Sound, Each}
 use Rattle.entries.specs.Build.{pick, andb}
 use Rattle.entries.specs.Sets.{M}
 use Rattle.entries.specs.Questions.{filter}
@@ -20,7 +20,7 @@ use Rattle.blocks.proofs.Judging.{room-words}
 use Rattle.fits.specs.declared.Gap.{Gap}
 use Rattle.fits.specs.Fits.{gaps, numbers, fits, anywhere}
 use Rattle.fits.specs.Steps.{chooser, gapOf, heldIn, piece, better, taken, Took, Trying, Asked}
-use Rattle.fits.proofs.Choosing.{search, All, filter-all, filter-keeps, search-first, search-shortest, AtMostOne, stops, hold-piece}
+use Rattle.fits.proofs.Choosing.{search, filter-all, filter-keeps, search-first, search-shortest, AtMostOne, stops, hold-piece}
 use Rattle.fits.proofs.Gaps.{gapsFrom, from-none, from-is, gaps-below}
 
 -- lengths, and lengths less one
@@ -269,6 +269,6 @@ walked-start w a b k shortest enough n g s m e c f lo hi = record {
             (filter-all (λ x. numbers x ≤ suc M) (fits anywhere k) (gaps a b (entriesOf 2 w))
             (short (gaps a b (entriesOf 2 w)) (gaps-below a b (entriesOf 2 w) (s .block .sound))))
           where
-            short : (gs : List Entry) → All (λ x. x .high < suc b) gs → All (λ x. numbers x ≤ suc M) gs
+            short : (gs : List Entry) → Each (λ x. x .high < suc b) gs → Each (λ x. numbers x ≤ suc M) gs
             short [] h = tt
             short (x ∷ gs) h = (omega (arith, h .0), short gs (h .1))

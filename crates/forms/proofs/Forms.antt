@@ -8,24 +8,24 @@ use lib.Dec.{ltb, eqb}
 use lib.ListN.{length, getD, take, drop, replicate, length-drop, length-append, length-replicate}
 use lib.Seq.{take-at, drop-at, length-take-le}
 use borrow.Author.Tests.{ltb-false, le-ltb, ne-eqb}
-use Rattle.entries.specs.Entries.{Entry, Sound}
+use Rattle.entries.specs.Entries.{Entry, Sound, Each}
 use Rattle.entries.specs.Build.{pick}
 use Rattle.answers.specs.Answers.{outcome, given, inTurn, applies, Clear}
 use Rattle.answers.proofs.Turns.{turn-accepted, clear-turn, applies-clear}
-use Rattle.blocks.specs.Blocks.{capacity, entriesOf, wordsOf, blockOf, verdict}
+use Rattle.blocks.specs.Blocks.{capacity, entriesOf, wordsOf, blockOf, verdict, Shaped}
 use Rattle.blocks.specs.declared.Layout.{Layout}
-use Rattle.blocks.proofs.Words.{Shaped, items-shaped, items-length, words-length, read-back}
+use Rattle.blocks.proofs.Words.{items-shaped, items-length, words-length, read-back}
 use Rattle.blocks.proofs.Judging.{verdict-sound, sound-verdict, room-words}
 use Rattle.blocks.proofs.Refusing.{some-words, room-fits}
 use Rattle.numbers.specs.Numbers.{Bytes, over, patch}
-use Rattle.runs.specs.Runs.{lengths}
+use Rattle.runs.specs.Runs.{lengths, Fine}
 use Rattle.runs.proofs.Running.{clear-split, clear-join}
-use Rattle.runs.proofs.Several.{Each, Fine, shapes}
+use Rattle.runs.proofs.Several.{shapes}
 use Rattle.verdicts.specs.declared.Form.{Form}
-use Rattle.verdicts.specs.Forms.{formOf, sizeOf, formEntries, sharing, overlap, formRefusals, noBlocks, noRooms, outRefusals}
+use Rattle.verdicts.specs.Forms.{formOf, sizeOf, formEntries, sharing, overlap, formRefusals, noBlocks, noRooms, outRefusals, Formed}
 use Rattle.forms.specs.Calls.{storedIn, readCall, heldIn, inputs, noSpace, blockRefusals, writeRefusals, writtenAt, writeCall}
 use Rattle.verdicts.specs.Steps.{FormKind}
-use Rattle.verdicts.proofs.Whole.{Formed, made, back, whole, size}
+use Rattle.verdicts.proofs.Whole.{made, back, whole, size}
 
 -- the block of sound entries is sound, and says them
 module _ (l : Layout) (L : ℕ) (es : List Entry) (two : 2 ≤ l .width) (h : Shaped (l .width) es) where

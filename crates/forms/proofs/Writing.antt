@@ -17,9 +17,9 @@ use Rattle.answers.specs.declared.Finding.{Finding}
 use Rattle.answers.specs.declared.Refusal.{Refusal}
 use Rattle.answers.specs.declared.Written.the-variants as written
 use Rattle.answers.proofs.Turns.{refusal-by, stops, passes, ends, stops-in, passes-in, given-by, applies-small}
-use Rattle.blocks.specs.Blocks.{setLayout, entriesOf, itemsOf, verdict, SoundBlock}
+use Rattle.blocks.specs.Blocks.{setLayout, entriesOf, itemsOf, verdict, SoundBlock, Shaped}
 use Rattle.blocks.specs.declared.Layout.{Layout}
-use Rattle.blocks.proofs.Words.{Shaped, items-shaped, items-length}
+use Rattle.blocks.proofs.Words.{items-shaped, items-length}
 use Rattle.blocks.proofs.Judging.{verdict-sound, verdict-small, room-words}
 use Rattle.numbers.specs.Numbers.{past2, countBytes, over}
 use Rattle.numbers.proofs.Patch.{tail-part, mid-patch, mid-over}

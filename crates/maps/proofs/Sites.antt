@@ -17,7 +17,7 @@ use Rattle.answers.proofs.Turns.{bare, turn-bare}
 use Rattle.blocks.specs.Blocks.{mapLayout, verdict}
 use Rattle.searches.specs.declared.Part.{Part}
 use Rattle.searches.specs.Parts.{part, noPart, IsPart}
-use Rattle.searches.specs.Calls.{entryPart}
+use Rattle.searches.specs.Calls.{windowPart}
 use Rattle.searches.specs.Steps.{EntryOf}
 use Rattle.maps.specs.declared.Deciding.{Deciding}
 use Rattle.maps.specs.Calls.{mapEntries, partIn, atPosition, deciding, decidingSays, siteRefusals, siteRefusalCall, siteOverFactoryCall, wordsOfTwo}
@@ -26,9 +26,9 @@ use Rattle.maps.specs.Steps.{DecidingOf}
 
 -- by whether the site map has a value
 by-site : (site factory : List ℕ) (x : ℕ) (t : Bool) → has (valueAt (mapEntries site) x) ≡ t
-    → pick t (partIn 0 (entryPart (mapLayout .width) site x)) (partIn 1 (entryPart (mapLayout .width) factory x)) ≡ deciding site factory x
+    → pick t (partIn 0 (windowPart (mapLayout .width) site x x)) (partIn 1 (windowPart (mapLayout .width) factory x x)) ≡ deciding site factory x
 by-site site factory x t h =
-    ap (λ (u : Bool). pick u (partIn 0 (entryPart (mapLayout .width) site x)) (partIn 1 (entryPart (mapLayout .width) factory x))) (sym h)
+    ap (λ (u : Bool). pick u (partIn 0 (windowPart (mapLayout .width) site x x)) (partIn 1 (windowPart (mapLayout .width) factory x x))) (sym h)
 
 module _ {site factory : List ℕ} {x : ℕ} {own : Part} (g : EntryOf mapLayout site x own) where
   pub site-decides : (own .length ≡ 0 → ⊥) → DecidingOf site factory x (partIn 0 own)

@@ -14,7 +14,7 @@ use Rattle.blocks.specs.Calls.{input}
 use Rattle.edits.specs.Calls.{editCall}
 use Rattle.searches.specs.declared.Part.{Part}
 use Rattle.searches.specs.Parts.{noPart, part, wordsAt}
-use Rattle.searches.specs.Calls.{windowCall, windowAtCall, windowRefusalCall, entryPart}
+use Rattle.searches.specs.Calls.{windowPart, windowCall, windowAtCall, windowRefusalCall}
 use Rattle.operations.specs.Calls.{fromTwo, fromOne}
 use Rattle.maps.specs.declared.Deciding.{Deciding}
 
@@ -80,10 +80,10 @@ abbrev pub atPosition : {A : Type 0} → ℕ → A → A → A
 atPosition zero site factory = site
 atPosition (suc p) site factory = factory
 
--- [M8] the site map's entry if x has a value there, else the factory map's, else an empty part
+-- [M8] the window x..x of the site map if x has a value there, else that of the factory map: the deciding entry, or an empty part
 abbrev pub deciding : List ℕ → List ℕ → ℕ → Deciding
 deciding site factory x =
-    pick (has (valueAt (mapEntries site) x)) (partIn 0 (entryPart (mapLayout .width) site x)) (partIn 1 (entryPart (mapLayout .width) factory x))
+    pick (has (valueAt (mapEntries site) x)) (partIn 0 (windowPart (mapLayout .width) site x x)) (partIn 1 (windowPart (mapLayout .width) factory x x))
 
 -- [M8, R20] the three words of the deciding entry, as a part of whichever map holds it; refused, the empty part at the site map's front
 unfoldable pub siteOverFactoryCall : List ℕ → List ℕ → ℕ → Deciding

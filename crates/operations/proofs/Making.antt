@@ -14,10 +14,10 @@ use Rattle.answers.specs.Answers.{Outcome, outcome, given, judged as judgedBy, 
 use Rattle.answers.specs.Says.{judgedSays, judgedOf}
 use Rattle.answers.proofs.Numbers.{judged-says}
 use Rattle.blocks.specs.declared.Layout.{Layout}
-use Rattle.blocks.specs.Blocks.{setLayout, mapLayout, capacity, blockOf, entriesOf, verdict, SoundBlock, Lent}
+use Rattle.blocks.specs.Blocks.{setLayout, mapLayout, capacity, blockOf, entriesOf, verdict, SoundBlock, Lent, Shaped}
 use Rattle.blocks.specs.Calls.{noBlock, stored}
 use Rattle.blocks.proofs.Judging.{verdict-sound, room-words, verdict-small}
-use Rattle.blocks.proofs.Words.{Shaped, items-shaped, items-length}
+use Rattle.blocks.proofs.Words.{items-shaped, items-length}
 use Rattle.sweeps.specs.declared.Plan.{Plan}
 use Rattle.sweeps.specs.Sweeps.{Inputs, Fit, resultOf}
 use Rattle.sweeps.proofs.Tables.{none-input, input, bounded}

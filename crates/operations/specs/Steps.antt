@@ -7,9 +7,8 @@ use lib.Dec.{leb}
 use lib.ListN.{length}
 use Rattle.entries.specs.Entries.{Entry, Sound}
 use Rattle.entries.specs.Build.{pick}
-use Rattle.blocks.proofs.Words.{Shaped}
 use Rattle.blocks.specs.declared.Layout.{Layout}
-use Rattle.blocks.specs.Blocks.{capacity, blockOf, entriesOf}
+use Rattle.blocks.specs.Blocks.{capacity, blockOf, entriesOf, Shaped}
 use Rattle.sweeps.specs.Sweeps.{result, Fit, Input, Bounded}
 use Rattle.sweeps.specs.declared.Plan.{Plan}
 use Rattle.operations.specs.declared.Layouts.{Layouts}

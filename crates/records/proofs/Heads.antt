@@ -9,7 +9,7 @@ use native.Mathlib.Numerals.{add-one}
 use lib.ListN.{length, getD, take, drop}
 use lib.Seq.{drop-cons}
 use lib.Dec.{eqb, ltb, lit≤}
-use borrow.Author.Tests.{eqb-true, ltb-false, eq-eqb, ne-eqb, lt-ltb, le-ltb}
+use borrow.Author.Tests.{eqb-true, eqb-false, ltb-false, eq-eqb, ne-eqb, lt-ltb, le-ltb}
 use Rattle.entries.specs.Build.{pick}
 use Rattle.answers.specs.Answers.{lastNumber}
 use Rattle.numbers.specs.Numbers.{num2}
@@ -64,6 +64,14 @@ module _ (mark due : ℕ) (b : List ℕ) (content : Bool) where
       pub front-body : getD b 2 0 ≡ due → (o : Option ℕ) → bodyLength due ≡ o → bodyVerdict mark o content b ≡ recordVerdict mark due content b
       unfolding recordVerdict
       front-body d o q = simp (le-ltb _ _ h, eq-eqb (num2 b 0) mark (sym ex ∙ k ∙ em), eq-eqb _ _ d, q)
+
+      -- the kind that stands there is in no row of the table: no such kind is ever due
+      pub front-unknown : bodyLength (getD b 2 0) ≡ none → 10 ≡ recordVerdict mark due content b
+      front-unknown u = go (eqb (getD b 2 0) due) refl
+        where
+          go : (t : Bool) → eqb (getD b 2 0) due ≡ t → 10 ≡ recordVerdict mark due content b
+          go true e = let d = eqb-true (getD b 2 0) due e in front-body d none (sym (ap bodyLength d) ∙ u)
+          go false e = front-kind (eqb-false (getD b 2 0) due e)
 
   pub length-short : (n : ℕ) → length b < n + 5 → 8 ≡ bodyVerdict mark (some n) content b
   length-short n l = simp (lt-ltb _ _ l)

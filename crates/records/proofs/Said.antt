@@ -1,26 +1,21 @@
 -- What the laws of the byte form need of what an item record says.
-use Prim.Native.Nat.{ℕ, _^_, _<_}
-use mathlib.Core.List.{List, [], _∷_}
+use Prim.Native.Nat.{ℕ}
 use mathlib.Core.Path.{_≡_, refl, sym, ap, _∙_}
 use lib.ListN.{length}
 use Rattle.entries.specs.Entries.{Entry}
+use Rattle.blocks.specs.Blocks.{Lent}
 use Rattle.records.specs.Records.{said, saying, entryWords}
 
--- every word fits a word
-abbrev pub Fit : List ℕ → Type 0
-Fit [] = Unit {0}
-Fit (w ∷ ws) = (w < 2 ^ 64) × Fit ws
-
--- a kind says each entry with one item and each item says one entry, of as many words, which fit if those that stand there do
+-- a kind says each entry with one item and each item says one entry, of as many words, below 2^64 if those that stand there are
 pub record Saying (kind : ℕ) : Type 0 where
   pub back : (e : Entry) → said kind (saying kind e) ≡ e
   pub forth : (e : Entry) → saying kind (said kind e) ≡ e
   pub same : (e : Entry) → length (said kind e .value) ≡ length (e .value)
-  pub fit : (e : Entry) → Fit (entryWords e) → Fit (entryWords (said kind e))
+  pub lent : (e : Entry) → Lent (entryWords e) → Lent (entryWords (said kind e))
 
 pub says : (kind : ℕ) → Saying kind
 unfolding said saying
-says kind = record { back = λ e. refl; forth = λ e. refl; same = λ e. refl; fit = λ e f. f }
+says kind = record { back = λ e. refl; forth = λ e. refl; same = λ e. refl; lent = λ e f. f }
 
 pub same-saying : (kind : ℕ) (e : Entry) → length (saying kind e .value) ≡ length (e .value)
 same-saying kind e = sym (says kind .same (saying kind e)) ∙ ap (λ (d : Entry). length (d .value)) (says kind .back e)

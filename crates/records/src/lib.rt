@@ -63,13 +63,14 @@ fn read_front(bytes: &[u8], mark: u16, due: u8) -> u8
     if numbers::get2(bytes, 0) != numbers::wide2(mark) {
         return 9;
     }
-    if bytes[2] != due {
-        return 10;
-    }
-    let b = body_length(due);
+    let kind = bytes[2];
+    let b = body_length(kind);
     let Body::Known(n) = b else {
         return 10;
     };
+    if kind != due {
+        return 10;
+    }
     if bytes.len() < n + 5 {
         return 8;
     }

@@ -1,26 +1,26 @@
 -- A run of item records: what is accepted is the run of its entries, and the run of sound entries is accepted.
-use Prim.Native.Nat.{ℕ, zero, suc, _+_, _*_, _≤_}
+use Prim.Native.Nat.{ℕ, zero, suc, _+_, _*_, _≤_, _<_}
 use mathlib.Core.List.{List, [], _∷_, _++_, append-assoc}
 use mathlib.Core.Bool.{Bool, true, false}
 use mathlib.Core.Option.{Option, none, some}
 use mathlib.Core.Path.{_≡_, refl, sym, subst, ap, ap₂, _∙_}
 use native.Mathlib.Omega.{arith}
 use native.Mathlib.Nat.{mul-suc, mul-zero}
-use lib.Dec.{leb}
+use lib.Dec.{leb, lit<}
 use lib.ListN.{length, drop, length-append, length-drop}
 use lib.Seq.{drop-drop, getD-drop}
 use Rattle.entries.specs.Entries.{Entry}
 use Rattle.entries.specs.Build.{andb}
+use Rattle.entries.specs.Sets.{pastM}
 use Rattle.entries.proofs.Values.{and-true}
 use Rattle.answers.specs.Answers.{Clear}
 use Rattle.answers.specs.declared.Finding.{Finding}
-use Rattle.blocks.specs.Blocks.{linkb, soundb, wordsOf}
-use Rattle.blocks.proofs.Words.{Shaped}
-use Rattle.numbers.specs.Numbers.{Bytes, wordsIn, wordBytes}
+use Rattle.blocks.specs.Blocks.{linkb, soundb, wordsOf, Lent, Shaped}
+use Rattle.numbers.specs.Numbers.{Bytes, num8, wordsIn, wordBytes}
 use Rattle.numbers.proofs.Numbers.{length-bytes, length-words, word-fits}
 use Rattle.records.specs.Records.{entryWords, saying, itemRecord, itemVerdict, entryIn, follows, inOrder}
 use Rattle.records.specs.Steps.{ItemKind}
-use Rattle.records.proofs.Said.{Fit, says, same-saying}
+use Rattle.records.proofs.Said.{says, same-saying}
 use Rattle.records.proofs.Heads.{record-inv, record-zero}
 use Rattle.records.proofs.Items.{item-words}
 use Rattle.records.proofs.Accepted.{item-bytes, record-whole, rest-laid, entry-back}
@@ -78,22 +78,26 @@ entries-shaped kind s (suc n) b h =
           (8 * s + 5) b) h,
     )
 
-fit-append : (a b : List ℕ) → Fit a → Fit b → Fit (a ++ b)
-fit-append [] b p q = q
-fit-append (w ∷ a) b p q = (p .0, fit-append a b (p .1) q)
+lent-cons : (w : ℕ) (ws : List ℕ) → w < pastM → Lent ws → Lent (w ∷ ws)
+lent-cons w ws p q zero = p
+lent-cons w ws p q (suc j) = q j
 
-fit-words : (b : List ℕ) → Bytes b → (n q : ℕ) → Fit (wordsIn n b q)
-fit-words b y zero q = tt
-fit-words b y (suc n) q = (word-fits b y q, fit-words b y n (q + 8))
+lent-append : (a b : List ℕ) → Lent a → Lent b → Lent (a ++ b)
+lent-append [] b p q = q
+lent-append (w ∷ a) b p q = lent-cons w (a ++ b) (p 0) (lent-append a b (λ j. p (suc j)) q)
 
-pub entries-fit : (kind s n : ℕ) (b : List ℕ) → Bytes b → 2 ≤ s → Fit (wordsOf (entriesIn kind s n b))
+lent-words : (b : List ℕ) → Bytes b → (n q : ℕ) → Lent (wordsIn n b q)
+lent-words b y zero q j = lit< tt
+lent-words b y (suc n) q = lent-cons (num8 b q) (wordsIn n b (q + 8)) (word-fits b y q) (lent-words b y n (q + 8))
+
+pub entries-lent : (kind s n : ℕ) (b : List ℕ) → Bytes b → 2 ≤ s → Lent (wordsOf (entriesIn kind s n b))
 unfolding entriesIn
-entries-fit kind s zero b y h = tt
-entries-fit kind s (suc n) b y h =
+entries-lent kind s zero b y h j = lit< tt
+entries-lent kind s (suc n) b y h =
     let ws = wordsIn s b 3 in
-    fit-append (entryWords (entryIn kind s b)) (wordsOf (entriesIn kind s n (drop (8 * s + 5) b)))
-    (says kind .fit (itemOf s ws) (subst (λ (l : List ℕ). Fit l) (sym (item-words s ws h (length-words s b 3))) (fit-words b y s 3)))
-    (entries-fit kind s n (drop (8 * s + 5) b) (bytes-drop (8 * s + 5) b y) h)
+    lent-append (entryWords (entryIn kind s b)) (wordsOf (entriesIn kind s n (drop (8 * s + 5) b)))
+    (says kind .lent (itemOf s ws) (subst (λ (l : List ℕ). Lent l) (sym (item-words s ws h (length-words s b 3))) (lent-words b y s 3)))
+    (entries-lent kind s n (drop (8 * s + 5) b) (bytes-drop (8 * s + 5) b y) h)
 
 module _ (mark kind s : ℕ) (k : ItemKind kind s) where
   pub record RunAt (n : ℕ) (before : Option Entry) (b : List ℕ) : Type 0 where

@@ -10,30 +10,17 @@ use lib.Dec.{leb}
 use lib.ListN.{length, drop, length-append, length-drop}
 use lib.Seq.{drop-drop, drop-at}
 use borrow.Author.Tests.{leb-true, le-leb}
-use Rattle.entries.specs.Entries.{Entry, Sound}
+use Rattle.entries.specs.Entries.{Each, Entry, Sound}
 use Rattle.entries.proofs.Values.{and-true}
 use Rattle.answers.specs.Answers.{Clear}
-use Rattle.blocks.specs.Blocks.{wordsOf}
-use Rattle.blocks.proofs.Words.{Shaped}
+use Rattle.blocks.specs.Blocks.{wordsOf, Lent, Shaped}
 use Rattle.blocks.proofs.Judging.{sound-true, true-sound}
 use Rattle.numbers.specs.Numbers.{Bytes}
 use Rattle.records.specs.Records.{allWithin}
 use Rattle.records.specs.Steps.{ItemKind}
-use Rattle.records.proofs.Said.{Fit}
-use Rattle.runs.specs.Runs.{runOf, entriesIn, runRefusals, total, lengths, runsOf, runsIn, runsRefusals}
-use Rattle.runs.proofs.Running.{clear-split, clear-join, bytes-drop, length-entries, entries-shaped, entries-fit, run-inv, run-accept}
+use Rattle.runs.specs.Runs.{Fine, runOf, entriesIn, runRefusals, total, lengths, runsOf, runsIn, runsRefusals}
+use Rattle.runs.proofs.Running.{clear-split, clear-join, bytes-drop, length-entries, entries-shaped, entries-lent, run-inv, run-accept}
 use Rattle.runs.proofs.Running.{run-back, length-run}
-
--- what holds of each
-abbrev pub Each : {A : Type 0} → (A → Type 0) → List A → Type 0
-Each P [] = Unit {0}
-Each P (x ∷ xs) = P x × Each P xs
-
--- sound entries of s words each, no more than the limit
-pub record Fine (s limit : ℕ) (es : List Entry) : Type 0 where
-  pub sound : Sound es
-  pub shaped : Shaped s es
-  pub within : length es ≤ limit
 
 pub shapes : (s limit : ℕ) (runs : List (List Entry)) → Each (Fine s limit) runs → Each (Shaped s) runs
 shapes s limit [] e = tt
@@ -98,11 +85,11 @@ module _ (mark s : ℕ) where
         runs-fine ks ns (drop (step * n) b) limit h (d .1) (t .1),
       )
 
-  pub runs-fit : (kinds counts b : List ℕ) → Bytes b → 2 ≤ s → Each (λ es. Fit (wordsOf es)) (runsIn s kinds counts b)
+  pub runs-lent : (kinds counts b : List ℕ) → Bytes b → 2 ≤ s → Each (λ es. Lent (wordsOf es)) (runsIn s kinds counts b)
   unfolding runsIn
-  runs-fit [] ns b y h = tt
-  runs-fit (k ∷ ks) [] b y h = tt
-  runs-fit (k ∷ ks) (n ∷ ns) b y h = (entries-fit k s n b y h, runs-fit ks ns (drop (step * n) b) (bytes-drop (step * n) b y) h)
+  runs-lent [] ns b y h = tt
+  runs-lent (k ∷ ks) [] b y h = tt
+  runs-lent (k ∷ ks) (n ∷ ns) b y h = (entries-lent k s n b y h, runs-lent ks ns (drop (step * n) b) (bytes-drop (step * n) b y) h)
 
   -- the bytes of runs
   module _ (rest : List ℕ) where

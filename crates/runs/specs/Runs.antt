@@ -1,13 +1,20 @@
 -- A run of item records of one kind, s words an item, and several runs one behind the other: their bytes, their entries, and the
 -- refusals of reading them.
-use Prim.Native.Nat.{ℕ, zero, suc, _+_, _*_}
+use Prim.Native.Nat.{ℕ, zero, suc, _+_, _*_, _≤_}
 use mathlib.Core.Option.{Option, none, some}
 use mathlib.Core.List.{List, [], _∷_, _++_}
 use lib.ListN.{length, drop}
-use Rattle.entries.specs.Entries.{Entry}
+use Rattle.entries.specs.Entries.{Entry, Sound}
 use Rattle.answers.specs.Answers.{at}
 use Rattle.answers.specs.declared.Finding.{Finding}
+use Rattle.blocks.specs.Blocks.{Shaped}
 use Rattle.records.specs.Records.{itemRecord, itemVerdict, entryIn}
+
+-- [B3, B4, B5] a run as it may stand in a form: sound entries of s words each, no more than the limit
+pub record Fine (s limit : ℕ) (es : List Entry) : Type 0 where
+  pub sound : Sound es
+  pub shaped : Shaped s es
+  pub within : length es ≤ limit
 
 -- [Y10] the records of the entries, one after the other
 unfoldable pub runOf : ℕ → ℕ → List Entry → List ℕ

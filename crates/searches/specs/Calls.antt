@@ -1,11 +1,9 @@
--- Windows: what is handed back, and the refusal of the companion question, for sets and for maps; the place of an entry; and the
--- refusal of sets that share a number.
+-- Windows: what is handed back, and the refusal of the companion question, for sets and for maps; and the refusal
+-- of sets that share a number.
 use mathlib.Core.List.{List, [], _∷_}
 use Prim.Native.Nat.{ℕ, _+_, _*_}
 use lib.ListN.{length}
-use Rattle.entries.specs.Entries.{Entry, valueAt}
-use Rattle.entries.specs.Build.{pick}
-use Rattle.entries.specs.Sets.{has}
+use Rattle.entries.specs.Entries.{Entry}
 use Rattle.entries.specs.Questions.{meeting, whollyBelow}
 use Rattle.entries.specs.Bulletins.{shareb}
 use Rattle.answers.specs.declared.Finding.{Finding}
@@ -53,7 +51,3 @@ overlapping released withdrawn = applies (shareb released withdrawn) 14
 -- [R14, U1] the two sets of a bulletin, which may share none; the place is 0
 abbrev pub overlap : List ℕ → List ℕ → Finding
 overlap released withdrawn = at 0 (overlapping (entriesOf 2 released) (entriesOf 2 withdrawn))
-
--- [M8] the words of the entry that holds x, as a part of its block: behind the count and the entries wholly below x; else an empty part
-unfoldable pub entryPart : ℕ → List ℕ → ℕ → Part
-entryPart s w x = pick (has (valueAt (entriesOf s w) x)) (part (1 + s * length (whollyBelow x (entriesOf s w))) s) noPart

@@ -8,7 +8,7 @@ use Rattle.entries.specs.Entries.{valueAt}
 use Rattle.entries.specs.Sets.{has}
 use Rattle.blocks.specs.declared.Layout.{Layout}
 use Rattle.blocks.specs.Blocks.{entriesOf, SoundBlock}
-use Rattle.searches.specs.Calls.{windowPlace, windowLength, entryPart}
+use Rattle.searches.specs.Calls.{windowPlace, windowLength, windowPart}
 use Rattle.searches.specs.declared.Part.{Part}
 use Rattle.searches.specs.declared.Spot.{Spot}
 
@@ -30,9 +30,9 @@ pub record SpotOf (l : Layout) (w : List ℕ) (x : ℕ) (r : Spot) : Type 0 wher
   pub first : FirstFrom w (l .width) 2 (getD w 0 0) x (r .below)
   pub inside : r .inside ≡ has (valueAt (entriesOf (l .width) w) x)
 
--- r is the entry of w that holds x, within its block; where it has words, they are its value's from the third on
+-- r is the window x..x of w, within its block: the entry that holds x, or no words; where it has words, they are its value's from the third on
 pub record EntryOf (l : Layout) (w : List ℕ) (x : ℕ) (r : Part) : Type 0 where
-  pub is : r ≡ entryPart (l .width) w x
+  pub is : r ≡ windowPart (l .width) w x x
   pub held : r .place + r .length ≤ length w
   pub none : r .length ≡ 0 → valueAt (entriesOf (l .width) w) x ≡ none
   pub value : (r .length ≡ 0 → ⊥) → (valueAt (entriesOf (l .width) w) x ≡ some (take (l .width - 2) (drop (r .place + 2) w))) × (r .length ≡ l .width)

@@ -87,22 +87,20 @@ pub fn spot_of(block: &[u64], layout: Layout, x: u64) -> Spot
     }
 }
 
-// The entry of a sound block that holds x, as a part of the block; the empty part at its front where there is none.
+// The window x..x of a sound block: the entry that holds x, as a part of the block; no words, behind the entries below x, where none does.
 pub fn entry_part(block: &[u64], layout: Layout, x: u64) -> Part
     requires { ⌜ (2 ≤ layout .width) × SoundBlock layout (now block) ⌝ }
     ensures { λ r. ⌜ EntryOf layout (now (block .entry)) x r ⌝ }
 {
     let spot = spot_of(block, layout, x);
+    let place = layout.width * spot.below + 1;
     if spot.inside {
         return Part {
-            place: layout.width * spot.below + 1,
+            place,
             length: layout.width,
         };
     }
-    Part {
-        place: 0,
-        length: 0,
-    }
+    Part { place, length: 0 }
 }
 
 // The number of the first refusal of the window a..b of a block: 1, 2, 3 of the block, then 4; 0 where there is none.

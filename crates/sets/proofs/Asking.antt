@@ -6,18 +6,18 @@ use mathlib.Core.List.{List, [], _∷_}
 use Prim.Native.Nat.{ℕ, zero, suc, _+_, _*_, _≤_, _<_, max}
 use native.Mathlib.Omega.{arith}
 use lib.ListN.{length, getD, drop}
-use borrow.Author.Tests.{le-leb, lt-leb}
 use Rattle.answers.specs.declared.Refusal.{Refusal}
 use Rattle.blocks.proofs.Items.{entries-count, entry-is}
 use Rattle.searches.specs.declared.Spot.{Spot}
 use Rattle.searches.specs.Steps.{SpotOf}
 use Rattle.searches.proofs.Spots.{spot-passed, next, inside-is, outside-is}
 use Rattle.entries.specs.Entries.{Entry}
-use Rattle.entries.specs.Sets.{Plain, M}
-use Rattle.entries.specs.Questions.{rangeAt, leastMember, leastFree}
+use Rattle.entries.specs.Sets.{Plain, M, has, member}
+use Rattle.entries.specs.Questions.{rangeAt, leastMember}
 use Rattle.entries.proofs.Windows.{Passed}
-use Rattle.entries.proofs.Finding.{least-at, least-end, free-under, free-in}
-use Rattle.entries.proofs.Questions.{range-in, range-out}
+use Rattle.entries.proofs.Finding.{least-at, least-end, behind-free}
+use Rattle.entries.proofs.Append.{value-index}
+use Rattle.entries.proofs.Questions.{range-in, range-out, non-member-is, non-member-none}
 use Rattle.answers.specs.Answers.{Answer, given, outcome, optional}
 use Rattle.answers.specs.Says.{refusalSays, refusalOf}
 use Rattle.answers.proofs.Numbers.{refused-as, given-as}
@@ -45,9 +45,6 @@ items-plain (suc n) ws = (refl, items-plain n (drop 2 ws))
 pub entries-plain : (w : List ℕ) → Plain (entriesOf 2 w)
 entries-plain w = items-plain (getD w 0 0) (drop 1 w)
 
-free-is : (es : List Entry) (x y : ℕ) → y ≤ M → leastFree es x ≡ y → given (y ∷ []) ≡ optional (nonMember es x)
-free-is es x y h q = sym (rw q (rw (le-leb y M h)))
-
 -- what the spot of x tells
 module _ {w : List ℕ} (b : SoundBlock setLayout w) {x : ℕ} {r : Spot} (g : SpotOf setLayout w x r) where
   here : Passed zero-item (entriesOf 2 w) x (r .below)
@@ -73,19 +70,26 @@ module _ {w : List ℕ} (b : SoundBlock setLayout w) {x : ℕ} {r : Spot} (g : S
         sym (ap optional (least-at zero-item (entriesOf 2 w) x (r .below) here (m .among) ∙ ap some k))
 
     pub free-here : x ≤ M → given (x ∷ []) ≡ optional (nonMember (entriesOf 2 w) x)
-    free-here m = free-is (entriesOf 2 w) x x m (free-under zero-item (entriesOf 2 w) x (r .below) (b .sound) here (outside-is (omega arith) b g t))
+    free-here m = sym (ap optional (non-member-is (entriesOf 2 w) x x (omega arith) m (sym (g .inside) ∙ t) (λ z p q. absurd (omega arith))))
 
   module _ (t : r .inside ≡ true) (high : ℕ) (q : high ≡ getD w (2 * r .below + 2) 0) where
-    free-past : leastFree (entriesOf 2 w) x ≡ suc high
-    free-past =
+    -- from x to the end of its range
+    in-range : (z : ℕ) → x ≤ z → z ≤ high → member (entriesOf 2 w) z ≡ true
+    in-range z p l =
         let i = inside-is (omega arith) b g t in
-        free-in zero-item (entriesOf 2 w) x (r .below) (entries-plain w) (b .sound) here (i .item .among) (i .from) ∙ ap suc (i .item .high ∙ sym q)
+        ap has (value-index (entriesOf 2 w) (r .below) zero-item (b .sound) (i .item .among) z (omega (arith, i .from)) (omega (arith, i .item .high)))
 
     pub free-none : high ≡ M → given [] ≡ optional (nonMember (entriesOf 2 w) x)
-    free-none z = sym (rw free-past (rw (lt-leb (suc high) M (omega arith))))
+    free-none e = sym (ap optional (non-member-none (entriesOf 2 w) x (λ z p l. in-range z p (omega arith))))
 
     pub free-next : high < M → given ((high + 1) ∷ []) ≡ optional (nonMember (entriesOf 2 w) x)
-    free-next z = let k : suc high ≡ high + 1 = omega arith in free-is (entriesOf 2 w) x (high + 1) (omega arith) (free-past ∙ k)
+    free-next l =
+        let i = inside-is (omega arith) b g t in
+        let k : suc ((getD (entriesOf 2 w) (r .below) zero-item) .high) ≡ high + 1 = omega (arith, i .item .high) in
+        let out : member (entriesOf 2 w) (high + 1) ≡ false =
+        ap (member (entriesOf 2 w)) (sym k) ∙ ap has (behind-free zero-item (entriesOf 2 w) (r .below) (entries-plain w) (b .sound) (i .item .among)) in
+        sym (ap optional (non-member-is (entriesOf 2 w) x (high + 1) (omega (arith, here .from (i .item .among), i .item .high)) (omega arith) out
+        (λ z p m. in-range z p (omega arith))))
 
 -- the range at an index
 module _ (w : List ℕ) (n k : ℕ) (e : n ≡ getD w 0 0) where

@@ -2,12 +2,10 @@
 use mathlib.Core.Option.{Option, none, some}
 use mathlib.Core.List.{List, [], _∷_}
 use Prim.Native.Nat.{ℕ}
-use lib.Dec.{leb}
 use lib.ListN.{length}
 use Rattle.entries.specs.Entries.{Entry}
-use Rattle.entries.specs.Build.{pick}
-use Rattle.entries.specs.Sets.{M, member, union, intersection, difference, symmetricDifference, complement}
-use Rattle.entries.specs.Questions.{rangeAt, sizeOf, leastMember, leastFree, isEmpty}
+use Rattle.entries.specs.Sets.{member, union, intersection, difference, symmetricDifference, complement}
+use Rattle.entries.specs.Questions.{rangeAt, sizeOf, leastMember, isEmpty}
 use Rattle.answers.specs.Answers.{Answer, given, Outcome, outcome, inTurn, truth, optional, lessOne}
 use Rattle.blocks.specs.Blocks.{setLayout, entriesOf}
 use Rattle.blocks.specs.Calls.{input, output, holding}
@@ -45,9 +43,9 @@ sizeCall w = asked w (λ es. lessOne (sizeOf es))
 unfoldable pub leastMemberCall : List ℕ → ℕ → Outcome
 leastMemberCall w x = asked w (λ es. optional (leastMember es x))
 
--- [S5] the least non-member at or above x; none where it would be above M
+-- [S5] the least non-member at or above x, or none: the least member of the complement within 0..M
 abbrev pub nonMember : List Entry → ℕ → Option ℕ
-nonMember es x = pick (leb (leastFree es x) M) (some (leastFree es x)) none
+nonMember es x = leastMember (complement es) x
 
 -- [S5] the same asked of a set block
 unfoldable pub leastNonMemberCall : List ℕ → ℕ → Outcome

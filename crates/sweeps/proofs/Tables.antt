@@ -25,8 +25,7 @@ use Rattle.entries.proofs.Building.{built}
 use Rattle.entries.proofs.Operations.{endOf, value-changes, value-ends, combined}
 use Rattle.entries.proofs.Taut.{taut2}
 use Rattle.entries.proofs.Sets.{difference-is, complement-lists}
-use Rattle.blocks.specs.Blocks.{itemOf, itemsOf, entriesOf, SoundBlock, Lent}
-use Rattle.blocks.proofs.Words.{Shaped}
+use Rattle.blocks.specs.Blocks.{itemOf, itemsOf, entriesOf, SoundBlock, Lent, Shaped}
 use Rattle.blocks.specs.declared.Layout.{Layout}
 use Rattle.blocks.proofs.Judging.{room-words}
 use Rattle.sweeps.specs.Sweeps.{accepts, firstOf, mixed, swept, result, Input, Bounded, widthOf, Fit, inEither, inBoth, firstAlone}

@@ -7,26 +7,24 @@ use native.Mathlib.Omega.{arith}
 use lib.Dec.{ltb, lit<, lit≤}
 use lib.ListN.{length, take, drop, length-append, length-drop, drop-of-length-le}
 use borrow.Author.Tests.{ltb-false, le-ltb}
-use Rattle.entries.specs.Entries.{Entry}
+use Rattle.entries.specs.Entries.{Entry, Each}
 use Rattle.answers.specs.Answers.{applies, Clear}
 use Rattle.answers.proofs.Turns.{applies-clear}
-use Rattle.blocks.specs.Blocks.{wordsOf}
+use Rattle.blocks.specs.Blocks.{wordsOf, Shaped}
 use Rattle.blocks.specs.declared.Layout.{Layout}
-use Rattle.blocks.proofs.Words.{Shaped}
 use Rattle.numbers.specs.Numbers.{Bytes, countsIn, countBytes}
 use Rattle.numbers.proofs.Numbers.{length-counts}
 use Rattle.records.specs.Records.{bodyLength, startRecord, allWithin}
 use Rattle.records.specs.Steps.{ItemKind}
-use Rattle.records.proofs.Said.{Fit}
 use Rattle.records.proofs.Heads.{Whole, record-inv, record-zero}
 use Rattle.records.proofs.Accepted.{start-bytes, record-whole, rest-laid, counts-back-in}
-use Rattle.runs.specs.Runs.{total, lengths, runsOf, runsIn, runsRefusals}
+use Rattle.runs.specs.Runs.{total, lengths, runsOf, runsIn, runsRefusals, Fine}
 use Rattle.runs.proofs.Turns.{length-record}
 use Rattle.runs.proofs.Running.{clear-split, clear-join, bytes-drop}
-use Rattle.runs.proofs.Several.{Each, Fine, many-lengths, all-within, runs-inv, counts-in, runs-fine, runs-fit, runs-back, runs-accept, length-runs}
+use Rattle.runs.proofs.Several.{many-lengths, all-within, runs-inv, counts-in, runs-fine, runs-lent, runs-back, runs-accept, length-runs}
 use Rattle.verdicts.specs.declared.Form.{Form}
 use Rattle.verdicts.specs.Forms.{ofSet, ofMap, ofBulletin, kindsOf, formOf, startSize, sizeOf, formCounts, formEntries, sharing, trailing}
-use Rattle.verdicts.specs.Forms.{overlap, formRefusals}
+use Rattle.verdicts.specs.Forms.{overlap, formRefusals, Formed}
 use Rattle.verdicts.specs.Steps.{Shape, lone, pair, FormKind}
 
 -- the three forms of 01
@@ -73,14 +71,6 @@ many-counts : (n : ℕ) (b : List ℕ) (q : ℕ) → length (countsIn n b q) ≡
 many-counts zero b q = refl
 many-counts (suc n) b q = ap suc (many-counts n b (q + 2))
 
--- b is the byte form of these runs: as many as the form has, each fine and of 64-bit words, and they share no number
-pub record Formed (f : Form) (b : List ℕ) (runs : List (List Entry)) : Type 0 where
-  pub form : b ≡ formOf f runs
-  pub many : length runs ≡ f .runs
-  pub fine : Each (Fine (f .layout .width) (f .layout .limit)) runs
-  pub fit : Each (λ es. Fit (wordsOf es)) runs
-  pub apart : sharing runs ≡ false
-
 module _ (f : Form) (k : FormKind f) where
   abbrev s : ℕ
   s = f .layout .width
@@ -120,7 +110,7 @@ module _ (f : Form) (k : FormKind f) where
             ∙ ap₂ (λ (m : List ℕ) (x : List ℕ). startRecord (f .mark) (f .start) m ++ x) (sym (counted b)) run;
         many = sym (many-lengths es) ∙ ap length (counted b) ∙ many-counts (f .runs) b 3;
         fine = runs-fine (f .mark) s (kindsOf f) ns d (f .layout .limit) (k .first .two) (r .sound) (i .1);
-        fit = runs-fit (f .mark) s (kindsOf f) ns d (bytes-drop a b y) (k .first .two);
+        lent = runs-lent (f .mark) s (kindsOf f) ns d (bytes-drop a b y) (k .first .two);
         apart = applies-clear (sharing es) 13 (t .1 .1 .0);
       }
 

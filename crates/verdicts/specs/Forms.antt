@@ -1,21 +1,22 @@
 -- A form is a value: the mark of its records, the kind of its start, the kind of the items of each run, and the layout of the blocks
 -- that hold a run. Here are the three of 01, the bytes of a form, what bytes say that are one, and the refusals of reading them.
 use Prim.Native.Nat.{ℕ, suc, _+_, _*_}
+use mathlib.Core.Path.{_≡_}
 use mathlib.Core.Bool.{Bool, false}
 use mathlib.Core.List.{List, [], _∷_, _++_}
 use lib.Dec.{ltb}
 use lib.ListN.{length, take, drop}
-use Rattle.entries.specs.Entries.{Entry}
+use Rattle.entries.specs.Entries.{Each, Entry}
 use Rattle.entries.specs.Bulletins.{shareb}
 use Rattle.answers.specs.Answers.{at, applies}
 use Rattle.answers.specs.declared.Finding.{Finding}
-use Rattle.blocks.specs.Blocks.{setLayout, mapLayout, capacity}
+use Rattle.blocks.specs.Blocks.{setLayout, mapLayout, capacity, wordsOf, Lent}
 use Rattle.blocks.specs.Calls.{output}
 use Rattle.blocks.specs.declared.Layout.{Layout}
 use Rattle.numbers.specs.Numbers.{countsIn}
 use Rattle.records.specs.Records.{startRecord, startVerdict}
 use Rattle.verdicts.specs.declared.Form.{Form}
-use Rattle.runs.specs.Runs.{total, lengths, runsOf, runsIn, runsRefusals}
+use Rattle.runs.specs.Runs.{Fine, total, lengths, runsOf, runsIn, runsRefusals}
 
 -- [Y2] «the mark C5 3A»
 abbrev pub formMark : ℕ
@@ -69,6 +70,14 @@ abbrev pub sharing : List (List Entry) → Bool
 sharing [] = false
 sharing (es ∷ []) = false
 sharing (es ∷ fs ∷ runs) = shareb es fs
+
+-- [D4, Y10] b is the byte form of these runs: as many as the form has, each fine and of 64-bit words, and they share no number
+pub record Formed (f : Form) (b : List ℕ) (runs : List (List Entry)) : Type 0 where
+  pub form : b ≡ formOf f runs
+  pub many : length runs ≡ f .runs
+  pub fine : Each (Fine (f .layout .width) (f .layout .limit)) runs
+  pub lent : Each (λ es. Lent (wordsOf es)) runs
+  pub apart : sharing runs ≡ false
 
 -- [R14, Y15] «14 Overlap: .. | 0»
 abbrev pub overlap : List (List Entry) → Finding
