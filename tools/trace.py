@@ -17,15 +17,15 @@ PAGE = os.path.join(antt.ROOT, "docs", "TRACE.md")
 COLUMNS = ["definitions", "theorems", "edits", "tests", "code"]
 # What a requirement needs, by the letter of its number.
 NEEDS = {
-    **{letter: ["definitions", "theorems", "edits", "tests"] for letter in "BRSFMU"},
-    "Y": ["definitions", "theorems"],
-    "H": ["tests"],
+    **{letter: ["definitions", "theorems", "edits", "tests"] for letter in "BRSFMUYH"},
     "D": ["theorems"],
     "N": ["tests"],
     "G": ["code"],
 }
+# What one that differs from its kind needs: the program is run.
+OWN_NEEDS = {"H3": ["tests", "code"]}
 # Programs and tables of tests, where a line says in a comment which requirement it is about.
-TESTS = ["crates/demands/proofs/Table.antt", "crates/cases/src/main.rt", "crates/inputs/src/main.rt", "tests/c/member.c", "tests/differential/damage.py"]
+TESTS = ["crates/demands/proofs/Table.antt", "crates/forms/proofs/Cases.antt", "crates/cases/src/main.rt", "crates/inputs/src/main.rt", "tests/c/member.c", "tests/differential/damage.py"]
 
 
 class Trace:
@@ -131,7 +131,7 @@ def main():
     for collect in (declared, edited, coded, tested, called):
         collect(trace)
     for n in trace.numbers:
-        for column in NEEDS[n[0]]:
+        for column in OWN_NEEDS.get(n, NEEDS[n[0]]):
             if not trace.cells[n][column]:
                 trace.faults.append(f"{n} has no {column}")
     made = page(trace)

@@ -12,7 +12,7 @@ use Rattle.blocks.specs.Blocks.{setLayout, mapLayout, entriesOf, blockOf}
 use Rattle.blocks.specs.Calls.{output, backwards, room}
 use Rattle.blocks.proofs.Judging.{verdict-sound}
 use Rattle.searches.specs.Parts.{noPart}
-use Rattle.searches.specs.Calls.{windowPart, windowCall, windowRefusalCall, windowAtCall, entryPart}
+use Rattle.searches.specs.Calls.{windowPart, windowCall, windowRefusalCall, windowAtCall}
 use Rattle.sweeps.proofs.Tables.{bounded}
 use Rattle.edits.specs.Calls.{edited, editCall}
 use Rattle.operations.specs.Calls.{twoRefusals, oneRefusals}
@@ -90,7 +90,7 @@ later-reserve w v s fit a b k =
     rw (s .long, h) (turn-alike _ _ (backwards a b ∷ zeroRun k ∷ noGap place ∷ room 0 setLayout (length v) (reservedAt v (placeOf place) k) ∷ []) _ _))
 
 pub later-site : LaterSite
-unfolding siteOverFactoryCall siteOverFactoryAtCall siteRefusalCall entryPart
+unfolding siteOverFactoryCall siteOverFactoryAtCall siteRefusalCall
 later-site site factory site′ factory′ s t x = (
   inputs-alike (λ y z. handed y (deciding site factory x) (partIn 0 noPart) ≡ handed z (deciding site′ factory′ x) (partIn 0 noPart)) [] [] (λ n p. refl)
       mapLayout (omega arith) 0 (site ∷ factory ∷ []) (site′ ∷ factory′ ∷ []) (s, (t, tt)) [] [] _ _ (λ e. cc),

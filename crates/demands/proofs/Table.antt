@@ -85,6 +85,13 @@ H = 0xC5 ∷ 0x3A ∷ 0x01 ∷ 0x00 ∷ 0x01 ∷ 0x04 ∷ 0x02 ∷ 0xC5 ∷ 0x3A
 abbrev I : List ℕ
 I = 0xC5 ∷ 0x3A ∷ 0x01 ∷ 0x00 ∷ 0x00 ∷ 0x03 ∷ 0x01 ∷ []
 
+-- the bytes of the map {0..9 is 1}, and of the bulletin that releases 1..4 and withdraws 9..9
+abbrev oneEntry : List ℕ
+oneEntry = 0xC5 ∷ 0x3A ∷ 2 ∷ 0 ∷ 1 ∷ 7 ∷ 3 ∷ 0xC5 ∷ 0x3A ∷ 0x11 ∷ 0 ∷ 0 ∷ 0 ∷ 0 ∷ 0 ∷ 0 ∷ 0 ∷ 0 ∷ 0 ∷ 0 ∷ 0 ∷ 0 ∷ 0 ∷ 0 ∷ 0 ∷ 9 ∷ 0 ∷ 0 ∷ 0 ∷ 0 ∷ 0 ∷ 0 ∷ 0 ∷ 1 ∷ 0xFC ∷ 0x1B ∷ []
+
+abbrev oneEach : List ℕ
+oneEach = 0xC5 ∷ 0x3A ∷ 3 ∷ 0 ∷ 1 ∷ 0 ∷ 1 ∷ 0x13 ∷ 5 ∷ 0xC5 ∷ 0x3A ∷ 0x12 ∷ 0 ∷ 0 ∷ 0 ∷ 0 ∷ 0 ∷ 0 ∷ 0 ∷ 1 ∷ 0 ∷ 0 ∷ 0 ∷ 0 ∷ 0 ∷ 0 ∷ 0 ∷ 4 ∷ 0x40 ∷ 0x17 ∷ 0xC5 ∷ 0x3A ∷ 0x13 ∷ 0 ∷ 0 ∷ 0 ∷ 0 ∷ 0 ∷ 0 ∷ 0 ∷ 9 ∷ 0 ∷ 0 ∷ 0 ∷ 0 ∷ 0 ∷ 0 ∷ 0 ∷ 9 ∷ 0x9E ∷ 0x25 ∷ []
+
 abbrev table : List Case
 table =
     -- [N-A, B1, B2] empty, insert 5..9
@@ -116,13 +123,25 @@ table =
     -- [N-G] {0..9 is 1}: assign 2 to 3..5 gives three entries; then assign 1 to 3..5 gives {0..9 is 1}
     ∷ case (assignCall (1 ∷ 0 ∷ 9 ∷ 1 ∷ 0 ∷ 0 ∷ 0 ∷ 0 ∷ 0 ∷ 0 ∷ []) 3 5 2) (accepted (3 ∷ 0 ∷ 2 ∷ 1 ∷ 3 ∷ 5 ∷ 2 ∷ 6 ∷ 9 ∷ 1 ∷ []))
     ∷ case (assignCall (3 ∷ 0 ∷ 2 ∷ 1 ∷ 3 ∷ 5 ∷ 2 ∷ 6 ∷ 9 ∷ 1 ∷ []) 3 5 1) (accepted (1 ∷ 0 ∷ 9 ∷ 1 ∷ 0 ∷ 0 ∷ 0 ∷ 0 ∷ 0 ∷ 0 ∷ []))
-    -- [N-H, R11] {5..9}, read and written; with its last byte 1F refused 11 at 7
+    -- [N-H, R11, Y1, Y2, Y3, Y6, Y10, Y11, Y16] {5..9}, read and written; with its last byte 1F refused 11 at 7
     ∷ case (readSetCall H (7 ∷ 7 ∷ 7 ∷ 7 ∷ 7 ∷ [])) (accepted (1 ∷ 5 ∷ 9 ∷ 0 ∷ 0 ∷ []))
     ∷ case (writeSetCall (1 ∷ 5 ∷ 9 ∷ []) (replicate 30 7) 1) (outcome (given (28 ∷ [])) ((7 ∷ (H ++ (7 ∷ []))) ∷ []))
     ∷ case (readSetCall (take 27 H ++ (0x1F ∷ [])) (7 ∷ 7 ∷ 7 ∷ [])) (refusing 11 7 (7 ∷ 7 ∷ 7 ∷ []))
     -- [N-I] the empty set, read and written
     ∷ case (readSetCall I (7 ∷ [])) (accepted (0 ∷ []))
     ∷ case (writeSetCall (0 ∷ []) (replicate 7 7) 0) (outcome (given (7 ∷ [])) (I ∷ []))
+    -- [Y4, Y7, Y10] the bytes of a map, read and written
+    ∷ case (readMapCall oneEntry (7 ∷ 7 ∷ 7 ∷ 7 ∷ 7 ∷ [])) (accepted (1 ∷ 0 ∷ 9 ∷ 1 ∷ 0 ∷ []))
+    ∷ case (writeMapCall (1 ∷ 0 ∷ 9 ∷ 1 ∷ []) (replicate 36 7) 0) (outcome (given (36 ∷ [])) (oneEntry ∷ []))
+    -- [Y5, Y8, Y10, R15] the bytes of a bulletin, read and written, and written where there is one byte too few
+    ∷ case (readBulletinCall oneEach (7 ∷ 7 ∷ 7 ∷ []) (7 ∷ 7 ∷ 7 ∷ [])) (outcome (given []) ((1 ∷ 1 ∷ 4 ∷ []) ∷ (1 ∷ 9 ∷ 9 ∷ []) ∷ []))
+    ∷ case (writeBulletinCall (1 ∷ 1 ∷ 4 ∷ []) (1 ∷ 9 ∷ 9 ∷ []) (replicate 51 7) 0) (outcome (given (51 ∷ [])) (oneEach ∷ []))
+    ∷ case (writeBulletinCall (1 ∷ 1 ∷ 4 ∷ []) (1 ∷ 9 ∷ 9 ∷ []) (replicate 51 7) 1) (refusing 15 0 (replicate 51 7))
+    -- [Y9, R10, Y12] kinds that there are not, and a map's bytes where a set is asked for: refused 10 at 0
+    ∷ case (readSetCall (0xC5 ∷ 0x3A ∷ 0 ∷ drop 3 H) (7 ∷ [])) (refusing 10 0 (7 ∷ []))
+    ∷ case (readSetCall (0xC5 ∷ 0x3A ∷ 4 ∷ drop 3 H) (7 ∷ [])) (refusing 10 0 (7 ∷ []))
+    ∷ case (readSetCall (0xC5 ∷ 0x3A ∷ 0xFF ∷ drop 3 H) (7 ∷ [])) (refusing 10 0 (7 ∷ []))
+    ∷ case (readSetCall oneEntry (7 ∷ [])) (refusing 10 0 (7 ∷ []))
     -- [N-J] earlier releases 1..4; later releases 9..9 and withdraws 3..3
     ∷ case (foldCall (1 ∷ 1 ∷ 4 ∷ []) (0 ∷ []) (1 ∷ 9 ∷ 9 ∷ []) (1 ∷ 3 ∷ 3 ∷ []) (7 ∷ 7 ∷ 7 ∷ 7 ∷ 7 ∷ 7 ∷ 7 ∷ 7 ∷ []) (7 ∷ 7 ∷ 7 ∷ 7 ∷ []))
     (outcome (given []) ((3 ∷ 1 ∷ 2 ∷ 4 ∷ 4 ∷ 9 ∷ 9 ∷ 0 ∷ []) ∷ (1 ∷ 3 ∷ 3 ∷ 0 ∷ []) ∷ []))

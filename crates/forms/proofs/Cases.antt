@@ -20,7 +20,7 @@ caseH = 0xC5 ∷ 0x3A ∷ 0x01 ∷ 0x00 ∷ 0x01 ∷ 0x04 ∷ 0x02 ∷ 0xC5 ∷ 
 abbrev caseI : List ℕ
 caseI = 0xC5 ∷ 0x3A ∷ 0x01 ∷ 0x00 ∷ 0x00 ∷ 0x03 ∷ 0x01 ∷ []
 
--- each refusal of reading a set: 8 before and inside a record, 9, 10, 13, then 1 and 5 of the output
+-- [R8, R9, R10, R13, Y12, Y13, Y15] each refusal of reading a set: 8 before and inside a record, 9, 10, 13, then 1 and 5 of the output
 set-refusals :
     readSetCall [] [] ∷ readSetCall (take 6 caseI) [] ∷ readSetCall (take 7 caseH) [] ∷ readSetCall (take 27 caseH) []
     ∷ readSetCall (0xC5 ∷ 0x3B ∷ drop 2 caseH) [] ∷ readSetCall (mapForm []) [] ∷ readSetCall (caseH ++
@@ -31,7 +31,7 @@ unfolding formOf runsOf runOf saying readCall formRefusals formEntries runsRefus
     fletcher blockOf
 set-refusals = refl
 
--- 12 blames the later of two items: backwards, touching in a set, touching with the same value in a map; other values may touch
+-- [R12, Y13, Y14] 12 blames the later of two items: backwards, touching in a set, touching with the same value in a map; other values may touch
 contents :
     readSetCall (setForm (entry 9 5 [] ∷ [])) [] ∷ readSetCall (setForm (entry 1 4 [] ∷ entry 5 6 [] ∷ [])) []
     ∷ readMapCall (mapForm (entry 1 4 (2 ∷ []) ∷ entry 5 6 (2 ∷ []) ∷ [])) []
@@ -42,7 +42,7 @@ unfolding formOf runsOf runOf saying readCall formRefusals formEntries runsRefus
     fletcher blockOf
 contents = refl
 
--- a bulletin that releases 1..4 and withdraws 9..9, and one whose sets overlap
+-- [R14, Y15] a bulletin that releases 1..4 and withdraws 9..9, and one whose sets overlap
 bulletins :
     readBulletinCall (bulletinForm (entry 1 4 [] ∷ []) (entry 9 9 [] ∷ [])) (7 ∷ 7 ∷ 7 ∷ []) (7 ∷ 7 ∷ 7 ∷ 7 ∷ [])
     ∷ readBulletinCall (bulletinForm (entry 1 4 [] ∷ []) (entry 3 9 [] ∷ [])) [] [] ∷ []
@@ -51,7 +51,7 @@ unfolding formOf runsOf runOf saying readCall formRefusals formEntries runsRefus
     fletcher blockOf shareb intersection
 bulletins = refl
 
--- «1 member, 0 not, 16 plus the refusal number»
+-- [H1, H2] «1 member, 0 not, 16 plus the refusal number»
 judgedAlone : judgeSetCall caseH ∷ judgeSetCall (take 27 caseH) ∷ [] ≡ outcome (given (1 ∷ [])) [] ∷ outcome (refused 8 7) [] ∷ []
 unfolding judgeCall formRefusals formEntries runsRefusals runRefusals runsIn entriesIn said recordVerdict bodyLength checkOf fletcher
 judgedAlone = refl

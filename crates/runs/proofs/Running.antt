@@ -78,7 +78,7 @@ entries-shaped kind s (suc n) b h =
           (8 * s + 5) b) h,
     )
 
-lent-cons : (w : ℕ) (ws : List ℕ) → w < pastM → Lent ws → Lent (w ∷ ws)
+pub lent-cons : (w : ℕ) (ws : List ℕ) → w < pastM → Lent ws → Lent (w ∷ ws)
 lent-cons w ws p q zero = p
 lent-cons w ws p q (suc j) = q j
 
@@ -87,12 +87,12 @@ lent-append [] b p q = q
 lent-append (w ∷ a) b p q = lent-cons w (a ++ b) (p 0) (lent-append a b (λ j. p (suc j)) q)
 
 lent-words : (b : List ℕ) → Bytes b → (n q : ℕ) → Lent (wordsIn n b q)
-lent-words b y zero q j = lit< tt
+lent-words b y zero q = λ j. lit< tt
 lent-words b y (suc n) q = lent-cons (num8 b q) (wordsIn n b (q + 8)) (word-fits b y q) (lent-words b y n (q + 8))
 
 pub entries-lent : (kind s n : ℕ) (b : List ℕ) → Bytes b → 2 ≤ s → Lent (wordsOf (entriesIn kind s n b))
 unfolding entriesIn
-entries-lent kind s zero b y h j = lit< tt
+entries-lent kind s zero b y h = λ j. lit< tt
 entries-lent kind s (suc n) b y h =
     let ws = wordsIn s b 3 in
     lent-append (entryWords (entryIn kind s b)) (wordsOf (entriesIn kind s n (drop (8 * s + 5) b)))
