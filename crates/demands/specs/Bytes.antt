@@ -1,7 +1,9 @@
 -- BYTES: reading accepts exactly the byte forms, writing gives back the bytes read; the C host's question is reading and then membership.
 use mathlib.Core.Path.{_≡_}
+use mathlib.Core.Logic.{_⊎_}
 use mathlib.Core.List.{List, [], _∷_}
 use Prim.Native.Nat.{ℕ, _+_, _*_, _≤_}
+use lib.Dec.{ltb}
 use lib.ListN.{length, getD, take, drop}
 use Rattle.entries.specs.Entries.{Entry}
 use Rattle.entries.specs.Build.{pick}
@@ -38,6 +40,21 @@ ReadExactly = (f : Form) → OfThree f → (b : List ℕ) → Bytes b → (outs 
 abbrev pub WholeForm : Type 0
 WholeForm = (f : Form) → OfThree f → (b : List ℕ) → Bytes b → (outs ws : List (List ℕ)) → readCall f b outs ≡ outcome (given []) ws
     → (r : Read f b outs ws) → b ≡ formOf f (r .runs)
+
+-- the highest number with which reading a form refuses its bytes: 13, and 14 where there are two sets to share a number
+abbrev pub lastOfBytes : Form → ℕ
+lastOfBytes f = pick (ltb 1 (f .runs)) 14 13
+
+-- the bytes are a form
+pub record IsForm (f : Form) (b : List ℕ) : Type 0 where
+  pub runs : List (List Entry)
+  pub form : Formed f b runs
+
+-- [R17, Y15] READING'S REFUSALS: bytes that are no form are refused with 8 to 13, a bulletin's also with 14; a form with 1 or 5, for its
+-- outputs
+abbrev pub ReadRefusals : Type 0
+ReadRefusals = (f : Form) → OfThree f → (b : List ℕ) → Bytes b → (outs after : List (List ℕ)) (n p : ℕ) → readCall f b outs ≡ refuse n p after
+    → ((8 ≤ n) × (n ≤ lastOfBytes f) × (IsForm f b → ⊥)) ⊎ (((n ≡ 1) ⊎ (n ≡ 5)) × IsForm f b)
 
 -- [D4, Y1] writing into enough bytes gives back the bytes read
 abbrev pub ReadWritten : Type 0
