@@ -38,6 +38,11 @@ pub numbered-both : (P : ℕ → Type 0) (fs gs : List Finding) → Numbered P f
 numbered-both P [] gs a b = b
 numbered-both P (f ∷ fs) gs a b = (a .0, numbered-both P fs gs (a .1) b)
 
+-- what follows from what holds of them
+pub numbered-so : (P Q : ℕ → Type 0) → ((n : ℕ) → P n → Q n) → (fs : List Finding) → Numbered P fs → Numbered Q fs
+numbered-so P Q h [] a = tt
+numbered-so P Q h (f ∷ fs) a = (λ z. h (f .number) (a .0 z), numbered-so P Q h fs (a .1))
+
 -- the number of the first that applies is one of theirs
 pub named-number : (P : ℕ → Type 0) (fs : List Finding) {n p : ℕ} → Numbered P fs → Named fs n p → P n
 named-number P fs a m = subst P (m .number) (go fs a (m .index) (m .first .here))

@@ -2,15 +2,16 @@
 use mathlib.Core.Path.{_≡_}
 use mathlib.Core.Logic.{_⊎_}
 use mathlib.Core.List.{List, [], _∷_}
-use Prim.Native.Nat.{ℕ, _+_, _*_, _≤_}
+use Prim.Native.Nat.{ℕ, _+_, _*_, _≤_, _<_}
 use lib.Dec.{ltb}
 use lib.ListN.{length, getD, take, drop}
 use Rattle.entries.specs.Entries.{Entry}
 use Rattle.entries.specs.Build.{pick}
 use Rattle.answers.specs.Answers.{given, refused, outcome, refuse, Keeps, Clear}
-use Rattle.blocks.specs.Blocks.{setLayout, mapLayout, entriesOf}
+use Rattle.blocks.specs.Blocks.{setLayout, mapLayout, capacity, entriesOf}
 use Rattle.numbers.specs.Numbers.{Bytes, patch}
 use Rattle.runs.specs.Runs.{lengths}
+use Rattle.runs.proofs.Several.{Each}
 use Rattle.verdicts.specs.declared.Form.{Form}
 use Rattle.verdicts.specs.Forms.{ofSet, ofMap, ofBulletin, formOf, outRefusals}
 use Rattle.verdicts.proofs.Whole.{Formed}
@@ -55,6 +56,19 @@ pub record IsForm (f : Form) (b : List ℕ) : Type 0 where
 abbrev pub ReadRefusals : Type 0
 ReadRefusals = (f : Form) → OfThree f → (b : List ℕ) → Bytes b → (outs after : List (List ℕ)) (n p : ℕ) → readCall f b outs ≡ refuse n p after
     → ((8 ≤ n) × (n ≤ lastOfBytes f) × (IsForm f b → ⊥)) ⊎ (((n ≡ 1) ⊎ (n ≡ 5)) × IsForm f b)
+
+-- the bytes are a form, every output has words, and output i is the first without room for its run
+pub record NoRoomFor (f : Form) (b : List ℕ) (outs : List (List ℕ)) (i : ℕ) : Type 0 where
+  pub runs : List (List Entry)
+  pub form : Formed f b runs
+  pub words : Each (λ (out : List ℕ). 0 < length out) outs
+  pub before : (k : ℕ) → k < i → getD (lengths runs) k 0 ≤ capacity (f .layout) (getD (lengths outs) k 0)
+  pub here : capacity (f .layout) (getD (lengths outs) i 0) < getD (lengths runs) i 0
+
+-- [R5, Y15] ROOM exactly: reading is refused with 5 for output i exactly there
+abbrev pub ReadRoom : Type 0
+ReadRoom = (f : Form) → OfThree f → (b : List ℕ) → Bytes b → (outs : List (List ℕ)) → length outs ≡ f .runs → (i : ℕ)
+    → Iff (readCall f b outs ≡ refuse 5 i outs) (NoRoomFor f b outs i)
 
 -- [D4, Y1] writing into enough bytes gives back the bytes read
 abbrev pub ReadWritten : Type 0
