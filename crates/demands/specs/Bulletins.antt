@@ -1,7 +1,7 @@
 -- BULLETINS: what applying and folding leave, and the laws of folding, said of accepted calls and their words.
 use mathlib.Core.Path.{_≡_}
 use mathlib.Core.List.{List, [], _∷_}
-use Prim.Native.Nat.{ℕ, _<_}
+use Prim.Native.Nat.{ℕ, _≤_, _<_}
 use lib.ListN.{length}
 use Rattle.entries.specs.Sets.{member}
 use Rattle.entries.proofs.Bulletins.{amend, Apart}
@@ -57,3 +57,20 @@ ApplyRoom = (list released withdrawn out : List ℕ)
     → Iff (applyCall list released withdrawn out ≡ refuse 5 3 (out ∷ []))
     (SoundSet list × SoundSet released × SoundSet withdrawn × (0 < length out) × NoCommon released withdrawn
     × (capacity setLayout (length out) < length (amendedWith list released withdrawn)))
+
+-- four sound inputs, outputs that have words, and two bulletins, neither with a number in both of its sets
+pub record Foldable (r₁ w₁ r₂ w₂ outR outW : List ℕ) : Type 0 where
+  pub sound : SoundSet r₁ × SoundSet w₁ × SoundSet r₂ × SoundSet w₂
+  pub words : (0 < length outR) × (0 < length outW)
+  pub earlier : NoCommon r₁ w₁
+  pub later : NoCommon r₂ w₂
+
+-- [R5, R17] ROOM exactly: nothing earlier applies, and the released set that results does not fit its output; or it does, and the withdrawn
+-- set does not
+abbrev pub FoldRoom : Type 0
+FoldRoom = (r₁ w₁ r₂ w₂ outR outW : List ℕ)
+    → Iff (foldCall r₁ w₁ r₂ w₂ outR outW ≡ refuse 5 4 (outR ∷ outW ∷ []))
+    (Foldable r₁ w₁ r₂ w₂ outR outW × (capacity setLayout (length outR) < length (amendedWith r₁ r₂ w₂)))
+    × Iff (foldCall r₁ w₁ r₂ w₂ outR outW ≡ refuse 5 5 (outR ∷ outW ∷ []))
+    (Foldable r₁ w₁ r₂ w₂ outR outW × (length (amendedWith r₁ r₂ w₂) ≤ capacity setLayout (length outR))
+    × (capacity setLayout (length outW) < length (amendedWith w₁ w₂ r₂)))
