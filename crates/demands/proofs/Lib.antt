@@ -15,5 +15,6 @@ pub mod Bulletins
 pub mod Bytes
 pub mod Forms
 pub mod Reading
+pub mod OneForm
 pub mod Folding
 pub mod Table
