@@ -39,14 +39,10 @@ PARTS = [
 ]
 # What the code promises itself; no theorem and no contract of a user's call names it.
 INNER = {"Steps"}
-# What the theorems name that stands beside laws: two laws for a definition that need not be read, and when bytes are a form.
+# Two laws that stand for a definition that need not be read.
 LAWS = [
     ("entries", "Building", "built"),
     ("entries", "Canon", "canonical"),
-    ("verdicts", "Whole", "Formed"),
-    ("runs", "Several", "Each"),
-    ("runs", "Several", "Fine"),
-    ("records", "Said", "Fit"),
 ]
 
 
@@ -83,7 +79,7 @@ def page():
                     text, n = entry(item.comment, item.lines)
                     out += text
                     counts[heading] += n
-    out += ["### What the theorems name besides: two laws that stand for `build`, and when bytes are a form", ""]
+    out += ["### Two laws that stand for `build`", ""]
     for crate, module, name in LAWS:
         item = next(i for i in antt.items(os.path.join("crates", crate, "proofs", module + ".antt")) if i.name == name)
         text, n = entry(item.comment, item.statement())
@@ -102,7 +98,19 @@ def page():
     return "\n".join(out)
 
 
+def unread():
+    """Definitions to be believed that would not stand on the page: what specs/ takes from proofs/ or from a file of inner promises."""
+    for crate, module, path in antt.antt_files("specs"):
+        for line in antt.read(path).splitlines():
+            taken = re.match(r"use Rattle·\w+(?:·\w+)?\.(proofs|specs)\.(?:specs\.|proofs\.)?(\w+)", line)
+            if taken and (taken.group(1) == "proofs" or taken.group(2) in INNER) and module not in INNER and crate != "sweeps":
+                yield f"{path}: {line}"
+
+
 def main():
+    faults = list(unread())
+    if faults:
+        sys.exit("statements: a definition that must be believed stands outside of what is shown:\n" + "\n".join(faults))
     made = page()
     if sys.argv[1:] == ["--check"]:
         if not os.path.exists(PAGE) or antt.read("docs", "STATEMENTS.md") != made:

@@ -4,10 +4,12 @@ use mathlib.Core.List.{List, [], _∷_, _++_, append-assoc}
 use Prim.Native.Nat.{ℕ, zero, suc, _+_, _*_, _-_, _≤_, _<_}
 use native.Mathlib.Omega.{arith}
 use native.Mathlib.Nat.{mul-suc}
-use lib.ListN.{length, getD, take, drop, length-append, length-take, length-drop}
+use lib.Dec.{lit<}
+use lib.ListN.{replicate, length, getD, take, drop, length-append, length-take, length-drop}
 use lib.Seq.{take-add, drop-drop, take-at, drop-at}
 use Rattle.entries.specs.Entries.{Entry, entry}
-use Rattle.blocks.specs.Blocks.{itemOf, itemsOf, wordsOf, Shaped}
+use Rattle.entries.specs.Sets.{pastM}
+use Rattle.blocks.specs.Blocks.{itemOf, itemsOf, wordsOf, Shaped, blockOf, Lent}
 
 pub words-append : (a b : List Entry) → wordsOf (a ++ b) ≡ wordsOf a ++ wordsOf b
 words-append [] b = refl
@@ -82,3 +84,22 @@ module _ (s : ℕ) (two : 2 ≤ s) where
   item-at (suc n) (suc i) ws d h =
       let k : s + s * i ≡ s * suc i = omega (arith, mul-suc s i) in
       item-at n i (drop s ws) d (omega arith) ∙ ap (itemOf s) (drop-drop (s * i) s ws ∙ ap (λ (m : ℕ). drop m ws) k)
+
+-- WORDS below 2^64: one before others, one list before another, zeros, and the block of entries whose words are
+pub lent-cons : (w : ℕ) (ws : List ℕ) → w < pastM → Lent ws → Lent (w ∷ ws)
+lent-cons w ws p q zero = p
+lent-cons w ws p q (suc j) = q j
+
+pub lent-append : (ws vs : List ℕ) → Lent ws → Lent vs → Lent (ws ++ vs)
+lent-append [] vs p q = q
+lent-append (w ∷ ws) vs p q = lent-cons w (ws ++ vs) (p 0) (lent-append ws vs (λ j. p (suc j)) q)
+
+pub lent-zeros : (n : ℕ) → Lent (replicate n 0)
+lent-zeros zero = λ j. lit< tt
+lent-zeros (suc n) = lent-cons 0 (replicate n 0) (lit< tt) (lent-zeros n)
+
+pub lent-block : (L : ℕ) (es : List Entry) → length es < pastM → Lent (wordsOf es) → Lent (blockOf L es)
+unfolding blockOf
+lent-block L es h k =
+    let z = L - (1 + length (wordsOf es)) in
+    lent-cons (length es) (wordsOf es ++ replicate z 0) h (lent-append (wordsOf es) (replicate z 0) k (lent-zeros z))

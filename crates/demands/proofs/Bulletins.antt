@@ -29,17 +29,12 @@ use Rattle.bulletins.specs.Calls.{applyRefusals, applyCall, foldRefusals, foldC
 use Rattle.answers.specs.Steps.{numberAt}
 use Rattle.answers.proofs.Turns.{turn-keeps, turn-accepted, clear-turn, clear-at}
 use Rattle.demands.specs.Plain.{SetLeft}
+use Rattle.demands.specs.Bulletins.{Bulletin, Effect}
 use Rattle.demands.proofs.Sets.{one-form, disjoint-means, means-disjoint}
 
 -- accepted, with the words of each output as they then are
 abbrev pub accepted : List (List ℕ) → Outcome
 accepted after = outcome (given []) after
-
--- «A bulletin is two set blocks with no number in common, released R and withdrawn W, in that order.»
-pub record Bulletin (released withdrawn : List ℕ) : Type 0 where
-  pub released-sound : verdict setLayout released ≡ 0
-  pub withdrawn-sound : verdict setLayout withdrawn ≡ 0
-  pub apart : Apart (entriesOf 2 released) (entriesOf 2 withdrawn)
 
 -- REFUSED: nothing lent is changed
 pub apply-keeps : (list released withdrawn out : List ℕ) → Keeps (out ∷ []) (applyCall list released withdrawn out)
@@ -68,7 +63,7 @@ apart-overlap r w h = go (intersection r w) (means-disjoint r w h)
 
 -- the block of an amended list, in a block of L words that has room for it
 module _ (L : ℕ) (s r w : List Entry) where
-  amended-entries : entriesOf 2 (blockOf L (amended s r w)) ≡ amended s r w
+  pub amended-entries : entriesOf 2 (blockOf L (amended s r w)) ≡ amended s r w
   amended-entries = entries-stored 2 (omega arith) L (amended s r w) (plain-shaped (amended s r w) (amended-is s r w .plain))
 
   amended-left : noBlock L ≡ 0 → noRoom setLayout L (amended s r w) ≡ 0
@@ -85,11 +80,11 @@ module _ (L : ℕ) (s r w : List Entry) where
       }
 
 -- an accepted application
-record Applied (list released withdrawn out after : List ℕ) : Type 0 where
-  clear : (i : ℕ) → numberAt (applyRefusals list released withdrawn (length out)) i ≡ 0
-  words : after ≡ blockOf (length out) (amended (entriesOf 2 list) (entriesOf 2 released) (entriesOf 2 withdrawn))
+pub record Applied (list released withdrawn out after : List ℕ) : Type 0 where
+  pub clear : (i : ℕ) → numberAt (applyRefusals list released withdrawn (length out)) i ≡ 0
+  pub words : after ≡ blockOf (length out) (amended (entriesOf 2 list) (entriesOf 2 released) (entriesOf 2 withdrawn))
 
-applied : (list released withdrawn out after : List ℕ) → applyCall list released withdrawn out ≡ accepted (after ∷ [])
+pub applied : (list released withdrawn out after : List ℕ) → applyCall list released withdrawn out ≡ accepted (after ∷ [])
     → Applied list released withdrawn out after
 unfolding applyCall
 applied list released withdrawn out after e =
@@ -332,11 +327,7 @@ pub fold-either-order : (r₁ w₁ r₂ w₂ outR outW outR′ outW′ R W R′ 
 fold-either-order r₁ w₁ r₂ w₂ outR outW outR′ outW′ R W R′ W′ p q a b l m =
     same-words (foldCall r₂ w₂ r₁ w₁ outR′ outW′) R W R′ W′ (fold-other-order r₁ w₁ r₂ w₂ outR outW outR′ outW′ R W p q a l m) b
 
--- THE SAME EFFECT: two bulletins that do the same to every serial, listed before or not, hold the same ranges. A lent block's words are
--- below 2^64.
-abbrev pub Effect : List ℕ → List ℕ → Bool → ℕ → Bool
-Effect released withdrawn listed x = amend listed (member (entriesOf 2 released) x) (member (entriesOf 2 withdrawn) x)
-
+-- THE SAME EFFECT: two bulletins that do the same to every serial, listed before or not, hold the same ranges
 module _ (r w r′ w′ : List ℕ) (b : Bulletin r w) (b′ : Bulletin r′ w′) (lr : Lent r) (lw : Lent w) (lr′ : Lent r′) (lw′ : Lent w′)
     (h : (listed : Bool) (x : ℕ) → x ≤ M → Effect r w listed x ≡ Effect r′ w′ listed x) where
   outside : (v : List ℕ) → Lent v → (x : ℕ) → pastM ≤ x → member (entriesOf 2 v) x ≡ false

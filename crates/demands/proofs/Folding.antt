@@ -1,24 +1,25 @@
 -- Bulletins: the statements of specs/Bulletins.
-use mathlib.Core.Path.{_≡_, refl, sym, _∙_, ap}
+use mathlib.Core.Path.{_≡_, refl}
 use mathlib.Core.List.{List, [], _∷_}
-use Prim.Native.Nat.{ℕ, zero, suc, _<_}
+use Prim.Native.Nat.{ℕ, zero, suc, _+_, _≤_, _<_}
 use native.Mathlib.Omega.{arith}
 use lib.Dec.{eqb}
-use lib.ListN.{length}
+use lib.ListN.{length, getD}
 use Rattle.entries.specs.Bulletins.{shareb}
 use Rattle.entries.specs.Entries.{Entry}
 use Rattle.answers.specs.declared.Finding.{Finding}
-use Rattle.answers.specs.Answers.{refused, outcome, refuse}
-use Rattle.answers.specs.Steps.{numberAt, placeAt}
-use Rattle.answers.proofs.Turns.{refused-at, refused-only}
-use Rattle.blocks.specs.Blocks.{setLayout, capacity, entriesOf, verdict}
-use Rattle.blocks.specs.Calls.{holding}
+use Rattle.answers.specs.Answers.{refuse, Clear}
+use Rattle.answers.proofs.Turns.{clear-at}
+use Rattle.blocks.specs.Blocks.{setLayout, capacity, entriesOf, blockOf, verdict}
+use Rattle.blocks.specs.Calls.{input, noBlock, output}
 use Rattle.blocks.proofs.Refusing.{some-words}
-use Rattle.searches.specs.Calls.{overlapping}
-use Rattle.bulletins.specs.Calls.{amendedWith, applyRefusals, applyCall}
+use Rattle.searches.specs.Calls.{overlapping, overlap}
+use Rattle.bulletins.specs.Calls.{amendedWith, applyCall, foldCall}
 use Rattle.demands.specs.Plain.{Iff, SoundSet}
-use Rattle.demands.specs.Bulletins.{NoCommon, Apply, Fold, FoldIsOne, FoldApplies, FoldGroups, EitherOrder, ApplyRoom}
-use Rattle.demands.proofs.Exactly.{another, no-room, room-not, verdict-not, words-some}
+use Rattle.demands.specs.Bulletins.{NoCommon, Apply, Fold, FoldIsOne, FoldApplies, FoldGroups, EitherOrder, ApplyRoom, Foldable, FoldRoom}
+use Rattle.demands.proofs.Exactly.{verdict-not, words-some}
+use Rattle.demands.proofs.Findings.{Where, Numbered, applied}
+use Rattle.demands.proofs.Rooms.{Lacks, refused-room}
 use Rattle.demands.proofs.Bulletins.{apply-means, fold-released, fold-withdrawn, fold-bulletin, fold-applies, fold-groups, fold-either-order}
 use Rattle.demands.proofs.Bulletins.{overlap-apart, apart-overlap}
 
@@ -29,8 +30,7 @@ pub fold-leaves : Fold
 fold-leaves r₁ w₁ r₂ w₂ outR outW R W e = (fold-released r₁ w₁ r₂ w₂ outR outW R W e, fold-withdrawn r₁ w₁ r₂ w₂ outR outW R W e)
 
 pub fold-is-one : FoldIsOne
-fold-is-one r₁ w₁ r₂ w₂ outR outW R W e =
-    let b = fold-bulletin r₁ w₁ r₂ w₂ outR outW R W e in (b .released-sound, b .withdrawn-sound, b .apart)
+fold-is-one r₁ w₁ r₂ w₂ outR outW R W e = fold-bulletin r₁ w₁ r₂ w₂ outR outW R W e
 
 pub fold-then-apply : FoldApplies
 fold-then-apply = fold-applies
@@ -41,6 +41,20 @@ fold-grouping = fold-groups
 pub fold-order : EitherOrder
 fold-order = fold-either-order
 
+-- What is tried before room has other numbers than 5: an input, 1 to 3; an output without words, 1; a number in both sets of a bulletin, 14.
+abbrev Not5 : ℕ → Type 0
+Not5 n = n ≡ 5 → ⊥
+
+input-not : (w : List ℕ) → Where Not5 (verdict setLayout w)
+input-not w z = verdict-not setLayout w
+
+output-not : (words : ℕ) → Where Not5 (noBlock words)
+output-not words = applied Not5 (eqb words 0) 1 (λ e. omega arith)
+
+overlap-not : (r w : List Entry) → Where Not5 (overlapping r w)
+overlap-not r w = applied Not5 (shareb r w) 14 (λ e. omega arith)
+
+-- ROOM exactly: what is tried before it is clear, and of the outputs the one is the first without room
 pub apply-room : ApplyRoom
 unfolding applyCall
 apply-room list released withdrawn out = record { to = to; from = from }
@@ -48,43 +62,131 @@ apply-room list released withdrawn out = record { to = to; from = from }
     es : List Entry
     es = amendedWith list released withdrawn
 
-    fs : List Finding
-    fs = applyRefusals list released withdrawn (length out)
+    firsts : List Finding
+    firsts = input 0 setLayout list ∷ input 1 setLayout released ∷ input 2 setLayout withdrawn ∷ output 3 (length out) ∷ overlap released withdrawn ∷ []
 
-    only : (k : ℕ) → numberAt fs k ≡ 5 → placeAt fs k ≡ 3 → k ≡ 5
-    only zero e p = absurd (verdict-not setLayout list e)
-    only (suc zero) e p = absurd (verdict-not setLayout released e)
-    only (suc (suc zero)) e p = absurd (verdict-not setLayout withdrawn e)
-    only (suc (suc (suc zero))) e p = absurd (another (eqb (length out) 0) 1 5 (λ z. omega arith) (λ z. omega arith) e)
-    only (suc (suc (suc (suc zero)))) e p =
-        absurd (another (shareb (entriesOf 2 released) (entriesOf 2 withdrawn)) 14 5 (λ z. omega arith) (λ z. omega arith) e)
-    only (suc (suc (suc (suc (suc zero))))) e p = refl
-    only (suc (suc (suc (suc (suc (suc k)))))) e p = absurd (omega arith)
+    other : Numbered Not5 firsts
+    other = (
+      input-not list,
+      (input-not released, (input-not withdrawn, (output-not (length out), (overlap-not (entriesOf 2 released) (entriesOf 2 withdrawn), tt)))),
+    )
+
+    exactly : Iff (applyCall list released withdrawn out ≡ refuse 5 3 (out ∷ [])) (Clear firsts × Lacks setLayout (length out ∷ []) (length es ∷ []) 0)
+    exactly = refused-room setLayout 3 (length out ∷ []) (length es ∷ []) refl 0 3 refl firsts other (out ∷ []) (blockOf (length out) es ∷ [])
 
     to : applyCall list released withdrawn out ≡ refuse 5 3 (out ∷ [])
         → SoundSet list × SoundSet released × SoundSet withdrawn × (0 < length out) × NoCommon released withdrawn
         × (capacity setLayout (length out) < length es)
     to e =
-        let k = refused-only fs (out ∷ []) [] _ 5 3 5 (out ∷ []) only e in (
-          k .before 0 (omega arith),
-          k .before 1 (omega arith),
-          k .before 2 (omega arith),
-          some-words (length out) (k .before 3 (omega arith)),
-          overlap-apart (entriesOf 2 released) (entriesOf 2 withdrawn) (k .before 4 (omega arith)),
-          room-not setLayout (length out) es (k .here),
-        )
+        let h = exactly .to e in
+        let c = clear-at firsts (h .0) in
+        (c 0, c 1, c 2, some-words (length out) (c 3), overlap-apart (entriesOf 2 released) (entriesOf 2 withdrawn) (c 4), h .1 .here)
 
     from : SoundSet list × SoundSet released × SoundSet withdrawn × (0 < length out) × NoCommon released withdrawn
         × (capacity setLayout (length out) < length es) → applyCall list released withdrawn out ≡ refuse 5 3 (out ∷ [])
-    from h =
-        let r = no-room setLayout (length out) es (h .5) in
-        refused-at fs (out ∷ []) (holding out es) 5 (record { before = before; here = λ z. let y : 5 ≡ 0 = sym r ∙ z in omega arith })
-        ∙ ap (λ (n : ℕ). outcome (refused n 3) (out ∷ [])) r
+    from h = exactly .from (
+      (
+        h .0,
+        (h .1, (h .2, (words-some (length out) (h .3), (apart-overlap (entriesOf 2 released) (entriesOf 2 withdrawn) (h .4), tt)))),
+      ),
+      record { before = λ k l. absurd (omega arith); here = h .5 },
+    )
+
+pub fold-room : FoldRoom
+unfolding foldCall
+fold-room r₁ w₁ r₂ w₂ outR outW = (first, second)
+  where
+    firsts : List Finding
+    firsts =
+        input 0 setLayout r₁ ∷ input 1 setLayout w₁ ∷ input 2 setLayout r₂ ∷ input 3 setLayout w₂
+        ∷ output 4 (length outR) ∷ output 5 (length outW) ∷ overlap r₁ w₁ ∷ overlap r₂ w₂ ∷ []
+
+    other : Numbered Not5 firsts
+    other = (
+      input-not r₁,
+      (
+        input-not w₁,
+        (
+          input-not r₂,
+          (
+            input-not w₂,
+            (
+              output-not (length outR),
+              (
+                output-not (length outW),
+                (overlap-not (entriesOf 2 r₁) (entriesOf 2 w₁), (overlap-not (entriesOf 2 r₂) (entriesOf 2 w₂), tt)),
+              ),
+            ),
+          ),
+        ),
+      ),
+    )
+
+    released : List Entry
+    released = amendedWith r₁ r₂ w₂
+
+    withdrawn : List Entry
+    withdrawn = amendedWith w₁ w₂ r₂
+
+    ls : List ℕ
+    ls = length outR ∷ length outW ∷ []
+
+    counts : List ℕ
+    counts = length released ∷ length withdrawn ∷ []
+
+    exactly : (i p : ℕ) → p ≡ 4 + i
+        → Iff (foldCall r₁ w₁ r₂ w₂ outR outW ≡ refuse 5 p (outR ∷ outW ∷ [])) (Clear firsts × Lacks setLayout ls counts i)
+    exactly i p e =
+        refused-room setLayout 4 ls counts refl i p e firsts other (outR ∷ outW ∷ []) (blockOf (length outR) released ∷ blockOf (length outW) withdrawn ∷ [])
+
+    foldable : Clear firsts → Foldable r₁ w₁ r₂ w₂ outR outW
+    foldable z =
+        let c = clear-at firsts z in
+        record {
+          sound = (c 0, c 1, c 2, c 3);
+          words = (some-words (length outR) (c 4), some-words (length outW) (c 5));
+          earlier = overlap-apart (entriesOf 2 r₁) (entriesOf 2 w₁) (c 6);
+          later = overlap-apart (entriesOf 2 r₂) (entriesOf 2 w₂) (c 7);
+        }
+
+    clears : Foldable r₁ w₁ r₂ w₂ outR outW → Clear firsts
+    clears h = (
+      h .sound .0,
+      (
+        h .sound .1,
+        (
+          h .sound .2,
+          (
+            h .sound .3,
+            (
+              words-some (length outR) (h .words .0),
+              (
+                words-some (length outW) (h .words .1),
+                (
+                  apart-overlap (entriesOf 2 r₁) (entriesOf 2 w₁) (h .earlier),
+                  (apart-overlap (entriesOf 2 r₂) (entriesOf 2 w₂) (h .later), tt),
+                ),
+              ),
+            ),
+          ),
+        ),
+      ),
+    )
+
+    first : Iff (foldCall r₁ w₁ r₂ w₂ outR outW ≡ refuse 5 4 (outR ∷ outW ∷ []))
+        (Foldable r₁ w₁ r₂ w₂ outR outW × (capacity setLayout (length outR) < length released))
+    first = record {
+      to = λ e. let h = exactly 0 4 refl .to e in (foldable (h .0), h .1 .here);
+      from = λ h. exactly 0 4 refl .from (clears (h .0), record { before = λ k l. absurd (omega arith); here = h .1 });
+    }
+
+    second : Iff (foldCall r₁ w₁ r₂ w₂ outR outW ≡ refuse 5 5 (outR ∷ outW ∷ []))
+        (Foldable r₁ w₁ r₂ w₂ outR outW × (length released ≤ capacity setLayout (length outR)) × (capacity setLayout (length outW) < length withdrawn))
+    second = record {
+      to = λ e. let h = exactly 1 5 refl .to e in (foldable (h .0), h .1 .before 0 (omega arith), h .1 .here);
+      from = λ h. exactly 1 5 refl .from (clears (h .0), record { before = before (h .1); here = h .2 });
+    }
       where
-        before : (k : ℕ) → k < 5 → numberAt fs k ≡ 0
-        before zero p = h .0
-        before (suc zero) p = h .1
-        before (suc (suc zero)) p = h .2
-        before (suc (suc (suc zero))) p = words-some (length out) (h .3)
-        before (suc (suc (suc (suc zero)))) p = apart-overlap (entriesOf 2 released) (entriesOf 2 withdrawn) (h .4)
-        before (suc (suc (suc (suc (suc k))))) p = absurd (omega arith)
+        before : length released ≤ capacity setLayout (length outR) → (k : ℕ) → k < 1 → getD counts k 0 ≤ capacity setLayout (getD ls k 0)
+        before l zero q = l
+        before l (suc k) q = absurd (omega arith)

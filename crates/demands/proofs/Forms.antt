@@ -30,7 +30,8 @@ use Rattle.demands.specs.Bytes.{OfThree, of-set, of-map, of-bulletin, Re
 use Rattle.demands.specs.Bytes.{WriteSizes}
 use Rattle.demands.proofs.Bytes.{read-keeps, write-keeps}
 
-kind-of : {f : Form} → OfThree f → FormKind f
+-- the laws of every form hold of the three
+pub kind-of : {f : Form} → OfThree f → FormKind f
 kind-of of-set = set-kind
 kind-of of-map = map-kind
 kind-of of-bulletin = bulletin-kind

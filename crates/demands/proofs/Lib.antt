@@ -1,6 +1,8 @@
 pub mod Accepting
 pub mod Words
 pub mod Later
+pub mod Findings
+pub mod Rooms
 pub mod Sets
 pub mod Maps
 pub mod Questions
@@ -12,5 +14,8 @@ pub mod Stored
 pub mod Bulletins
 pub mod Bytes
 pub mod Forms
+pub mod Reading
+pub mod OneForm
 pub mod Folding
+pub mod Effects
 pub mod Table

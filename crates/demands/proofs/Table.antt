@@ -5,7 +5,7 @@ use mathlib.Core.Bool.{Bool, true, false}
 use mathlib.Core.List.{List, [], _∷_, _++_}
 use Prim.Native.Nat.{ℕ, suc, _-_}
 use lib.Dec.{eqb}
-use lib.ListN.{take, replicate}
+use lib.ListN.{take, drop, replicate}
 use Rattle.entries.specs.Build.{pick, andb, sameWords, put}
 use Rattle.entries.specs.Sets.{M, union, intersection, difference, complement}
 use Rattle.entries.specs.Bulletins.{shareb}
@@ -31,7 +31,7 @@ use Rattle.numbers.specs.Check.{fletcher, checkOf}
 use Rattle.records.specs.Records.{bodyLength, said, saying, recordVerdict}
 use Rattle.runs.specs.Runs.{runOf, entriesIn, runRefusals, runsOf, runsIn, runsRefusals}
 use Rattle.verdicts.specs.Forms.{formOf, formEntries, formRefusals}
-use Rattle.forms.specs.Calls.{readCall, writeCall, readSetCall, writeSetCall}
+use Rattle.forms.specs.Calls.{readCall, writeCall, readSetCall, writeSetCall, readMapCall, writeMapCall, readBulletinCall, writeBulletinCall}
 
 pub record Case : Type 0 where
   pub got : Outcome
@@ -233,8 +233,8 @@ table =
     ∷ case (siteOverFactoryAtCall (1 ∷ 3 ∷ 5 ∷ 2 ∷ []) (2 ∷ 0 ∷ 4 ∷ 0 ∷ 5 ∷ 9 ∷ 1 ∷ []) 10) (answer [])
     ∷ case (outcome (decidingSays (siteOverFactoryCall (0 ∷ []) (1 ∷ []) 7)) []) (answer [])
     ∷ case (siteOverFactoryAtCall (0 ∷ []) (1 ∷ []) 7) (outcome (refused 2 1) [])
-    ∷ case (siteRefusalCall (0 ∷ []) (1 ∷ [])) (outcome (refused 2 1) [])
-    ∷ case (siteRefusalCall (1 ∷ 3 ∷ 5 ∷ 2 ∷ []) (2 ∷ 0 ∷ 4 ∷ 0 ∷ 5 ∷ 9 ∷ 1 ∷ [])) (answer [])
+    ∷ case (siteRefusalCall (0 ∷ []) (1 ∷ []) 7) (outcome (refused 2 1) [])
+    ∷ case (siteRefusalCall (1 ∷ 3 ∷ 5 ∷ 2 ∷ []) (2 ∷ 0 ∷ 4 ∷ 0 ∷ 5 ∷ 9 ∷ 1 ∷ []) 7) (answer [])
     -- [U4] bulletins neither of which releases what the other withdraws, folded in either order
     ∷ case (foldCall (1 ∷ 1 ∷ 2 ∷ []) (1 ∷ 5 ∷ 5 ∷ []) (1 ∷ 8 ∷ 9 ∷ []) (1 ∷ 12 ∷ 12 ∷ []) (7 ∷ 7 ∷ 7 ∷ 7 ∷ 7 ∷ []) (7 ∷ 7 ∷ 7 ∷ 7 ∷ 7 ∷ []))
     (outcome (given []) ((2 ∷ 1 ∷ 2 ∷ 8 ∷ 9 ∷ []) ∷ (2 ∷ 5 ∷ 5 ∷ 12 ∷ 12 ∷ []) ∷ []))

@@ -1,12 +1,13 @@
 -- BULLETINS: what applying and folding leave, and the laws of folding, said of accepted calls and their words.
 use mathlib.Core.Path.{_≡_}
+use mathlib.Core.Bool.{Bool}
 use mathlib.Core.List.{List, [], _∷_}
-use Prim.Native.Nat.{ℕ, _<_}
+use Prim.Native.Nat.{ℕ, _≤_, _<_}
 use lib.ListN.{length}
-use Rattle.entries.specs.Sets.{member}
+use Rattle.entries.specs.Sets.{M}
 use Rattle.entries.specs.Bulletins.{amend, Apart}
 use Rattle.answers.specs.Answers.{Outcome, outcome, given, refuse}
-use Rattle.blocks.specs.Blocks.{setLayout, capacity, entriesOf}
+use Rattle.blocks.specs.Blocks.{setLayout, capacity, entriesOf, Lent}
 use Rattle.bulletins.specs.Calls.{amendedWith, applyCall, foldCall}
 use Rattle.demands.specs.Plain.{Iff, SoundSet, In, leaves, SetLeft}
 
@@ -17,6 +18,12 @@ folds released withdrawn = outcome (given []) (released ∷ withdrawn ∷ [])
 -- no number is in both
 abbrev pub NoCommon : List ℕ → List ℕ → Type 0
 NoCommon w v = Apart (entriesOf (setLayout .width) w) (entriesOf (setLayout .width) v)
+
+-- [U1] a bulletin: two sound set blocks with no number in common, released and withdrawn
+pub record Bulletin (released withdrawn : List ℕ) : Type 0 where
+  pub released-sound : SoundSet released
+  pub withdrawn-sound : SoundSet withdrawn
+  pub apart : NoCommon released withdrawn
 
 -- [U2, D2] APPLY: a number is listed afterwards if it was listed and is not withdrawn, or if it is released
 abbrev pub Apply : Type 0
@@ -30,7 +37,7 @@ Fold = (r₁ w₁ r₂ w₂ outR outW R W : List ℕ) → foldCall r₁ w₁ r�
 
 -- [U1] and the fold of two bulletins is one
 abbrev pub FoldIsOne : Type 0
-FoldIsOne = (r₁ w₁ r₂ w₂ outR outW R W : List ℕ) → foldCall r₁ w₁ r₂ w₂ outR outW ≡ folds R W → SoundSet R × SoundSet W × NoCommon R W
+FoldIsOne = (r₁ w₁ r₂ w₂ outR outW R W : List ℕ) → foldCall r₁ w₁ r₂ w₂ outR outW ≡ folds R W → Bulletin R W
 
 -- [D5] FOLDING, THEN APPLYING: where two bulletins are folded, and applied one after the other, applying the fold to the same list, into a
 -- block as long as the last, is accepted and leaves the same words
@@ -51,9 +58,46 @@ EitherOrder = (r₁ w₁ r₂ w₂ outR outW outR′ outW′ R W R′ W′ : Lis
     → foldCall r₁ w₁ r₂ w₂ outR outW ≡ folds R W → foldCall r₂ w₂ r₁ w₁ outR′ outW′ ≡ folds R′ W′
     → length outR′ ≡ length outR → length outW′ ≡ length outW → (R ≡ R′) × (W ≡ W′)
 
+-- what a bulletin does to one serial that was listed (true) or not (false)
+abbrev pub Effect : List ℕ → List ℕ → Bool → ℕ → Bool
+Effect released withdrawn listed x = amend listed (In released x) (In withdrawn x)
+
+-- two bulletins hold the same ranges
+abbrev pub SameRanges : List ℕ → List ℕ → List ℕ → List ℕ → Type 0
+SameRanges r w r′ w′ = (entriesOf (setLayout .width) r ≡ entriesOf (setLayout .width) r′) × (entriesOf (setLayout .width) w ≡ entriesOf (setLayout .width) w′)
+
+-- [D7] THE SAME EFFECT: bulletins that do the same to every serial, listed before or not, hold the same ranges
+abbrev pub SameEffect : Type 0
+SameEffect = (r w r′ w′ : List ℕ) → Bulletin r w → Bulletin r′ w′ → Lent r → Lent w → Lent r′ → Lent w′
+    → ((listed : Bool) (x : ℕ) → x ≤ M → Effect r w listed x ≡ Effect r′ w′ listed x) → SameRanges r w r′ w′
+
+-- [D7] and so do bulletins that no application tells apart: on every list, into every output, both are accepted with the same words or
+-- refused alike. (Refusals belong to it: where the first releases 4,095 ranges, whether it withdraws a serial that stands alone is seen
+-- only by refusal 5.)
+abbrev pub SameApplied : Type 0
+SameApplied = (r w r′ w′ : List ℕ) → Bulletin r w → Bulletin r′ w′ → Lent r → Lent w → Lent r′ → Lent w′
+    → ((list out : List ℕ) → Lent list → Lent out → applyCall list r w out ≡ applyCall list r′ w′ out) → SameRanges r w r′ w′
+
 -- [R5, R17] ROOM exactly: nothing earlier applies, and the list that results does not fit the output
 abbrev pub ApplyRoom : Type 0
 ApplyRoom = (list released withdrawn out : List ℕ)
     → Iff (applyCall list released withdrawn out ≡ refuse 5 3 (out ∷ []))
     (SoundSet list × SoundSet released × SoundSet withdrawn × (0 < length out) × NoCommon released withdrawn
     × (capacity setLayout (length out) < length (amendedWith list released withdrawn)))
+
+-- four sound inputs, outputs that have words, and two bulletins, neither with a number in both of its sets
+pub record Foldable (r₁ w₁ r₂ w₂ outR outW : List ℕ) : Type 0 where
+  pub sound : SoundSet r₁ × SoundSet w₁ × SoundSet r₂ × SoundSet w₂
+  pub words : (0 < length outR) × (0 < length outW)
+  pub earlier : NoCommon r₁ w₁
+  pub later : NoCommon r₂ w₂
+
+-- [R5, R17] ROOM exactly: nothing earlier applies, and the released set that results does not fit its output; or it does, and the withdrawn
+-- set does not
+abbrev pub FoldRoom : Type 0
+FoldRoom = (r₁ w₁ r₂ w₂ outR outW : List ℕ)
+    → Iff (foldCall r₁ w₁ r₂ w₂ outR outW ≡ refuse 5 4 (outR ∷ outW ∷ []))
+    (Foldable r₁ w₁ r₂ w₂ outR outW × (capacity setLayout (length outR) < length (amendedWith r₁ r₂ w₂)))
+    × Iff (foldCall r₁ w₁ r₂ w₂ outR outW ≡ refuse 5 5 (outR ∷ outW ∷ []))
+    (Foldable r₁ w₁ r₂ w₂ outR outW × (length (amendedWith r₁ r₂ w₂) ≤ capacity setLayout (length outR))
+    × (capacity setLayout (length outW) < length (amendedWith w₁ w₂ r₂)))

@@ -1,18 +1,22 @@
 -- BYTES: reading accepts exactly the byte forms, writing gives back the bytes read; the C host's question is reading and then membership.
 use mathlib.Core.Path.{_≡_}
+use mathlib.Core.Logic.{_⊎_}
 use mathlib.Core.List.{List, [], _∷_}
-use Prim.Native.Nat.{ℕ, _+_, _*_, _≤_}
+use Prim.Native.Nat.{ℕ, _+_, _*_, _≤_, _<_}
+use lib.Dec.{ltb}
 use lib.ListN.{length, getD, take, drop}
-use Rattle.entries.specs.Entries.{Entry}
+use Rattle.entries.specs.Entries.{Entry, Each}
 use Rattle.entries.specs.Build.{pick}
+use Rattle.entries.specs.Sets.{M}
 use Rattle.answers.specs.Answers.{given, refused, outcome, refuse, Keeps, Clear}
-use Rattle.blocks.specs.Blocks.{setLayout, mapLayout, entriesOf}
+use Rattle.blocks.specs.Blocks.{setLayout, mapLayout, capacity, entriesOf, Lent}
 use Rattle.numbers.specs.Numbers.{Bytes, patch}
 use Rattle.runs.specs.Runs.{lengths}
 use Rattle.verdicts.specs.declared.Form.{Form}
 use Rattle.verdicts.specs.Forms.{ofSet, ofMap, ofBulletin, formOf, outRefusals, Formed}
-use Rattle.forms.specs.Calls.{storedIn, heldIn, readCall, readSetCall, writeCall, writeSetCall, writeMapCall, writeBulletinCall, memberOfFormCall}
-use Rattle.demands.specs.Plain.{Iff, In, leaves}
+use Rattle.forms.specs.Calls.{storedIn, heldIn, readCall, readSetCall, readMapCall, readBulletinCall, memberOfFormCall}
+use Rattle.forms.specs.Calls.{writeCall, writeSetCall, writeMapCall, writeBulletinCall}
+use Rattle.demands.specs.Plain.{Iff, SoundSet, SoundMap, In, ValueOf, leaves}
 
 -- the form of a set, of a map, of a bulletin
 pub data OfThree : Form → Type 0 where
@@ -38,6 +42,34 @@ abbrev pub WholeForm : Type 0
 WholeForm = (f : Form) → OfThree f → (b : List ℕ) → Bytes b → (outs ws : List (List ℕ)) → readCall f b outs ≡ outcome (given []) ws
     → (r : Read f b outs ws) → b ≡ formOf f (r .runs)
 
+-- the highest number with which reading a form refuses its bytes: 13, and 14 where there are two sets to share a number
+abbrev pub lastOfBytes : Form → ℕ
+lastOfBytes f = pick (ltb 1 (f .runs)) 14 13
+
+-- the bytes are a form
+pub record IsForm (f : Form) (b : List ℕ) : Type 0 where
+  pub runs : List (List Entry)
+  pub form : Formed f b runs
+
+-- [R17, Y15] READING'S REFUSALS: bytes that are no form are refused with 8 to 13, a bulletin's also with 14; a form with 1 or 5, for its
+-- outputs
+abbrev pub ReadRefusals : Type 0
+ReadRefusals = (f : Form) → OfThree f → (b : List ℕ) → Bytes b → (outs after : List (List ℕ)) (n p : ℕ) → readCall f b outs ≡ refuse n p after
+    → ((8 ≤ n) × (n ≤ lastOfBytes f) × (IsForm f b → ⊥)) ⊎ (((n ≡ 1) ⊎ (n ≡ 5)) × IsForm f b)
+
+-- the bytes are a form, every output has words, and output i is the first without room for its run
+pub record NoRoomFor (f : Form) (b : List ℕ) (outs : List (List ℕ)) (i : ℕ) : Type 0 where
+  pub runs : List (List Entry)
+  pub form : Formed f b runs
+  pub words : Each (λ (out : List ℕ). 0 < length out) outs
+  pub before : (k : ℕ) → k < i → getD (lengths runs) k 0 ≤ capacity (f .layout) (getD (lengths outs) k 0)
+  pub here : capacity (f .layout) (getD (lengths outs) i 0) < getD (lengths runs) i 0
+
+-- [R5, Y15] ROOM exactly: reading is refused with 5 for output i exactly there
+abbrev pub ReadRoom : Type 0
+ReadRoom = (f : Form) → OfThree f → (b : List ℕ) → Bytes b → (outs : List (List ℕ)) → length outs ≡ f .runs → (i : ℕ)
+    → Iff (readCall f b outs ≡ refuse 5 i outs) (NoRoomFor f b outs i)
+
 -- [D4, Y1] writing into enough bytes gives back the bytes read
 abbrev pub ReadWritten : Type 0
 ReadWritten = (f : Form) → OfThree f → (b : List ℕ) (outs ws : List (List ℕ)) (bytes : List ℕ) (p : ℕ) → Bytes b → length outs ≡ f .runs
@@ -49,6 +81,38 @@ abbrev pub WrittenRead : Type 0
 WrittenRead = (f : Form) → OfThree f → (ws : List (List ℕ)) (bytes bytes′ : List ℕ) (outs : List (List ℕ)) (p n : ℕ) → length ws ≡ f .runs
     → writeCall f ws bytes p ≡ outcome (given (n ∷ [])) (bytes′ ∷ []) → Clear (outRefusals (f .layout) (lengths outs) (lengths (heldIn (f .layout) ws)))
     → readCall f (take n (drop p bytes′)) outs ≡ outcome (given []) (storedIn outs (heldIn (f .layout) ws))
+
+-- [D3] ONE BYTE FORM: bytes that are read, into blocks of any lengths, as the same set are the same bytes
+abbrev pub OneSetForm : Type 0
+OneSetForm = (b b′ out out′ w w′ : List ℕ) → Bytes b → Bytes b′ → readSetCall b out ≡ leaves w → readSetCall b′ out′ ≡ leaves w′
+    → ((x : ℕ) → x ≤ M → In w x ≡ In w′ x) → b ≡ b′
+
+-- [D3] bytes that are read as the same map are the same bytes
+abbrev pub OneMapForm : Type 0
+OneMapForm = (b b′ out out′ w w′ : List ℕ) → Bytes b → Bytes b′ → readMapCall b out ≡ leaves w → readMapCall b′ out′ ≡ leaves w′
+    → ((x : ℕ) → x ≤ M → ValueOf w x ≡ ValueOf w′ x) → b ≡ b′
+
+-- [D3] bytes that are read as the same bulletin, by its released and its withdrawn set, are the same bytes
+abbrev pub OneBulletinForm : Type 0
+OneBulletinForm = (b b′ outR outW outR′ outW′ r w r′ w′ : List ℕ) → Bytes b → Bytes b′
+    → readBulletinCall b outR outW ≡ outcome (given []) (r ∷ w ∷ []) → readBulletinCall b′ outR′ outW′ ≡ outcome (given []) (r′ ∷ w′ ∷ [])
+    → ((x : ℕ) → x ≤ M → In r x ≡ In r′ x) → ((x : ℕ) → x ≤ M → In w x ≡ In w′ x) → b ≡ b′
+
+-- [D3] and sound blocks, of any lengths and with any later words, that name the same set are written alike: the same bytes, or both refused
+-- for want of space
+abbrev pub OneSetWritten : Type 0
+OneSetWritten = (w w′ bytes : List ℕ) (p : ℕ) → SoundSet w → SoundSet w′ → Lent w → Lent w′ → ((x : ℕ) → x ≤ M → In w x ≡ In w′ x)
+    → writeSetCall w bytes p ≡ writeSetCall w′ bytes p
+
+-- [D3] sound blocks that name the same map are written alike
+abbrev pub OneMapWritten : Type 0
+OneMapWritten = (w w′ bytes : List ℕ) (p : ℕ) → SoundMap w → SoundMap w′ → Lent w → Lent w′ → ((x : ℕ) → x ≤ M → ValueOf w x ≡ ValueOf w′ x)
+    → writeMapCall w bytes p ≡ writeMapCall w′ bytes p
+
+-- [D3] sound blocks that name the same two sets are written alike as bulletins
+abbrev pub OneBulletinWritten : Type 0
+OneBulletinWritten = (r w r′ w′ bytes : List ℕ) (p : ℕ) → SoundSet r → SoundSet w → SoundSet r′ → SoundSet w′ → Lent r → Lent w → Lent r′ → Lent w′
+    → ((x : ℕ) → x ≤ M → In r x ≡ In r′ x) → ((x : ℕ) → x ≤ M → In w x ≡ In w′ x) → writeBulletinCall r w bytes p ≡ writeBulletinCall r′ w′ bytes p
 
 -- [Y10, Y16] the length that writing answers is 7+21n, 7+29n, 9+21(r+w) of word 0 of the blocks; every byte but those of the form stays
 abbrev pub WriteSizes : Type 0

@@ -60,7 +60,7 @@ abbrev pub LaterSite : Type 0
 LaterSite = (site factory site′ factory′ : List ℕ) → SameForm mapLayout site site′ → SameForm mapLayout factory factory′ → (x : ℕ)
     → (siteOverFactoryCall site factory x ≡ siteOverFactoryCall site′ factory′ x)
     × (siteOverFactoryAtCall site factory x ≡ siteOverFactoryAtCall site′ factory′ x)
-    × (siteRefusalCall site factory ≡ siteRefusalCall site′ factory′)
+    × (siteRefusalCall site factory x ≡ siteRefusalCall site′ factory′ x)
 
 -- [B7, R0] of a change in place, accepted or refused: where it is refused, each block has its own later words still,
 abbrev pub LaterEdit : Type 0

@@ -111,7 +111,7 @@ part-of-deciding site factory x = go (verdict mapLayout site) (verdict mapLayout
     go (suc v) u = refl
 
 -- [R20] the companion question answers the same refusals: C needs no call for it
-pub deciding-companion : (site factory : List ℕ) (x : ℕ) → bare (siteOverFactoryAtCall site factory x) ≡ siteRefusalCall site factory
+pub deciding-companion : (site factory : List ℕ) (x : ℕ) → bare (siteOverFactoryAtCall site factory x) ≡ siteRefusalCall site factory x
 unfolding siteOverFactoryAtCall siteRefusalCall
 deciding-companion site factory x =
     turn-bare (siteRefusals site factory) [] (outcome (decidingSays d) []) ∙ ap (inTurn (siteRefusals site factory) []) (go (eqb (d .length) 0))

@@ -67,9 +67,9 @@ mapWindowRefusalCall w a b = windowRefusalCall mapLayout w a b
 abbrev pub siteRefusals : List ℕ → List ℕ → List Finding
 siteRefusals site factory = input 0 mapLayout site ∷ input 1 mapLayout factory ∷ []
 
--- [R20] the companion of site over factory: the refusal, or that there is none
-unfoldable pub siteRefusalCall : List ℕ → List ℕ → Outcome
-siteRefusalCall site factory = inTurn (siteRefusals site factory) [] (outcome (given []) [])
+-- [R20] the companion of site over factory, on the same inputs: the refusal, which no x changes, or that there is none
+unfoldable pub siteRefusalCall : List ℕ → List ℕ → ℕ → Outcome
+siteRefusalCall site factory x = inTurn (siteRefusals site factory) [] (outcome (given []) [])
 
 -- a part of one of two maps, by the map's position
 abbrev pub partIn : ℕ → Part → Deciding

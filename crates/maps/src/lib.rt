@@ -137,9 +137,9 @@ fn deciding_of(site: &[u64], factory: &[u64], x: u64) -> Deciding
     }
 }
 
-// The refusal of the site map, else of the factory map, or that there is none.
-pub fn site_over_factory_refusal(site: &[u64], factory: &[u64]) -> Judged
-    ensures { λ r. ⌜ outcome (judgedSays r) [] ≡ siteRefusalCall (now (site .entry)) (now (factory .entry)) ⌝ }
+// The refusal of the same question: of the site map, else of the factory map, whatever x is; or that there is none.
+pub fn site_over_factory_refusal(site: &[u64], factory: &[u64], x: u64) -> Judged
+    ensures { λ r. ⌜ outcome (judgedSays r) [] ≡ siteRefusalCall (now (site .entry)) (now (factory .entry)) x ⌝ }
 {
     let found = blocks::judge_two(site, blocks::MAP, factory, blocks::MAP, 0);
     answers::judged_of(found.number, found.place)

@@ -11,11 +11,11 @@ use lib.ListN.{length, drop, length-append, length-drop}
 use lib.Seq.{drop-drop, getD-drop}
 use Rattle.entries.specs.Entries.{Entry}
 use Rattle.entries.specs.Build.{andb}
-use Rattle.entries.specs.Sets.{pastM}
 use Rattle.entries.proofs.Values.{and-true}
 use Rattle.answers.specs.Answers.{Clear}
 use Rattle.answers.specs.declared.Finding.{Finding}
 use Rattle.blocks.specs.Blocks.{linkb, soundb, wordsOf, Lent, Shaped}
+use Rattle.blocks.proofs.Words.{lent-cons, lent-append}
 use Rattle.numbers.specs.Numbers.{Bytes, num8, wordsIn, wordBytes}
 use Rattle.numbers.proofs.Numbers.{length-bytes, length-words, word-fits}
 use Rattle.records.specs.Records.{entryWords, saying, itemRecord, itemVerdict, entryIn, follows, inOrder}
@@ -77,14 +77,6 @@ entries-shaped kind s (suc n) b h =
       entries-shaped kind s n (drop
           (8 * s + 5) b) h,
     )
-
-pub lent-cons : (w : ℕ) (ws : List ℕ) → w < pastM → Lent ws → Lent (w ∷ ws)
-lent-cons w ws p q zero = p
-lent-cons w ws p q (suc j) = q j
-
-lent-append : (a b : List ℕ) → Lent a → Lent b → Lent (a ++ b)
-lent-append [] b p q = q
-lent-append (w ∷ a) b p q = lent-cons w (a ++ b) (p 0) (lent-append a b (λ j. p (suc j)) q)
 
 lent-words : (b : List ℕ) → Bytes b → (n q : ℕ) → Lent (wordsIn n b q)
 lent-words b y zero q = λ j. lit< tt

@@ -1,0 +1,177 @@
+-- The refusals of reading: which numbers the bytes and the outputs are refused with, and when there is no room.
+use mathlib.Core.Path.{_≡_, refl, sym, _∙_, ap, subst}
+use mathlib.Core.Bool.{Bool}
+use mathlib.Core.Logic.{_⊎_, inl, inr}
+use mathlib.Core.Option.{Option, none, some}
+use mathlib.Core.List.{List, [], _∷_, _++_, append-assoc}
+use Prim.Native.Nat.{ℕ, zero, suc, _+_, _*_, _≤_}
+use native.Mathlib.Omega.{arith}
+use lib.Dec.{ltb, eqb}
+use lib.ListN.{length, take, drop, getD}
+use Rattle.entries.specs.Entries.{Entry}
+use Rattle.answers.specs.Answers.{outcome, given, refuse, applies, inTurn, Clear}
+use Rattle.answers.specs.declared.Finding.{Finding}
+use Rattle.answers.specs.Steps.{Named}
+use Rattle.answers.proofs.Turns.{refused-named}
+use Rattle.numbers.specs.Numbers.{num2}
+use Rattle.numbers.specs.Check.{checkOf}
+use Rattle.records.specs.Records.{bodyLength, bodyVerdict, recordVerdict, inOrder, entryIn, allWithin}
+use Rattle.runs.specs.Runs.{lengths, runsIn, runRefusals, runsRefusals}
+use Rattle.runs.proofs.Running.{clear-split, clear-join}
+use Rattle.runs.proofs.Several.{many-lengths}
+use Rattle.verdicts.specs.declared.Form.{Form}
+use Rattle.verdicts.specs.Forms.{kindsOf, startSize, formCounts, formEntries, sizeOf, sharing, trailing, overlap, formRefusals}
+use Rattle.verdicts.specs.Forms.{noBlocks, noRooms, outRefusals}
+use Rattle.forms.specs.Calls.{storedIn, readCall}
+use Rattle.forms.proofs.Forms.{accepted-formed, formed-accepted}
+use Rattle.demands.specs.Bytes.{OfThree, of-set, of-map, of-bulletin, lastOfBytes, IsForm, ReadRefusals, NoRoomFor, ReadRoom}
+use Rattle.demands.specs.Plain.{Iff}
+use Rattle.demands.proofs.Findings.{Where, Numbered, chosen, not-any, applied, numbered-both, numbered-so, named-number, named-applies, named-split}
+use Rattle.demands.proofs.Rooms.{words-numbers, rooms-numbers, clear-words, words-clear, Lacks, refused-room}
+use Rattle.demands.proofs.Forms.{kind-of}
+
+-- the numbers that bytes are refused with, the highest being `last`
+abbrev From8 : ℕ → ℕ → Type 0
+From8 last n = (8 ≤ n) × (n ≤ last)
+
+-- BYTES: the numbers of one record, by its body,
+module _ (last : ℕ) (high : 13 ≤ last) where
+  body-numbers : (mark : ℕ) (long : Option ℕ) (content : Bool) (b : List ℕ) → Where (From8 last) (bodyVerdict mark long content b)
+  body-numbers mark none content b = λ z. (omega arith, omega arith)
+  body-numbers mark (some n) content b =
+      chosen (Where (From8 last)) (ltb (length b) (n + 5)) 8 _ (λ z. (omega arith, omega arith))
+      (chosen (Where (From8 last)) (eqb (checkOf mark (take (n + 1) (drop 2 b))) (num2 b (n + 3))) _ 11
+      (chosen (Where (From8 last)) content 0 12 (not-any (From8 last)) (λ z. (omega arith, omega arith)))
+      (λ z. (omega arith, omega arith)))
+
+  -- as a whole,
+  record-numbers : (mark due : ℕ) (content : Bool) (b : List ℕ) → Where (From8 last) (recordVerdict mark due content b)
+  unfolding recordVerdict
+  record-numbers mark due content b =
+      chosen (Where (From8 last)) (ltb (length b) 3) 8 _ (λ z. (omega arith, omega arith))
+      (chosen (Where (From8 last)) (eqb (num2 b 0) mark) _ 9
+      (chosen (Where (From8 last)) (eqb (getD b 2 0) due) _ 10 (body-numbers mark (bodyLength due) content b) (λ z. (omega arith, omega arith)))
+      (λ z. (omega arith, omega arith)))
+
+  -- of the records of a run, and of several runs,
+  run-numbers : (mark kind s n p : ℕ) (before : Option Entry) (b : List ℕ) → Numbered (From8 last) (runRefusals mark kind s n p before b)
+  unfolding runRefusals
+  run-numbers mark kind s zero p before b = tt
+  run-numbers mark kind s (suc n) p before b = (
+    record-numbers mark kind (inOrder before (entryIn kind s b)) b,
+    run-numbers mark kind s n (p + (8 * s + 5)) (some (entryIn kind s b)) (drop (8 * s + 5) b),
+  )
+
+  runs-numbers : (mark s p : ℕ) (kinds counts b : List ℕ) → Numbered (From8 last) (runsRefusals mark s p kinds counts b)
+  unfolding runsRefusals
+  runs-numbers mark s p [] counts b = tt
+  runs-numbers mark s p (kind ∷ kinds) [] b = tt
+  runs-numbers mark s p (kind ∷ kinds) (n ∷ counts) b =
+      numbered-both (From8 last) (runRefusals mark kind s n p none b) _ (run-numbers mark kind s n p none b)
+      (runs-numbers mark s (p + (8 * s + 5) * n) kinds counts (drop ((8 * s + 5) * n) b))
+
+  -- and of a form, by that of its two sets
+  form-numbers : (f : Form) (b : List ℕ) → Where (From8 last) (applies (sharing (formEntries f b)) 14) → Numbered (From8 last) (formRefusals f b)
+  unfolding formRefusals
+  form-numbers f b o = (
+    record-numbers (f .mark) (f .start) (allWithin (f .layout .limit) (formCounts f b)) b,
+    numbered-both (From8 last) (runsRefusals (f .mark) (f .layout .width) (startSize f) (kindsOf f) (formCounts f b) (drop (startSize f) b))
+        (trailing (sizeOf f (formCounts f b)) b ∷ overlap (formEntries f b) ∷ [])
+        (runs-numbers (f .mark) (f .layout .width) (startSize f) (kindsOf f) (formCounts f b) (drop (startSize f) b))
+        (applied (From8 last) (ltb (sizeOf f (formCounts f b)) (length b)) 13 (omega arith, omega arith), (o, tt)),
+  )
+
+-- of each of the three: where there is one run, no two share a number
+bytes-numbers : (f : Form) → OfThree f → (b : List ℕ) → Numbered (From8 (lastOfBytes f)) (formRefusals f b)
+unfolding formEntries runsIn
+bytes-numbers f of-set b = form-numbers 13 (omega arith) f b (λ z. absurd (z refl))
+bytes-numbers f of-map b = form-numbers 13 (omega arith) f b (λ z. absurd (z refl))
+bytes-numbers f of-bulletin b = form-numbers 14 (omega arith) f b (applied (From8 14) (sharing (formEntries f b)) 14 (omega arith, omega arith))
+
+-- THE NUMBERS with which reading refuses
+pub read-refusals : ReadRefusals
+unfolding readCall
+read-refusals f t b y outs after n p e =
+    go (named-split (formRefusals f b) (outRefusals (f .layout) ls counts)
+    (refused-named (formRefusals f b ++ outRefusals (f .layout) ls counts) outs [] (storedIn outs (formEntries f b)) n p after e))
+  where
+    ls : List ℕ
+    ls = lengths outs
+
+    counts : List ℕ
+    counts = lengths (formEntries f b)
+
+    of-outputs : Named (noBlocks 0 ls) n p ⊎ (Clear (noBlocks 0 ls) × Named (noRooms (f .layout) 0 ls counts) n p) → (n ≡ 1) ⊎ (n ≡ 5)
+    of-outputs (inl m) = inl (named-number (λ n. n ≡ 1) (noBlocks 0 ls) (words-numbers 0 ls) m)
+    of-outputs (inr m) = inr (named-number (λ n. n ≡ 5) (noRooms (f .layout) 0 ls counts) (rooms-numbers (f .layout) 0 ls counts) (m .1))
+
+    go : Named (formRefusals f b) n p ⊎ (Clear (formRefusals f b) × Named (outRefusals (f .layout) ls counts) n p)
+        → ((8 ≤ n) × (n ≤ lastOfBytes f) × (IsForm f b → ⊥)) ⊎ (((n ≡ 1) ⊎ (n ≡ 5)) × IsForm f b)
+    go (inl m) =
+        let k = named-number (From8 (lastOfBytes f)) (formRefusals f b) (bytes-numbers f t b) m in
+        inl (k .0, k .1, λ i. named-applies (formRefusals f b) m (formed-accepted f (kind-of t) b (i .runs) (i .form) .0))
+    go (inr m) =
+        inr (
+          of-outputs (named-split (noBlocks 0 ls) (noRooms (f .layout) 0 ls counts) (m .1)),
+          record { runs = formEntries f b; form = accepted-formed f (kind-of t) b y (m .0) },
+        )
+
+-- the counts of what the bytes say are as many as the runs
+as-many : (f : Form) → OfThree f → (b : List ℕ) → length (lengths (formEntries f b)) ≡ f .runs
+unfolding formEntries runsIn
+as-many f of-set b = refl
+as-many f of-map b = refl
+as-many f of-bulletin b = refl
+
+-- ROOM exactly
+pub read-room : ReadRoom
+unfolding readCall
+read-room f t b y outs many i = record { to = to; from = from }
+  where
+    ls : List ℕ
+    ls = lengths outs
+
+    counts : List ℕ
+    counts = lengths (formEntries f b)
+
+    after : List (List ℕ)
+    after = storedIn outs (formEntries f b)
+
+    firsts : List Finding
+    firsts = formRefusals f b ++ noBlocks 0 ls
+
+    -- no 5 among what is tried before room
+    other : Numbered (λ n. n ≡ 5 → ⊥) firsts
+    other =
+        numbered-both (λ n. n ≡ 5 → ⊥) (formRefusals f b) (noBlocks 0 ls)
+        (numbered-so (From8 (lastOfBytes f)) (λ n. n ≡ 5 → ⊥) (λ n h e. omega (arith, h .0)) (formRefusals f b) (bytes-numbers f t b))
+        (numbered-so (λ n. n ≡ 1) (λ n. n ≡ 5 → ⊥) (λ n h e. omega arith) (noBlocks 0 ls) (words-numbers 0 ls))
+
+    exactly : Iff (inTurn (firsts ++ noRooms (f .layout) 0 ls counts) outs (outcome (given []) after) ≡ refuse 5 i outs)
+        (Clear firsts × Lacks (f .layout) ls counts i)
+    exactly = refused-room (f .layout) 0 ls counts (many-lengths outs ∙ many ∙ sym (as-many f t b)) i i (omega arith) firsts other outs after
+
+    same : readCall f b outs ≡ inTurn (firsts ++ noRooms (f .layout) 0 ls counts) outs (outcome (given []) after)
+    same =
+        ap (λ (fs : List Finding). inTurn fs outs (outcome (given []) after))
+        (sym (append-assoc (formRefusals f b) (noBlocks 0 ls) (noRooms (f .layout) 0 ls counts)))
+
+    to : readCall f b outs ≡ refuse 5 i outs → NoRoomFor f b outs i
+    to e =
+        let h = exactly .to (sym same ∙ e) in
+        let c = clear-split (formRefusals f b) (noBlocks 0 ls) (h .0) in
+        record {
+          runs = formEntries f b;
+          form = accepted-formed f (kind-of t) b y (c .0);
+          words = clear-words 0 outs (c .1);
+          before = h .1 .before;
+          here = h .1 .here;
+        }
+
+    from : NoRoomFor f b outs i → readCall f b outs ≡ refuse 5 i outs
+    from h =
+        let a = formed-accepted f (kind-of t) b (h .runs) (h .form) in
+        same ∙ exactly .from (
+          clear-join (formRefusals f b) (noBlocks 0 ls) (a .0) (words-clear 0 outs (h .words)),
+          subst (λ (es : List (List Entry)). Lacks (f .layout) ls (lengths es) i) (sym (a .1)) (record { before = h .before; here = h .here }),
+        )
