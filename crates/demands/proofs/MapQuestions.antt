@@ -1,22 +1,24 @@
 -- What is asked of a map, by its meaning: the statements of specs/Questions.
-use mathlib.Core.Path.{_≡_, refl, sym, _∙_, ap}
+use mathlib.Core.Path.{_≡_, refl, sym, _∙_, ap, subst}
 use mathlib.Core.Option.{Option, none, some}
 use mathlib.Core.Bool.{Bool, true, false}
-use mathlib.Core.List.{List, [], _∷_}
-use Prim.Native.Nat.{ℕ, suc, _+_, _*_, _<_}
+use mathlib.Core.List.{List, [], _∷_, _++_}
+use Prim.Native.Nat.{ℕ, _+_, _*_, _≤_, _<_}
 use native.Mathlib.Omega.{arith}
 use lib.ListN.{length, getD, take, drop}
 use lib.Seq.{drop-cons}
 use borrow.Author.Tests.{le-leb, lt-leb, le-ltb}
-use Rattle.entries.specs.Entries.{Value, Entry, Sound, valueAt}
+use Rattle.entries.specs.Entries.{Value, Entry, Sound, orElse, valueAt}
 use Rattle.entries.specs.Build.{pick}
 use Rattle.entries.specs.Sets.{has}
 use Rattle.entries.specs.Questions.{meeting, whollyBelow}
 use Rattle.entries.proofs.Values.{true≢false}
+use Rattle.entries.proofs.Canon.{none≢some}
+use Rattle.entries.proofs.Sides.{Side, under, inside, past, side, val-in, val-past, none-under, none-upto}
 use Rattle.entries.proofs.Windows.{one-meets}
 use Rattle.answers.specs.Answers.{given, Outcome, outcome, handed}
 use Rattle.answers.proofs.Turns.{clear-turn}
-use Rattle.blocks.specs.Blocks.{mapLayout}
+use Rattle.blocks.specs.Blocks.{mapLayout, wordsOf}
 use Rattle.blocks.specs.Calls.{input}
 use Rattle.blocks.proofs.Judging.{verdict-sound, room-words}
 use Rattle.searches.specs.Parts.{part, noPart, wordsAt}
@@ -24,7 +26,7 @@ use Rattle.searches.specs.Calls.{windowPart, windowRefusals, windowCall}
 use Rattle.maps.specs.declared.Deciding.{Deciding}
 use Rattle.maps.specs.Calls.{mapEntries, worth, lookUpCall, mapWindowCall, partIn, deciding, siteRefusals, siteOverFactoryCall, wordsOfTwo}
 use Rattle.demands.specs.Plain.{SoundMap, InEntry, ValueOf, answers}
-use Rattle.demands.specs.Questions.{InMap, LookUp, MapWindow, SiteOverFactory, WhichMap}
+use Rattle.demands.specs.Questions.{InMap, LookUp, MapWindow, SiteOverFactory, EntryWords, DecidingEntry, WhichMap}
 use Rattle.demands.proofs.Words.{in-item, item-in}
 use Rattle.demands.proofs.Questions.{window-means}
 
@@ -126,6 +128,83 @@ module _ (site factory : List ℕ) (x : ℕ) (p : SoundMap site) (q : SoundMap f
 pub site-over-factory-means : SiteOverFactory
 site-over-factory-means site factory x p q =
     ap (wordsOfTwo site factory) (decided-here site factory x p q) ∙ decided-words site factory x p q (has (ValueOf site x)) refl
+
+-- the one entry that meets the window x..x
+record Meets (x : ℕ) (v : Value) (es : List Entry) : Type 0 where
+  one : Entry
+  only : meeting x x es ≡ one ∷ []
+  from : one .low ≤ x
+  upto : x ≤ one .high
+  value : one .value ≡ v
+
+none-meets : (es : List Entry) (x : ℕ) → Sound es → valueAt es x ≡ none → meeting x x es ≡ []
+none-meets es x s e = go (meeting x x es) (one-meets es x s ∙ ap (λ (o : Option Value). pick (has o) 1 0) e)
+  where
+    go : (ms : List Entry) → length ms ≡ 0 → ms ≡ []
+    go [] l = refl
+    go (m ∷ ms) l = absurd (omega arith)
+
+some-meets : (es : List Entry) (x : ℕ) (v : Value) → Sound es → valueAt es x ≡ some v → Meets x v es
+some-meets [] x v s e = absurd (none≢some none v refl e)
+some-meets (e ∷ es) x v s k = go (side e x) (λ j. some-meets es x v (s .2) j)
+  where
+    go : Side e x → (valueAt es x ≡ some v → Meets x v es) → Meets x v (e ∷ es)
+    go (under h) later = absurd (none≢some _ _ (none-under e es s x h) k)
+    go (inside h l) later =
+        let i : some (e .value) ≡ some v = sym (val-in e es x h l) ∙ k in
+        record {
+          one = e;
+          only = rw (le-leb (e .low) x h, le-leb x (e .high) l) (ap (λ (ms : List Entry). e ∷ ms) (none-meets es x (s .2) (none-upto e es (s .1) (s .2) x l)));
+          from = h;
+          upto = l;
+          value = cc;
+        }
+    go (past h) later =
+        let m = later (sym (val-past e es x h) ∙ k) in
+        let l : meeting x x (e ∷ es) ≡ meeting x x es = rw (le-leb (e .low) x (omega (arith, s .0)), lt-leb x (e .high) h) refl in
+        record { one = m .one; only = l ∙ m .only; from = m .from; upto = m .upto; value = m .value }
+
+-- the window x..x of a map
+module _ (w : List ℕ) (x : ℕ) (s : SoundMap w) where
+  window-here : wordsAt w (mapWindowCall w x x) ≡ wordsOf (meeting x x (mapEntries w))
+  window-here = map-window-means w x x s (omega arith)
+
+  window-entry : (v : ℕ) → ValueOf w x ≡ some (v ∷ []) → EntryWords x v (wordsAt w (mapWindowCall w x x))
+  window-entry v e =
+      let m = some-meets (mapEntries w) x (v ∷ []) (verdict-sound mapLayout w s .sound) e in
+      record {
+        low = m .one .low;
+        high = m .one .high;
+        three = window-here ∙ ap wordsOf (m .only) ∙ ap (λ (u : Value). m .one .low ∷ m .one .high ∷ (u ++ [])) (m .value);
+        from = m .from;
+        upto = m .upto;
+      }
+
+  window-none : ValueOf w x ≡ none → wordsAt w (mapWindowCall w x x) ≡ []
+  window-none e = window-here ∙ ap wordsOf (none-meets (mapEntries w) x (verdict-sound mapLayout w s .sound) e)
+
+pub deciding-entry : DecidingEntry
+deciding-entry site factory x p q = (found, nothing)
+  where
+    words : (o : Option Value) → ValueOf site x ≡ o
+        → wordsOfTwo site factory (siteOverFactoryCall site factory x) ≡ pick (has o) (wordsAt site (mapWindowCall site x x)) (wordsAt factory (mapWindowCall
+        factory x x))
+    words o e = site-over-factory-means site factory x p q ∙ rw e
+
+    found : (v : ℕ) → orElse (ValueOf site x) (ValueOf factory x) ≡ some (v ∷ []) → EntryWords x v (wordsOfTwo site factory (siteOverFactoryCall site factory x))
+    found v k = go (ValueOf site x) refl k
+      where
+        go : (o : Option Value) → ValueOf site x ≡ o → orElse o (ValueOf factory x) ≡ some (v ∷ [])
+            → EntryWords x v (wordsOfTwo site factory (siteOverFactoryCall site factory x))
+        go (some u) e k = subst (EntryWords x v) (sym (words (some u) e)) (window-entry site x p v (e ∙ k))
+        go none e k = subst (EntryWords x v) (sym (words none e)) (window-entry factory x q v k)
+
+    nothing : orElse (ValueOf site x) (ValueOf factory x) ≡ none → wordsOfTwo site factory (siteOverFactoryCall site factory x) ≡ []
+    nothing k = go (ValueOf site x) refl k
+      where
+        go : (o : Option Value) → ValueOf site x ≡ o → orElse o (ValueOf factory x) ≡ none → wordsOfTwo site factory (siteOverFactoryCall site factory x) ≡ []
+        go (some u) e k = absurd (none≢some _ _ k refl)
+        go none e k = words none e ∙ window-none factory x q k
 
 -- no value, no entry
 no-entry : (w : List ℕ) (x : ℕ) → SoundMap w → has (ValueOf w x) ≡ false → (v : ℕ) → InEntry w x v → ⊥

@@ -1,10 +1,11 @@
 -- WHAT IS ASKED OF A LIST, by its meaning. Each call is said to answer, of a sound block; on any other block it is refused by R1, R2, R3.
 use mathlib.Core.Path.{_≡_}
 use mathlib.Core.Bool.{true, false}
-use mathlib.Core.Option.{some}
+use mathlib.Core.Option.{none, some}
 use mathlib.Core.List.{List, [], _∷_}
 use Prim.Native.Nat.{ℕ, suc, _+_, _*_, _≤_, _<_}
 use lib.ListN.{getD}
+use Rattle.entries.specs.Entries.{orElse}
 use Rattle.entries.specs.Sets.{M, pastM}
 use Rattle.entries.specs.Questions.{meeting, count}
 use Rattle.blocks.specs.Blocks.{setLayout, mapLayout, entriesOf, wordsOf, Lent}
@@ -81,6 +82,21 @@ abbrev pub SiteOverFactory : Type 0
 SiteOverFactory = (site factory : List ℕ) (x : ℕ) → SoundMap site → SoundMap factory
     → wordsOfTwo site factory (siteOverFactoryCall site factory x)
     ≡ pick (has (ValueOf site x)) (wordsAt site (mapWindowCall site x x)) (wordsAt factory (mapWindowCall factory x x))
+
+-- [M8, D2] the words of the deciding entry: an entry's low, high and value, x among its numbers
+pub record EntryWords (x v : ℕ) (words : List ℕ) : Type 0 where
+  pub low : ℕ
+  pub high : ℕ
+  pub three : words ≡ low ∷ high ∷ v ∷ []
+  pub from : low ≤ x
+  pub upto : x ≤ high
+
+-- [M8, D2] where the site map gives x the value v, or gives it none and the factory map gives it v, they are those of an entry with that
+-- value; where neither gives it one, there are none
+abbrev pub DecidingEntry : Type 0
+DecidingEntry = (site factory : List ℕ) (x : ℕ) → SoundMap site → SoundMap factory
+    → ((v : ℕ) → orElse (ValueOf site x) (ValueOf factory x) ≡ some (v ∷ []) → EntryWords x v (wordsOfTwo site factory (siteOverFactoryCall site factory x)))
+    × (orElse (ValueOf site x) (ValueOf factory x) ≡ none → wordsOfTwo site factory (siteOverFactoryCall site factory x) ≡ [])
 
 -- and it lies in the site map exactly if x has a value there
 abbrev pub WhichMap : Type 0
