@@ -28,7 +28,7 @@ use Rattle.forms.specs.Calls.{storedIn, readCall, heldIn, inputs, noSpac
 use Rattle.verdicts.specs.Steps.{FormKind}
 use Rattle.verdicts.proofs.Whole.{Formed, made, back, whole, size}
 
--- an output that has words, and one that has room for n items: not 1, not 5, and back
+-- an output that has words is not refused with 1; one of a capacity c not with 5 for n items exactly where they are within it
 pub has-words : (words : ℕ) → 0 < words → noBlock words ≡ 0
 has-words words h = rw (ne-eqb words 0 (λ z. omega arith))
 
