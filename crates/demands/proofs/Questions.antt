@@ -166,9 +166,6 @@ least-non-member-means w x s = (found, record { to = nothing; from = alone })
     asked-here = asked-sound w (λ es. optional (nonMember es x)) s
 
     -- the least free number, which is at most M or not
-    at-most : (t : Bool) → leb (leastFree es x) M ≡ t → nonMember es x ≡ pick t (some (leastFree es x)) none
-    at-most t e = ap (λ (u : Bool). pick u (some (leastFree es x)) none) e
-
     some-is : (t : Bool) (y : ℕ) → leb (leastFree es x) M ≡ t → pick t (some (leastFree es x)) none ≡ some y → (leastFree es x ≡ y) × (leastFree es x ≤ M)
     some-is true y e q = (cc, leb-true (leastFree es x) M e)
     some-is false y e q = let z : _≡_ {A = ℕ} 0 1 = cc in absurd (omega arith)

@@ -3,7 +3,6 @@ use mathlib.Core.Path.{_≡_}
 use mathlib.Core.List.{List, [], _∷_}
 use Prim.Native.Nat.{ℕ, _≤_, _<_}
 use lib.ListN.{length}
-use Rattle.entries.specs.Sets.{member}
 use Rattle.entries.proofs.Bulletins.{amend, Apart}
 use Rattle.answers.specs.Answers.{Outcome, outcome, given, refuse}
 use Rattle.blocks.specs.Blocks.{setLayout, capacity, entriesOf}
