@@ -17,11 +17,10 @@ use Rattle.entries.proofs.Values.{true≢false}
 use Rattle.entries.proofs.Questions.{none-empty}
 use Rattle.entries.proofs.Limits.{union-bound, difference-bound, symmetric-bound, intersection-bound, complement-bound, put-bound, insert-bound, erase-bound}
 use Rattle.entries.proofs.Limits.{overlay-bound}
-use Rattle.answers.specs.Answers.{at}
 use Rattle.answers.proofs.Turns.{turn-accepted, clear-at, applies-clear}
 use Rattle.blocks.specs.declared.Layout.{Layout}
 use Rattle.blocks.specs.Blocks.{setLayout, mapLayout, capacity, entriesOf, blockOf, verdict}
-use Rattle.blocks.specs.Calls.{input, output, room, holding}
+use Rattle.blocks.specs.Calls.{output, holding}
 use Rattle.blocks.proofs.Refusing.{some-words}
 use Rattle.blocks.proofs.Words.{items-length}
 use Rattle.blocks.proofs.Judging.{verdict-sound}

@@ -1,18 +1,18 @@
 -- Fits and reservations: the statements of specs/Fits.
 use mathlib.Core.Path.{_≡_, refl, sym, _∙_, ap, subst}
-use mathlib.Core.Bool.{Bool, true, false}
+use mathlib.Core.Bool.{true}
 use mathlib.Core.Option.{Option}
 use mathlib.Core.List.{List, [], _∷_}
 use Prim.Native.Nat.{ℕ, _+_, _-_, _≤_, _<_}
 use native.Mathlib.Omega.{arith}
-use lib.Dec.{ltb, eqb}
+use lib.Dec.{eqb}
 use lib.ListN.{length}
-use borrow.Author.Tests.{ltb-true, lt-ltb, eqb-false}
+use borrow.Author.Tests.{eqb-false}
 use Rattle.entries.specs.Entries.{Entry}
 use Rattle.entries.specs.Build.{pick}
-use Rattle.answers.specs.Answers.{Outcome, outcome, given, refused, refuse, judged, applies}
+use Rattle.answers.specs.Answers.{Outcome, outcome, given, refused, refuse, applies, Clear}
 use Rattle.answers.proofs.Turns.{turn-keeps, turn-accepted, clear-turn, clear-at, applies-clear, refused≢given}
-use Rattle.blocks.specs.Blocks.{setLayout, capacity, entriesOf}
+use Rattle.blocks.specs.Blocks.{setLayout, capacity, entriesOf, blockOf}
 use Rattle.fits.specs.Fits.{firstFit, bestFit}
 use Rattle.fits.specs.Meaning.{FirstOf, BestOf, answering}
 use Rattle.fits.specs.Calls.{placeOf, askRefusals, fitRefusals, answered, fitCall, reservedAt, reservedWith, reserveRefusals, reserveCall}
@@ -20,9 +20,10 @@ use Rattle.fits.specs.Steps.{reserving}
 use Rattle.fits.proofs.Meaning.{first-fit, best-fit}
 use Rattle.fits.proofs.Reserving.{fit-chosen, reserved-at, reserve-inserts}
 use Rattle.sets.specs.Calls.{insertCall}
-use Rattle.demands.specs.Plain.{In, answers, SetLeft, between}
+use Rattle.demands.specs.Plain.{Iff, In, answers, SetLeft, between}
 use Rattle.demands.specs.Fits.{FirstFit, BestFit, ReserveKeeps, Reserve, ReserveRoom}
 use Rattle.demands.proofs.Sets.{insert-means}
+use Rattle.demands.proofs.Rooms.{refused-alone}
 
 -- a run of no numbers is not asked for
 some-run : (k : ℕ) → applies (eqb k 0) 6 ≡ 0 → 1 ≤ k
@@ -62,14 +63,6 @@ module _ (fit : ℕ → ℕ → ℕ → List Entry → Option ℕ) (w : List ℕ
       let l : lent ≡ after ∷ [] = cc in insert-means w s (s + k - 1) xs after (i ∙ ap (outcome (given xs)) l)
   inserted after (outcome (refused n p) lent) i d = absurd (refused≢given d)
 
-  room-only : reserving w s k ≡ refuse 5 0 (w ∷ []) → capacity setLayout (length w) < length (reservedAt w s k)
-  room-only e = go (ltb (capacity setLayout (length w)) (length (reservedAt w s k))) refl e
-    where
-      go : (t : Bool) → ltb (capacity setLayout (length w)) (length (reservedAt w s k)) ≡ t
-          → judged (applies t 5) 0 (w ∷ []) (reservedWith w s k) ≡ refuse 5 0 (w ∷ []) → capacity setLayout (length w) < length (reservedAt w s k)
-      go true q d = ltb-true (capacity setLayout (length w)) (length (reservedAt w s k)) q
-      go false q d = absurd (refused≢given (sym d))
-
 pub reserve-means : Reserve
 reserve-means fit w a b k s after e =
     let f = asked fit w a b k s after e in
@@ -78,7 +71,8 @@ reserve-means fit w a b k s after e =
 pub reserve-room : ReserveRoom
 reserve-room fit w a b k s f =
     let r = reserved-at fit w a b k s (fit-chosen fit w a b k s (sym f)) in
-    record {
-      to = λ e. room-only fit w a b k s (sym r ∙ e);
-      from = λ h. r ∙ rw (lt-ltb (capacity setLayout (length w)) (length (reservedAt w s k)) h);
-    }
+    record { to = λ e. exactly .to (sym r ∙ e) .1; from = λ h. r ∙ exactly .from (tt, h) }
+  where
+    -- of a reservation at s, room alone is left to judge
+    exactly : Iff (reserving w s k ≡ refuse 5 0 (w ∷ [])) (Clear [] × (capacity setLayout (length w) < length (reservedAt w s k)))
+    exactly = refused-alone setLayout 0 w (reservedAt w s k) [] tt (s ∷ []) (blockOf (length w) (reservedAt w s k) ∷ [])

@@ -3,23 +3,21 @@ use mathlib.Core.Path.{_≡_, refl}
 use mathlib.Core.List.{List, [], _∷_}
 use Prim.Native.Nat.{ℕ, zero, suc, _+_, _≤_, _<_}
 use native.Mathlib.Omega.{arith}
-use lib.Dec.{eqb}
 use lib.ListN.{length, getD}
-use Rattle.entries.specs.Bulletins.{shareb}
 use Rattle.entries.specs.Entries.{Entry}
 use Rattle.answers.specs.declared.Finding.{Finding}
 use Rattle.answers.specs.Answers.{refuse, Clear}
 use Rattle.answers.proofs.Turns.{clear-at}
-use Rattle.blocks.specs.Blocks.{setLayout, capacity, entriesOf, blockOf, verdict}
-use Rattle.blocks.specs.Calls.{input, noBlock, output}
+use Rattle.blocks.specs.Blocks.{setLayout, capacity, entriesOf, blockOf}
+use Rattle.blocks.specs.Calls.{input, output}
 use Rattle.blocks.proofs.Refusing.{some-words}
-use Rattle.searches.specs.Calls.{overlapping, overlap}
+use Rattle.searches.specs.Calls.{overlap}
 use Rattle.bulletins.specs.Calls.{amendedWith, applyCall, foldCall}
-use Rattle.demands.specs.Plain.{Iff, SoundSet}
-use Rattle.demands.specs.Bulletins.{NoCommon, Apply, Fold, FoldIsOne, FoldApplies, FoldGroups, EitherOrder, ApplyRoom, Foldable, FoldRoom}
-use Rattle.demands.proofs.Exactly.{verdict-not, words-some}
-use Rattle.demands.proofs.Findings.{Where, Numbered, applied}
-use Rattle.demands.proofs.Rooms.{Lacks, refused-room}
+use Rattle.forms.proofs.Forms.{has-words}
+use Rattle.demands.specs.Plain.{Iff}
+use Rattle.demands.specs.Bulletins.{Apply, Fold, FoldIsOne, FoldApplies, FoldGroups, EitherOrder, ApplyRoom, Foldable, FoldRoom}
+use Rattle.demands.proofs.Findings.{Numbered}
+use Rattle.demands.proofs.Rooms.{Not5, input-not, output-not, overlap-not, Lacks, refused-room, refused-alone}
 use Rattle.demands.proofs.Bulletins.{apply-means, fold-released, fold-withdrawn, fold-bulletin, fold-applies, fold-groups, fold-either-order}
 use Rattle.demands.proofs.Bulletins.{overlap-apart, apart-overlap}
 
@@ -41,56 +39,39 @@ fold-grouping = fold-groups
 pub fold-order : EitherOrder
 fold-order = fold-either-order
 
--- What is tried before room has other numbers than 5: an input, 1 to 3; an output without words, 1; a number in both sets of a bulletin, 14.
-abbrev Not5 : ℕ → Type 0
-Not5 n = n ≡ 5 → ⊥
-
-input-not : (w : List ℕ) → Where Not5 (verdict setLayout w)
-input-not w z = verdict-not setLayout w
-
-output-not : (words : ℕ) → Where Not5 (noBlock words)
-output-not words = applied Not5 (eqb words 0) 1 (λ e. omega arith)
-
-overlap-not : (r w : List Entry) → Where Not5 (overlapping r w)
-overlap-not r w = applied Not5 (shareb r w) 14 (λ e. omega arith)
-
 -- ROOM exactly: what is tried before it is clear, and of the outputs the one is the first without room
 pub apply-room : ApplyRoom
 unfolding applyCall
-apply-room list released withdrawn out = record { to = to; from = from }
+apply-room list released withdrawn out = record {
+  to = λ e.
+      let h = exactly .to e in
+      let c = clear-at firsts (h .0) in
+      (c 0, record { released-sound = c 1; withdrawn-sound = c 2; apart = overlap-apart r w (c 4) }, some-words (length out) (c 3), h .1);
+  from = λ h.
+      let b = h .1 in
+      exactly .from ((h .0, (b .released-sound, (b .withdrawn-sound, (has-words (length out) (h .2), (apart-overlap r w (b .apart), tt))))), h .3);
+}
   where
     es : List Entry
     es = amendedWith list released withdrawn
+
+    r : List Entry
+    r = entriesOf 2 released
+
+    w : List Entry
+    w = entriesOf 2 withdrawn
 
     firsts : List Finding
     firsts = input 0 setLayout list ∷ input 1 setLayout released ∷ input 2 setLayout withdrawn ∷ output 3 (length out) ∷ overlap released withdrawn ∷ []
 
     other : Numbered Not5 firsts
     other = (
-      input-not list,
-      (input-not released, (input-not withdrawn, (output-not (length out), (overlap-not (entriesOf 2 released) (entriesOf 2 withdrawn), tt)))),
+      input-not setLayout list,
+      (input-not setLayout released, (input-not setLayout withdrawn, (output-not (length out), (overlap-not r w, tt)))),
     )
 
-    exactly : Iff (applyCall list released withdrawn out ≡ refuse 5 3 (out ∷ [])) (Clear firsts × Lacks setLayout (length out ∷ []) (length es ∷ []) 0)
-    exactly = refused-room setLayout 3 (length out ∷ []) (length es ∷ []) refl 0 3 refl firsts other (out ∷ []) (blockOf (length out) es ∷ [])
-
-    to : applyCall list released withdrawn out ≡ refuse 5 3 (out ∷ [])
-        → SoundSet list × SoundSet released × SoundSet withdrawn × (0 < length out) × NoCommon released withdrawn
-        × (capacity setLayout (length out) < length es)
-    to e =
-        let h = exactly .to e in
-        let c = clear-at firsts (h .0) in
-        (c 0, c 1, c 2, some-words (length out) (c 3), overlap-apart (entriesOf 2 released) (entriesOf 2 withdrawn) (c 4), h .1 .here)
-
-    from : SoundSet list × SoundSet released × SoundSet withdrawn × (0 < length out) × NoCommon released withdrawn
-        × (capacity setLayout (length out) < length es) → applyCall list released withdrawn out ≡ refuse 5 3 (out ∷ [])
-    from h = exactly .from (
-      (
-        h .0,
-        (h .1, (h .2, (words-some (length out) (h .3), (apart-overlap (entriesOf 2 released) (entriesOf 2 withdrawn) (h .4), tt)))),
-      ),
-      record { before = λ k l. absurd (omega arith); here = h .5 },
-    )
+    exactly : Iff (applyCall list released withdrawn out ≡ refuse 5 3 (out ∷ [])) (Clear firsts × (capacity setLayout (length out) < length es))
+    exactly = refused-alone setLayout 3 out es firsts other [] (blockOf (length out) es ∷ [])
 
 pub fold-room : FoldRoom
 unfolding foldCall
@@ -103,13 +84,13 @@ fold-room r₁ w₁ r₂ w₂ outR outW = (first, second)
 
     other : Numbered Not5 firsts
     other = (
-      input-not r₁,
+      input-not setLayout r₁,
       (
-        input-not w₁,
+        input-not setLayout w₁,
         (
-          input-not r₂,
+          input-not setLayout r₂,
           (
-            input-not w₂,
+            input-not setLayout w₂,
             (
               output-not (length outR),
               (
@@ -137,34 +118,33 @@ fold-room r₁ w₁ r₂ w₂ outR outW = (first, second)
     exactly : (i p : ℕ) → p ≡ 4 + i
         → Iff (foldCall r₁ w₁ r₂ w₂ outR outW ≡ refuse 5 p (outR ∷ outW ∷ [])) (Clear firsts × Lacks setLayout ls counts i)
     exactly i p e =
-        refused-room setLayout 4 ls counts refl i p e firsts other (outR ∷ outW ∷ []) (blockOf (length outR) released ∷ blockOf (length outW) withdrawn ∷ [])
+        refused-room setLayout 4 ls counts refl i p e firsts other (outR ∷ outW ∷ []) [] (blockOf (length outR) released ∷ blockOf (length outW) withdrawn ∷ [])
 
     foldable : Clear firsts → Foldable r₁ w₁ r₂ w₂ outR outW
     foldable z =
         let c = clear-at firsts z in
         record {
-          sound = (c 0, c 1, c 2, c 3);
+          earlier = record { released-sound = c 0; withdrawn-sound = c 1; apart = overlap-apart (entriesOf 2 r₁) (entriesOf 2 w₁) (c 6) };
+          later = record { released-sound = c 2; withdrawn-sound = c 3; apart = overlap-apart (entriesOf 2 r₂) (entriesOf 2 w₂) (c 7) };
           words = (some-words (length outR) (c 4), some-words (length outW) (c 5));
-          earlier = overlap-apart (entriesOf 2 r₁) (entriesOf 2 w₁) (c 6);
-          later = overlap-apart (entriesOf 2 r₂) (entriesOf 2 w₂) (c 7);
         }
 
     clears : Foldable r₁ w₁ r₂ w₂ outR outW → Clear firsts
     clears h = (
-      h .sound .0,
+      h .earlier .released-sound,
       (
-        h .sound .1,
+        h .earlier .withdrawn-sound,
         (
-          h .sound .2,
+          h .later .released-sound,
           (
-            h .sound .3,
+            h .later .withdrawn-sound,
             (
-              words-some (length outR) (h .words .0),
+              has-words (length outR) (h .words .0),
               (
-                words-some (length outW) (h .words .1),
+                has-words (length outW) (h .words .1),
                 (
-                  apart-overlap (entriesOf 2 r₁) (entriesOf 2 w₁) (h .earlier),
-                  (apart-overlap (entriesOf 2 r₂) (entriesOf 2 w₂) (h .later), tt),
+                  apart-overlap (entriesOf 2 r₁) (entriesOf 2 w₁) (h .earlier .apart),
+                  (apart-overlap (entriesOf 2 r₂) (entriesOf 2 w₂) (h .later .apart), tt),
                 ),
               ),
             ),

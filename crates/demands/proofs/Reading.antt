@@ -27,7 +27,7 @@ use Rattle.forms.proofs.Forms.{accepted-formed, formed-accepted}
 use Rattle.demands.specs.Bytes.{OfThree, of-set, of-map, of-bulletin, lastOfBytes, IsForm, ReadRefusals, NoRoomFor, ReadRoom}
 use Rattle.demands.specs.Plain.{Iff}
 use Rattle.demands.proofs.Findings.{Where, Numbered, chosen, not-any, applied, numbered-both, numbered-so, named-number, named-applies, named-split}
-use Rattle.demands.proofs.Rooms.{words-numbers, rooms-numbers, clear-words, words-clear, Lacks, refused-room}
+use Rattle.demands.proofs.Rooms.{Not5, words-numbers, rooms-numbers, clear-words, words-clear, Lacks, refused-room}
 use Rattle.demands.proofs.Forms.{kind-of}
 
 -- the numbers that bytes are refused with, the highest being `last`
@@ -141,15 +141,15 @@ read-room f t b y outs many i = record { to = to; from = from }
     firsts = formRefusals f b ++ noBlocks 0 ls
 
     -- no 5 among what is tried before room
-    other : Numbered (λ n. n ≡ 5 → ⊥) firsts
+    other : Numbered Not5 firsts
     other =
-        numbered-both (λ n. n ≡ 5 → ⊥) (formRefusals f b) (noBlocks 0 ls)
-        (numbered-so (From8 (lastOfBytes f)) (λ n. n ≡ 5 → ⊥) (λ n h e. omega (arith, h .0)) (formRefusals f b) (bytes-numbers f t b))
-        (numbered-so (λ n. n ≡ 1) (λ n. n ≡ 5 → ⊥) (λ n h e. omega arith) (noBlocks 0 ls) (words-numbers 0 ls))
+        numbered-both Not5 (formRefusals f b) (noBlocks 0 ls)
+        (numbered-so (From8 (lastOfBytes f)) Not5 (λ n h e. omega (arith, h .0)) (formRefusals f b) (bytes-numbers f t b))
+        (numbered-so (λ n. n ≡ 1) Not5 (λ n h e. omega arith) (noBlocks 0 ls) (words-numbers 0 ls))
 
     exactly : Iff (inTurn (firsts ++ noRooms (f .layout) 0 ls counts) outs (outcome (given []) after) ≡ refuse 5 i outs)
         (Clear firsts × Lacks (f .layout) ls counts i)
-    exactly = refused-room (f .layout) 0 ls counts (many-lengths outs ∙ many ∙ sym (as-many f t b)) i i (omega arith) firsts other outs after
+    exactly = refused-room (f .layout) 0 ls counts (many-lengths outs ∙ many ∙ sym (as-many f t b)) i i (omega arith) firsts other outs [] after
 
     same : readCall f b outs ≡ inTurn (firsts ++ noRooms (f .layout) 0 ls counts) outs (outcome (given []) after)
     same =

@@ -7,20 +7,24 @@ use native.Mathlib.Omega.{arith}
 use native.Mathlib.Decide.{decLt}
 use lib.Dec.{ltb, eqb}
 use lib.ListN.{length, getD}
-use borrow.Author.Tests.{ltb-false, lt-ltb}
-use Rattle.entries.specs.Entries.{Each}
+use borrow.Author.Tests.{lt-ltb}
+use Rattle.entries.specs.Entries.{Each, Entry}
+use Rattle.entries.specs.Bulletins.{shareb}
 use Rattle.answers.specs.declared.Finding.{Finding}
 use Rattle.answers.specs.Answers.{outcome, given, refuse, applies, inTurn, Clear}
 use Rattle.answers.specs.Steps.{numberAt, placeAt, Named}
-use Rattle.answers.proofs.Turns.{applies-clear, refused-named}
+use Rattle.answers.proofs.Turns.{refused-named}
 use Rattle.blocks.specs.declared.Layout.{Layout}
-use Rattle.blocks.specs.Blocks.{capacity}
+use Rattle.blocks.specs.Blocks.{capacity, verdict}
+use Rattle.blocks.specs.Calls.{noBlock, backwards, room}
+use Rattle.blocks.proofs.Judging.{verdict-most}
 use Rattle.blocks.proofs.Refusing.{some-words}
 use Rattle.runs.specs.Runs.{lengths}
+use Rattle.searches.specs.Calls.{overlapping}
 use Rattle.verdicts.specs.Forms.{noBlocks, noRooms}
-use Rattle.forms.proofs.Forms.{has-words, has-room}
+use Rattle.forms.proofs.Forms.{has-words, has-room, room-held}
 use Rattle.demands.specs.Plain.{Iff}
-use Rattle.demands.proofs.Findings.{Numbered, applied, named-number, named-split, named-join, named-refused}
+use Rattle.demands.proofs.Findings.{Where, Numbered, applied, named-number, named-split, named-join, named-refused}
 
 -- which numbers they have
 pub words-numbers : (q : ℕ) (ls : List ℕ) → Numbered (λ n. n ≡ 1) (noBlocks q ls)
@@ -32,6 +36,22 @@ rooms-numbers l q [] counts = tt
 rooms-numbers l q (k ∷ ls) [] = tt
 rooms-numbers l q (k ∷ ls) (n ∷ counts) = (applied (λ n. n ≡ 5) (ltb (capacity l k) n) 5 refl, rooms-numbers l (suc q) ls counts)
 
+-- what is tried before room has other numbers than 5: an input, 1 to 3; a range, 4; an output without words, 1; two sets with a common number, 14
+abbrev pub Not5 : ℕ → Type 0
+Not5 n = n ≡ 5 → ⊥
+
+pub input-not : (l : Layout) (w : List ℕ) → Where Not5 (verdict l w)
+input-not l w z e = omega (arith, verdict-most l w)
+
+pub range-not : (a b : ℕ) → Where Not5 (backwards a b .number)
+range-not a b = applied Not5 (ltb b a) 4 (λ e. omega arith)
+
+pub output-not : (words : ℕ) → Where Not5 (noBlock words)
+output-not words = applied Not5 (eqb words 0) 1 (λ e. omega arith)
+
+pub overlap-not : (r w : List Entry) → Where Not5 (overlapping r w)
+overlap-not r w = applied Not5 (shareb r w) 14 (λ e. omega arith)
+
 -- none has 1 exactly where every output has words
 pub clear-words : (q : ℕ) (outs : List (List ℕ)) → Clear (noBlocks q (lengths outs)) → Each (λ (out : List ℕ). 0 < length out) outs
 clear-words q [] c = tt
@@ -41,10 +61,7 @@ pub words-clear : (q : ℕ) (outs : List (List ℕ)) → Each (λ (out : List �
 words-clear q [] h = tt
 words-clear q (out ∷ outs) h = (has-words (length out) (h .0), words-clear (suc q) outs (h .1))
 
--- what 5 says of the capacity and of the number of items, where it does not apply, and where it does
-room-held : (c n : ℕ) → applies (ltb c n) 5 ≡ 0 → n ≤ c
-room-held c n e = ltb-false c n (applies-clear (ltb c n) 4 e)
-
+-- what 5 says of the capacity and of the number of items, where it applies
 room-missed : (c n : ℕ) → (applies (ltb c n) 5 ≡ 0 → ⊥) → c < n
 room-missed c n h = go (decLt c n)
   where
@@ -99,13 +116,26 @@ module _ (l : Layout) where
 
     -- a call that tries room last, and gives no 5 before: it is refused with 5 at output i's place p exactly where nothing earlier applies,
     -- and output i is the first that lacks room
-    pub refused-room : (fs : List Finding) → Numbered (λ n. n ≡ 5 → ⊥) fs → (lent after : List (List ℕ))
-        → Iff (inTurn (fs ++ rooms) lent (outcome (given []) after) ≡ refuse 5 p lent) (Clear fs × Lacks l ls counts i)
-    refused-room fs other lent after = record {
-      to = λ e. go (named-split fs rooms (refused-named (fs ++ rooms) lent [] after 5 p lent e));
-      from = λ h. named-refused (fs ++ rooms) lent (outcome (given []) after) (named-join fs rooms (h .0) (lacks-named (h .1)));
+    pub refused-room : (fs : List Finding) → Numbered Not5 fs → (lent : List (List ℕ)) (xs : List ℕ) (after : List (List ℕ))
+        → Iff (inTurn (fs ++ rooms) lent (outcome (given xs) after) ≡ refuse 5 p lent) (Clear fs × Lacks l ls counts i)
+    refused-room fs other lent xs after = record {
+      to = λ e. go (named-split fs rooms (refused-named (fs ++ rooms) lent xs after 5 p lent e));
+      from = λ h. named-refused (fs ++ rooms) lent (outcome (given xs) after) (named-join fs rooms (h .0) (lacks-named (h .1)));
     }
       where
         go : Named fs 5 p ⊎ (Clear fs × Named rooms 5 p) → Clear fs × Lacks l ls counts i
-        go (inl m) = absurd (named-number (λ n. n ≡ 5 → ⊥) fs other m refl)
+        go (inl m) = absurd (named-number Not5 fs other m refl)
         go (inr m) = (m .0, named-lacks (m .1))
+
+  -- the same of a call that writes one block, w at the place p, which is to say es
+  pub refused-alone : (p : ℕ) (w : List ℕ) (es : List Entry) (fs : List Finding) → Numbered Not5 fs → (xs : List ℕ) (after : List (List ℕ))
+      → Iff (inTurn (fs ++ (room p l (length w) es ∷ [])) (w ∷ []) (outcome (given xs) after) ≡ refuse 5 p (w ∷ []))
+      (Clear fs × (capacity l (length w) < length es))
+  refused-alone p w es fs other xs after = record {
+    to = λ e. let h = exactly .to e in (h .0, h .1 .here);
+    from = λ h. exactly .from (h .0, record { before = λ k q. absurd (omega arith); here = h .1 });
+  }
+    where
+      exactly : Iff (inTurn (fs ++ (room p l (length w) es ∷ [])) (w ∷ []) (outcome (given xs) after) ≡ refuse 5 p (w ∷ []))
+          (Clear fs × Lacks l (length w ∷ []) (length es ∷ []) 0)
+      exactly = refused-room p (length w ∷ []) (length es ∷ []) refl 0 p (omega arith) fs other (w ∷ []) xs after

@@ -82,15 +82,13 @@ SameApplied = (r w r′ w′ : List ℕ) → Bulletin r w → Bulletin r′ w′
 abbrev pub ApplyRoom : Type 0
 ApplyRoom = (list released withdrawn out : List ℕ)
     → Iff (applyCall list released withdrawn out ≡ refuse 5 3 (out ∷ []))
-    (SoundSet list × SoundSet released × SoundSet withdrawn × (0 < length out) × NoCommon released withdrawn
-    × (capacity setLayout (length out) < length (amendedWith list released withdrawn)))
+    (SoundSet list × Bulletin released withdrawn × (0 < length out) × (capacity setLayout (length out) < length (amendedWith list released withdrawn)))
 
--- four sound inputs, outputs that have words, and two bulletins, neither with a number in both of its sets
+-- two bulletins, and outputs that have words
 pub record Foldable (r₁ w₁ r₂ w₂ outR outW : List ℕ) : Type 0 where
-  pub sound : SoundSet r₁ × SoundSet w₁ × SoundSet r₂ × SoundSet w₂
+  pub earlier : Bulletin r₁ w₁
+  pub later : Bulletin r₂ w₂
   pub words : (0 < length outR) × (0 < length outW)
-  pub earlier : NoCommon r₁ w₁
-  pub later : NoCommon r₂ w₂
 
 -- [R5, R17] ROOM exactly: nothing earlier applies, and the released set that results does not fit its output; or it does, and the withdrawn
 -- set does not

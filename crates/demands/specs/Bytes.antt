@@ -8,7 +8,7 @@ use lib.ListN.{length, getD, take, drop}
 use Rattle.entries.specs.Entries.{Entry, Each}
 use Rattle.entries.specs.Build.{pick}
 use Rattle.entries.specs.Sets.{M}
-use Rattle.answers.specs.Answers.{given, refused, outcome, refuse, Keeps, Clear}
+use Rattle.answers.specs.Answers.{given, outcome, refuse, Keeps, Clear}
 use Rattle.blocks.specs.Blocks.{setLayout, mapLayout, capacity, entriesOf, Lent}
 use Rattle.numbers.specs.Numbers.{Bytes, patch}
 use Rattle.runs.specs.Runs.{lengths}

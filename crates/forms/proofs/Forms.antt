@@ -4,18 +4,20 @@ use mathlib.Core.List.{List, [], _∷_, _++_}
 use mathlib.Core.Bool.{Bool, true, false}
 use mathlib.Core.Path.{_≡_, refl, sym, subst, ap, ap₂, _∙_}
 use native.Mathlib.Omega.{arith}
-use lib.Dec.{ltb, eqb}
-use lib.ListN.{length, getD, take, drop, replicate, length-drop, length-append, length-replicate}
+use lib.Dec.{ltb}
+use lib.ListN.{length, getD, take, drop, length-drop}
 use lib.Seq.{take-at, drop-at, length-take-le}
 use borrow.Author.Tests.{ltb-false, le-ltb, ne-eqb}
-use Rattle.entries.specs.Entries.{Entry, Sound, Each}
+use Rattle.entries.specs.Entries.{Entry, Each}
 use Rattle.entries.specs.Build.{pick}
 use Rattle.answers.specs.Answers.{outcome, given, inTurn, applies, Clear}
 use Rattle.answers.proofs.Turns.{turn-accepted, clear-turn, applies-clear}
-use Rattle.blocks.specs.Blocks.{capacity, entriesOf, wordsOf, blockOf, verdict, Shaped}
+use Rattle.blocks.specs.Calls.{noBlock}
+use Rattle.blocks.specs.Blocks.{Shaped}
 use Rattle.blocks.specs.declared.Layout.{Layout}
-use Rattle.blocks.proofs.Words.{items-shaped, items-length, words-length, read-back}
-use Rattle.blocks.proofs.Judging.{verdict-sound, sound-verdict, room-words}
+use Rattle.blocks.proofs.Words.{items-shaped, items-length}
+use Rattle.blocks.proofs.Canonical.{entries-stored, sound-stored}
+use Rattle.blocks.proofs.Judging.{verdict-sound, room-words}
 use Rattle.blocks.proofs.Refusing.{some-words, room-fits}
 use Rattle.numbers.specs.Numbers.{Bytes, over, patch}
 use Rattle.runs.specs.Runs.{lengths, Fine}
@@ -27,26 +29,15 @@ use Rattle.forms.specs.Calls.{storedIn, readCall, heldIn, inputs, noSpac
 use Rattle.verdicts.specs.Steps.{FormKind}
 use Rattle.verdicts.proofs.Whole.{made, back, whole, size}
 
--- the block of sound entries is sound, and says them
-module _ (l : Layout) (L : ℕ) (es : List Entry) (two : 2 ≤ l .width) (h : Shaped (l .width) es) where
-  block-entries : entriesOf (l .width) (blockOf L es) ≡ es
-  unfolding blockOf
-  block-entries = read-back (l .width) two es (replicate (L - (1 + length (wordsOf es))) 0) h
-
-  block-verdict : Sound es → 0 < L → length es ≤ capacity l L → verdict l (blockOf L es) ≡ 0
-  unfolding blockOf
-  block-verdict d p c =
-      let z = L - (1 + length (wordsOf es)) in
-      let lb : length (blockOf L es) ≡ L =
-      omega (arith, length-append (wordsOf es) (replicate z 0), length-replicate {A = ℕ} z 0, words-length (l .width) es h, room-words l L (length es) p c) in
-      sound-verdict l (blockOf L es) record { some = omega arith; fits = rw lb c; sound = rw block-entries d }
-
--- an output that has words, and room
-pub has-words : (l : ℕ) → 0 < l → applies (eqb l 0) 1 ≡ 0
-has-words l h = rw (ne-eqb l 0 (λ z. omega arith))
+-- an output that has words is not refused with 1; one of a capacity c not with 5 for n items exactly where they are within it
+pub has-words : (words : ℕ) → 0 < words → noBlock words ≡ 0
+has-words words h = rw (ne-eqb words 0 (λ z. omega arith))
 
 pub has-room : (c n : ℕ) → n ≤ c → applies (ltb c n) 5 ≡ 0
 has-room c n h = rw (le-ltb c n h)
+
+pub room-held : (c n : ℕ) → applies (ltb c n) 5 ≡ 0 → n ≤ c
+room-held c n e = ltb-false c n (applies-clear (ltb c n) 4 e)
 
 -- blocks that hold runs, and blocks judged
 module _ (layout : Layout) (two : 2 ≤ layout .width) where
@@ -58,18 +49,17 @@ module _ (layout : Layout) (two : 2 ≤ layout .width) where
   held-stored [] [] l h = refl
   held-stored [] (es ∷ runs) l h = absurd (omega arith)
   held-stored (w ∷ outs) [] l h = absurd (omega arith)
-  held-stored (w ∷ outs) (es ∷ runs) l h = ap₂ _∷_ (block-entries layout (length w) es two (h .0)) (held-stored outs runs (omega arith) (h .1))
+  held-stored (w ∷ outs) (es ∷ runs) l h = ap₂ _∷_ (entries-stored s two (length w) es (h .0)) (held-stored outs runs (omega arith) (h .1))
 
-  sound-stored : (i j q : ℕ) (outs : List (List ℕ)) (runs : List (List Entry)) → Clear (noBlocks i (lengths outs))
+  inputs-stored : (i j q : ℕ) (outs : List (List ℕ)) (runs : List (List Entry)) → Clear (noBlocks i (lengths outs))
       → Clear (noRooms layout j (lengths outs) (lengths runs))
       → Each (Fine s (layout .limit)) runs → Clear (inputs layout q (storedIn outs runs))
-  sound-stored i j q [] runs c d h = tt
-  sound-stored i j q (w ∷ outs) [] c d h = tt
-  sound-stored i j q (w ∷ outs) (es ∷ runs) c d h =
-      let g = room-fits layout (length w) es (d .0) in (
-        block-verdict layout (length w) es two (h .0 .shaped) (h .0 .sound) (some-words (length w) (c .0)) g,
-        sound-stored (suc i) (suc j) (suc q) outs runs (c .1) (d .1) (h .1),
-      )
+  inputs-stored i j q [] runs c d h = tt
+  inputs-stored i j q (w ∷ outs) [] c d h = tt
+  inputs-stored i j q (w ∷ outs) (es ∷ runs) c d h = (
+    sound-stored layout two (length w) es (h .0 .shaped) (some-words (length w) (c .0)) (room-fits layout (length w) es (d .0)) (h .0 .sound),
+    inputs-stored (suc i) (suc j) (suc q) outs runs (c .1) (d .1) (h .1),
+  )
 
   pub held-fine : (q : ℕ) (ws : List (List ℕ)) → Clear (inputs layout q ws) → Each (Fine s (layout .limit)) (heldIn layout ws)
   held-fine q [] c = tt
@@ -141,7 +131,7 @@ module _ (f : Form) (k : FormKind f) where
       let i : heldIn (f .layout) ws ≡ es =
       ap (heldIn (f .layout)) (sym w) ∙ held-stored (f .layout) (k .first .two) outs es l (shapes (f .layout .width) (f .layout .limit) es (g .fine)) in
       let v : Clear (inputs (f .layout) 0 ws) =
-      subst (λ (x : List (List ℕ)). Clear (inputs (f .layout) 0 x)) w (sound-stored (f .layout) (k .first .two) 0 0 0 outs es (d .0) (d .1) (g .fine)) in
+      subst (λ (x : List (List ℕ)). Clear (inputs (f .layout) 0 x)) w (inputs-stored (f .layout) (k .first .two) 0 0 0 outs es (d .0) (d .1) (g .fine)) in
       let form : formOf f (heldIn (f .layout) ws) ≡ b = ap (formOf f) i ∙ sym (g .form) in
       let o : applies (sharing (heldIn (f .layout) ws)) 14 ≡ 0 = ap (λ (x : List (List Entry)). applies (sharing x) 14) i ∙ rw (g .apart) in
       let u = space-there p (length b) (length bytes) (omega arith) (omega arith) in

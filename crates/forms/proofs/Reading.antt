@@ -6,7 +6,6 @@ use mathlib.Core.Path.{_≡_, refl, sym, subst, ap, ap₂, _∙_}
 use native.Mathlib.Omega.{arith}
 use lib.Dec.{ltb, eqb}
 use lib.ListN.{length, take, drop, length-drop}
-use borrow.Author.Tests.{ltb-false, eqb-false}
 use Rattle.entries.specs.Entries.{Entry}
 use Rattle.entries.specs.Sets.{member}
 use Rattle.answers.specs.Answers.{given, refused, Outcome, outcome, truth, judged, inTurn, applies, Clear}
@@ -15,10 +14,11 @@ use Rattle.answers.specs.Says.{judgedSays, judgedOf}
 use Rattle.answers.specs.declared.Finding.{Finding}
 use Rattle.answers.specs.declared.Judged.{Judged}
 use Rattle.answers.specs.declared.Judged.the-variants as answer
-use Rattle.answers.proofs.Turns.{stops-in, passes-in, refused-by, given-by, applies-clear}
+use Rattle.answers.proofs.Turns.{stops-in, passes-in, refused-by, given-by}
 use Rattle.blocks.specs.Blocks.{capacity, blockOf}
 use Rattle.blocks.specs.declared.Layout.{Layout}
 use Rattle.blocks.proofs.Judging.{room-words}
+use Rattle.blocks.proofs.Refusing.{some-words}
 use Rattle.numbers.specs.Numbers.{Bytes, num2}
 use Rattle.records.specs.Reads.{secondCount}
 use Rattle.records.proofs.Items.{counts-two}
@@ -29,7 +29,7 @@ use Rattle.forms.specs.Calls.{storedIn, readCall, judgeCall, oneNumber, 
 use Rattle.forms.specs.Steps.{Stored, Stores}
 use Rattle.verdicts.specs.Steps.{Shape, lone, pair, FormKind, eachOf, itemSize, secondAt, runsHere}
 use Rattle.verdicts.proofs.Whole.{set-kind, counted}
-use Rattle.forms.proofs.Forms.{accepted-size}
+use Rattle.forms.proofs.Forms.{room-held, accepted-size}
 use Rattle.verdicts.proofs.Two.{entries-here, size-here}
 
 -- refused with the first refusal
@@ -51,9 +51,7 @@ record Roomy (layout : Layout) (l n : ℕ) : Type 0 where
   fits : n ≤ capacity layout l
 
 roomy : (layout : Layout) (l n : ℕ) → applies (eqb l 0) 1 ≡ 0 → applies (ltb (capacity layout l) n) 5 ≡ 0 → Roomy layout l n
-roomy layout l n c d =
-    let z = eqb-false l 0 (applies-clear (eqb l 0) 0 c) in
-    record { some = omega arith; fits = ltb-false (capacity layout l) n (applies-clear (ltb (capacity layout l) n) 4 d) }
+roomy layout l n c d = record { some = some-words l c; fits = room-held (capacity layout l) n d }
 
 each-roomy : (layout : Layout) (r i j n m : ℕ) → Shape r layout → Clear (outRefusals layout (take r (i ∷ j ∷ [])) (take r (n ∷ m ∷ [])))
     → Roomy layout i n × ((r ≡ 1 → ⊥) → Roomy layout j m)
