@@ -89,7 +89,7 @@ fn published(name: &[u8], text: &[u8]) {
     }
 }
 
-// [N-O] The cases in the order of the file stdout; among them the checks of the records of 0..0 and 0..M.
+// [N-O, Y11] The cases in the order of the file stdout; among them the checks of the records of 0..0 and 0..M, and published ones.
 fn main() {
     let empty = [0u64; 1];
     let mut block = [0u64; 1];

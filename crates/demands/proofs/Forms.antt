@@ -4,7 +4,7 @@ use mathlib.Core.List.{List, [], _∷_, _++_}
 use Prim.Native.Nat.{ℕ, _+_, zero, suc, _*_}
 use Rattle.entries.specs.Entries.{Entry, Each}
 use Rattle.answers.specs.declared.Finding.{Finding}
-use Rattle.answers.specs.Answers.{given, outcome, Clear, Outcome, refuse, truth, judged, inTurn}
+use Rattle.answers.specs.Answers.{given, outcome, Clear, Outcome, refuse, truth, judged, inTurn, Keeps}
 use mathlib.Core.Bool.{Bool, true, false}
 use native.Mathlib.Omega.{arith}
 use lib.ListN.{length, getD, drop}
@@ -12,7 +12,7 @@ use Rattle.entries.specs.Build.{pick}
 use Rattle.entries.specs.Sets.{member}
 use Rattle.blocks.specs.Blocks.{entriesOf, blockOf, setLayout, Shaped}
 use Rattle.demands.specs.Plain.{In, leaves}
-use Rattle.answers.proofs.Turns.{turn-accepted, clear-turn, refused≢given}
+use Rattle.answers.proofs.Turns.{turn-accepted, turn-keeps, clear-turn, refused≢given}
 use Rattle.runs.proofs.Running.{clear-split, clear-join}
 use Rattle.runs.proofs.Several.{shapes}
 use Rattle.blocks.proofs.Words.{items-length}
@@ -26,9 +26,8 @@ use Rattle.verdicts.proofs.Whole.{set-kind, map-kind, bulletin-kind, size}
 use Rattle.forms.specs.Calls.{storedIn, readCall, readSetCall, oneNumber, firstOf, memberOfFormCall, heldIn, inputs, blockRefusals, writeRefusals, writtenAt}
 use Rattle.forms.specs.Calls.{writeCall, writeSetCall, writeMapCall, writeBulletinCall}
 use Rattle.forms.proofs.Forms.{accepted-formed, formed-accepted, read-written, written-read, held-fine, many-held}
-use Rattle.demands.specs.Bytes.{OfThree, of-set, of-map, of-bulletin, Read, ReadExactly, WholeForm, ReadWritten, WrittenRead, BytesKeep, HostQuestion}
+use Rattle.demands.specs.Bytes.{OfThree, of-set, of-map, of-bulletin, Read, ReadExactly, ReadWritten, WrittenRead, BytesKeep, HostQuestion}
 use Rattle.demands.specs.Bytes.{WriteSizes}
-use Rattle.demands.proofs.Bytes.{read-keeps, write-keeps}
 
 -- the laws of every form hold of the three
 pub kind-of : {f : Form} → OfThree f → FormKind f
@@ -61,14 +60,24 @@ module _ (f : Form) (k : FormKind f) (b : List ℕ) (y : Bytes b) (outs ws : Lis
 pub read-exactly : ReadExactly
 read-exactly f t b y outs ws = record { to = was-read f (kind-of t) b y outs ws; from = is-read f (kind-of t) b y outs ws }
 
-pub whole-form : WholeForm
-whole-form f t b y outs ws e r = r .form .form
-
 pub read-and-written : ReadWritten
 read-and-written f t b outs ws bytes p y n e h = read-written f (kind-of t) b outs ws bytes p y n e h
 
 pub written-and-read : WrittenRead
 written-and-read f t ws bytes bytes′ outs p n h e c = written-read f (kind-of t) ws bytes bytes′ outs p n h e c
+
+-- REFUSED: no word or byte lent is changed
+read-keeps : (f : Form) (b : List ℕ) (outs : List (List ℕ)) → Keeps outs (readCall f b outs)
+unfolding readCall
+read-keeps f b outs =
+    turn-keeps (formRefusals f b ++ outRefusals (f .layout) (lengths outs) (lengths (formEntries f b))) outs
+    (outcome (given []) (storedIn outs (formEntries f b))) tt
+
+write-keeps : (f : Form) (ws : List (List ℕ)) (bytes : List ℕ) (p : ℕ) → Keeps (bytes ∷ []) (writeCall f ws bytes p)
+unfolding writeCall
+write-keeps f ws bytes p =
+    let form = formOf f (heldIn (f .layout) ws) in
+    turn-keeps (writeRefusals f ws (length form) (length bytes) p) (bytes ∷ []) (writtenAt p form bytes) tt
 
 pub bytes-keep : BytesKeep
 bytes-keep = (read-keeps, write-keeps)

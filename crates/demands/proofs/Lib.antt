@@ -12,7 +12,6 @@ pub mod Exactly
 pub mod Fits
 pub mod Stored
 pub mod Bulletins
-pub mod Bytes
 pub mod Forms
 pub mod Reading
 pub mod OneForm

@@ -1,24 +1,27 @@
 -- One byte form: what is named the same is read from the same bytes, and written as the same bytes.
 use mathlib.Core.Path.{_≡_, refl, sym, _∙_, ap, ap₂, subst}
 use mathlib.Core.List.{List, [], _∷_, _++_}
-use Prim.Native.Nat.{ℕ, zero, suc, _+_, _-_, _≤_, _<_}
+use Prim.Native.Nat.{ℕ, zero, suc, _+_, _-_, _≤_, _<_, _*_}
 use native.Mathlib.Omega.{arith}
-use lib.ListN.{length}
+use lib.ListN.{length, getD, drop}
 use Rattle.entries.specs.Entries.{Entry, Each}
 use Rattle.answers.specs.declared.Finding.{Finding}
 use Rattle.answers.specs.Answers.{outcome, given, at, applies, inTurn, Clear}
 use Rattle.blocks.specs.declared.Layout.{Layout}
 use Rattle.blocks.specs.Blocks.{setLayout, mapLayout, wordsOf, blockOf, verdict, Lent}
-use Rattle.blocks.proofs.Words.{lent-block}
+use Rattle.blocks.proofs.Words.{items-length, lent-block}
 use Rattle.blocks.proofs.Refusing.{some-words, room-fits}
 use Rattle.blocks.proofs.Canonical.{entries-stored, sound-stored}
 use Rattle.numbers.specs.Numbers.{Bytes, past2}
 use Rattle.runs.specs.Runs.{lengths, Fine}
 use Rattle.runs.proofs.Running.{clear-split}
+use Rattle.runs.proofs.Several.{shapes}
 use Rattle.verdicts.specs.declared.Form.{Form}
-use Rattle.verdicts.specs.Forms.{ofSet, ofMap, ofBulletin, formOf, overlap, noBlocks, noRooms, Formed}
-use Rattle.forms.specs.Calls.{storedIn, readCall, heldIn, inputs, noSpace, writtenAt, writeCall}
-use Rattle.demands.specs.Bytes.{OfThree, of-set, of-map, of-bulletin, OneSetForm, OneMapForm, OneBulletinForm}
+use Rattle.verdicts.specs.Forms.{ofSet, ofMap, ofBulletin, formOf, sizeOf, overlap, noBlocks, noRooms, Formed}
+use Rattle.verdicts.proofs.Whole.{size}
+use Rattle.forms.specs.Calls.{storedIn, readCall, readSetCall, readMapCall, readBulletinCall, heldIn, inputs, noSpace, writtenAt, writeCall}
+use Rattle.demands.specs.Plain.{leaves}
+use Rattle.demands.specs.Bytes.{OfThree, of-set, of-map, of-bulletin, WholeForm, ReadSizes, OneSetForm, OneMapForm, OneBulletinForm}
 use Rattle.demands.specs.Bytes.{OneSetWritten, OneMapWritten, OneBulletinWritten}
 use Rattle.demands.proofs.Stored.{one-set, one-map}
 use Rattle.demands.proofs.Forms.{kind-of, read-exactly}
@@ -45,19 +48,22 @@ module _ (l : Layout) (two : 2 ≤ l .width) (small : l .limit < past2) where
         ap₂ _∷_ (entries-stored (l .width) two L es (n .shaped)) (rest .1),
       )
 
--- READING leaves such blocks, and the bytes are the form of what they say
+-- READING leaves such blocks; the bytes are the form of what they say, and as many as its size
 module _ (f : Form) (t : OfThree f) where
   read-blocks : (b : List ℕ) (outs ws : List (List ℕ)) → Bytes b → length outs ≡ f .runs → readCall f b outs ≡ outcome (given []) ws
-      → Each (Good (f .layout)) ws × (b ≡ formOf f (heldIn (f .layout) ws))
+      → Each (Good (f .layout)) ws × (b ≡ formOf f (heldIn (f .layout) ws)) × (length b ≡ sizeOf f (lengths (heldIn (f .layout) ws)))
   read-blocks b outs ws y many e =
       let k = kind-of t in
       let r = read-exactly f t b y outs ws .to e in
       let g = r .form in
       let c = clear-split (noBlocks 0 (lengths outs)) (noRooms (f .layout) 0 (lengths outs) (lengths (r .runs))) (r .room) in
       let h = outputs-hold (f .layout) (k .first .two) (k .small) 0 0 outs (r .runs) (many ∙ sym (g .many)) (c .0) (c .1) (g .fine)
-      (g .lent) in (
+      (g .lent) in
+      let said : r .runs ≡ heldIn (f .layout) ws = sym (h .1) ∙ ap (heldIn (f .layout)) (sym (r .left)) in (
         subst (Each (Good (f .layout))) (sym (r .left)) (h .0),
-        g .form ∙ ap (formOf f) (sym (h .1) ∙ ap (heldIn (f .layout)) (sym (r .left))),
+        g .form ∙ ap (formOf f) said,
+        ap length (g .form) ∙ size f k (r .runs) (g .many) (shapes (f .layout .width) (f .layout .limit) (r .runs) (g .fine))
+            ∙ ap (λ (runs : List (List Entry)). sizeOf f (lengths runs)) said,
       )
 
   -- so blocks that say the same were read from the same bytes
@@ -68,6 +74,27 @@ module _ (f : Form) (t : OfThree f) where
       let r = read-blocks b outs ws y m e in
       let r′ = read-blocks b′ outs′ ws′ y′ m′ e′ in
       r .1 ∙ ap (formOf f) (same (r .0) (r′ .0)) ∙ sym (r′ .1)
+
+pub whole-form : WholeForm
+whole-form f t b y outs ws many e = read-blocks f t b outs ws y many e .1
+
+pub read-sizes : ReadSizes
+read-sizes b y = (of-sets, of-maps, of-bulletins)
+  where
+    of-sets : (out w : List ℕ) → readSetCall b out ≡ leaves w → length b ≡ 7 + 21 * getD w 0 0
+    of-sets out w e = omega (arith, read-blocks ofSet of-set b (out ∷ []) (w ∷ []) y refl e .2, items-length 2 (getD w 0 0) (drop 1 w))
+
+    of-maps : (out w : List ℕ) → readMapCall b out ≡ leaves w → length b ≡ 7 + 29 * getD w 0 0
+    of-maps out w e = omega (arith, read-blocks ofMap of-map b (out ∷ []) (w ∷ []) y refl e .2, items-length 3 (getD w 0 0) (drop 1 w))
+
+    of-bulletins : (outR outW r w : List ℕ) → readBulletinCall b outR outW ≡ outcome (given []) (r ∷ w ∷ []) → length b ≡ 9 + 21 * (getD r 0 0 + getD w 0 0)
+    of-bulletins outR outW r w e =
+        omega (
+          arith,
+          read-blocks ofBulletin of-bulletin b (outR ∷ outW ∷ []) (r ∷ w ∷ []) y refl e .2,
+          items-length 2 (getD r 0 0) (drop 1 r),
+          items-length 2 (getD w 0 0) (drop 1 w),
+        )
 
 pub one-set-form : OneSetForm
 one-set-form b b′ out out′ w w′ y y′ e e′ h =

@@ -36,11 +36,17 @@ pub record Read (f : Form) (b : List ℕ) (outs ws : List (List ℕ)) : Type 0 w
 abbrev pub ReadExactly : Type 0
 ReadExactly = (f : Form) → OfThree f → (b : List ℕ) → Bytes b → (outs ws : List (List ℕ)) → Iff (readCall f b outs ≡ outcome (given []) ws) (Read f b outs ws)
 
--- [Y14, D9] and a form is told by all its bytes: bytes that are refused nowhere are the form of what was read, from the first record to
--- the last
+-- [Y14, D9] and of the whole form: the bytes are, from the first record to the last, the form of what the blocks then say
 abbrev pub WholeForm : Type 0
-WholeForm = (f : Form) → OfThree f → (b : List ℕ) → Bytes b → (outs ws : List (List ℕ)) → readCall f b outs ≡ outcome (given []) ws
-    → (r : Read f b outs ws) → b ≡ formOf f (r .runs)
+WholeForm = (f : Form) → OfThree f → (b : List ℕ) → Bytes b → (outs ws : List (List ℕ)) → length outs ≡ f .runs
+    → readCall f b outs ≡ outcome (given []) ws → b ≡ formOf f (heldIn (f .layout) ws)
+
+-- [Y10, D9] so no count and no length can be made up: there are 7+21n, 7+29n, 9+21(r+w) bytes, of word 0 of the blocks
+abbrev pub ReadSizes : Type 0
+ReadSizes = (b : List ℕ) → Bytes b
+    → ((out w : List ℕ) → readSetCall b out ≡ leaves w → length b ≡ 7 + 21 * getD w 0 0)
+    × ((out w : List ℕ) → readMapCall b out ≡ leaves w → length b ≡ 7 + 29 * getD w 0 0)
+    × ((outR outW r w : List ℕ) → readBulletinCall b outR outW ≡ outcome (given []) (r ∷ w ∷ []) → length b ≡ 9 + 21 * (getD r 0 0 + getD w 0 0))
 
 -- the highest number with which reading a form refuses its bytes: 13, and 14 where there are two sets to share a number
 abbrev pub lastOfBytes : Form → ℕ
@@ -51,7 +57,7 @@ pub record IsForm (f : Form) (b : List ℕ) : Type 0 where
   pub runs : List (List Entry)
   pub form : Formed f b runs
 
--- [R17, Y15] READING'S REFUSALS: bytes that are no form are refused with 8 to 13, a bulletin's also with 14; a form with 1 or 5, for its
+-- [R8, R9, R10, R11, R12, R13, R14, R17, Y15] READING'S REFUSALS: bytes that are no form are refused with 8 to 13, a bulletin's also with 14; a form with 1 or 5, for its
 -- outputs
 abbrev pub ReadRefusals : Type 0
 ReadRefusals = (f : Form) → OfThree f → (b : List ℕ) → Bytes b → (outs after : List (List ℕ)) (n p : ℕ) → readCall f b outs ≡ refuse n p after

@@ -47,7 +47,7 @@ fn refused(f: Refusal) {
     io::write_all(1, b"\n");
 }
 
-// Shows what stands in an open file: at most 65,536 bytes of it are read, into a block with room for the 3,120 ranges of the longest
+// [H3] Shows what stands in an open file: at most 65,536 bytes of it are read, into a block with room for the 3,120 ranges of the longest
 // form of that size; of a longer file it says so.
 pub fn run(input: i32) {
     let mut bytes = [0u8; 65537];
