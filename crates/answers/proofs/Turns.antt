@@ -199,14 +199,6 @@ refused-named (f ∷ fs) lent xs after n p left e = go (f .number) refl e (λ d.
           place = r;
         }
 
--- where no other finding can have finding i's number and place, it is refused with these exactly where i is the first that applies
-pub refused-only : (fs : List Finding) (lent : List (List ℕ)) (xs : List ℕ) (after : List (List ℕ)) (n p i : ℕ) (left : List (List ℕ))
-    → ((k : ℕ) → numberAt fs k ≡ n → placeAt fs k ≡ p → k ≡ i) → inTurn fs lent (outcome (given xs) after) ≡ outcome (refused n p) left → Applies fs i
-refused-only fs lent xs after n p i left only e =
-    let m = refused-named fs lent xs after n p left e in
-    let k = only (m .index) (m .number) (m .place) in
-    record { before = λ j h. m .first .before j (omega arith); here = λ z. m .first .here (ap (numberAt fs) k ∙ z) }
-
 -- an outcome without its values: what a companion question answers
 abbrev pub bare : Outcome → Outcome
 bare (outcome (given xs) lent) = outcome (given []) lent

@@ -17,12 +17,12 @@ use Rattle.entries.proofs.Values.{true≢false}
 use Rattle.entries.proofs.Plain.{set-canonical}
 use Rattle.entries.proofs.Bulletins.{apart-sym, amended-is, amended-amended, amended-apart, amended-swap, effect-released, effect-withdrawn}
 use Rattle.answers.specs.Answers.{given, Outcome, outcome, applies, Keeps, Clear}
-use Rattle.blocks.specs.Blocks.{setLayout, entriesOf, blockOf, verdict, Lent}
+use Rattle.blocks.specs.Blocks.{setLayout, entriesOf, blockOf, Lent}
 use Rattle.blocks.specs.Calls.{noBlock, noRoom}
 use Rattle.blocks.proofs.Judging.{verdict-sound, room-words}
 use Rattle.blocks.proofs.Refusing.{some-words, room-fits}
 use Rattle.searches.specs.Calls.{overlapping}
-use Rattle.blocks.proofs.Canonical.{Zeros, entries-stored, length-stored, sound-stored, plain-shaped}
+use Rattle.blocks.proofs.Canonical.{entries-stored, length-stored, sound-stored, plain-shaped}
 use Rattle.sets.proofs.Asking.{entries-plain}
 use Rattle.sweeps.proofs.Tables.{bounded}
 use Rattle.bulletins.specs.Calls.{applyRefusals, applyCall, foldRefusals, foldCall}
@@ -30,7 +30,7 @@ use Rattle.answers.specs.Steps.{numberAt}
 use Rattle.answers.proofs.Turns.{turn-keeps, turn-accepted, clear-turn, clear-at}
 use Rattle.demands.specs.Plain.{SetLeft}
 use Rattle.demands.specs.Bulletins.{Bulletin, Effect}
-use Rattle.demands.proofs.Sets.{one-form, disjoint-means, means-disjoint}
+use Rattle.demands.proofs.Sets.{disjoint-means, means-disjoint}
 
 -- accepted, with the words of each output as they then are
 abbrev pub accepted : List (List ℕ) → Outcome
@@ -355,10 +355,3 @@ module _ (r w r′ w′ : List ℕ) (b : Bulletin r w) (b′ : Bulletin r′ w�
 
       withdrawn : (x : ℕ) → member (entriesOf 2 w) x ≡ member (entriesOf 2 w′) x
       withdrawn = effect-withdrawn (entriesOf 2 r) (entriesOf 2 w) (entriesOf 2 r′) (entriesOf 2 w′) (b .apart) (b′ .apart) everywhere
-
-  -- and, in blocks of the same lengths with zeros after the stored form, the same words
-  pub same-effect-words : length r ≡ length r′ → length w ≡ length w′ → Zeros 2 r → Zeros 2 r′ → Zeros 2 w → Zeros 2 w′ → (r ≡ r′) × (w ≡ w′)
-  same-effect-words l m zr zr′ zw zw′ = (
-    one-form r r′ (b .released-sound) (b′ .released-sound) l zr zr′ (λ x. ap (λ (es : List Entry). member es x) (same-effect .0)),
-    one-form w w′ (b .withdrawn-sound) (b′ .withdrawn-sound) m zw zw′ (λ x. ap (λ (es : List Entry). member es x) (same-effect .1)),
-  )

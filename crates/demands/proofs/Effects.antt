@@ -11,12 +11,12 @@ use borrow.Author.Tests.{le-leb, le-ltb}
 use Rattle.entries.specs.Entries.{Entry, entry}
 use Rattle.entries.specs.Sets.{M, has, member}
 use Rattle.entries.specs.Build.{andb}
-use Rattle.entries.specs.Bulletins.{amended, amend}
+use Rattle.entries.specs.Bulletins.{amend}
 use Rattle.entries.proofs.Values.{true≢false}
 use Rattle.entries.proofs.Sides.{val-past, val-under}
 use Rattle.entries.proofs.Plain.{set-canonical}
 use Rattle.entries.proofs.Bulletins.{amended-is}
-use Rattle.answers.specs.Answers.{Outcome, applies, Clear}
+use Rattle.answers.specs.Answers.{Clear}
 use Rattle.answers.proofs.Turns.{clear-turn}
 use Rattle.blocks.specs.Blocks.{setLayout, capacity, entriesOf, blockOf, verdict, Lent}
 use Rattle.blocks.specs.Calls.{noRoom}

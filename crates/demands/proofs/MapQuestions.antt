@@ -11,7 +11,7 @@ use borrow.Author.Tests.{le-leb, lt-leb, le-ltb}
 use Rattle.entries.specs.Entries.{Value, Entry, Sound, orElse, valueAt}
 use Rattle.entries.specs.Build.{pick}
 use Rattle.entries.specs.Sets.{has}
-use Rattle.entries.specs.Questions.{meeting, whollyBelow}
+use Rattle.entries.specs.Questions.{meeting}
 use Rattle.entries.proofs.Values.{true≢false}
 use Rattle.entries.proofs.Canon.{none≢some}
 use Rattle.entries.proofs.Sides.{Side, under, inside, past, side, val-in, val-past, none-under, none-upto}
@@ -21,7 +21,7 @@ use Rattle.answers.proofs.Turns.{clear-turn}
 use Rattle.blocks.specs.Blocks.{mapLayout, wordsOf}
 use Rattle.blocks.specs.Calls.{input}
 use Rattle.blocks.proofs.Judging.{verdict-sound, room-words}
-use Rattle.searches.specs.Parts.{part, noPart, wordsAt}
+use Rattle.searches.specs.Parts.{noPart, wordsAt}
 use Rattle.searches.specs.Calls.{windowPart, windowRefusals, windowCall}
 use Rattle.maps.specs.declared.Deciding.{Deciding}
 use Rattle.maps.specs.Calls.{mapEntries, worth, lookUpCall, mapWindowCall, partIn, deciding, siteRefusals, siteOverFactoryCall, wordsOfTwo}

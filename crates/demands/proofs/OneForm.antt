@@ -1,14 +1,14 @@
 -- One byte form: what is named the same is read from the same bytes, and written as the same bytes.
 use mathlib.Core.Path.{_≡_, refl, sym, _∙_, ap, ap₂, subst}
 use mathlib.Core.List.{List, [], _∷_, _++_}
-use Prim.Native.Nat.{ℕ, zero, suc, _+_, _-_, _≤_, _<_, _*_}
+use Prim.Native.Nat.{ℕ, suc, _+_, _-_, _≤_, _<_, _*_}
 use native.Mathlib.Omega.{arith}
 use lib.ListN.{length, getD, drop}
 use Rattle.entries.specs.Entries.{Entry, Each}
 use Rattle.answers.specs.declared.Finding.{Finding}
 use Rattle.answers.specs.Answers.{outcome, given, at, applies, inTurn, Clear}
 use Rattle.blocks.specs.declared.Layout.{Layout}
-use Rattle.blocks.specs.Blocks.{setLayout, mapLayout, wordsOf, blockOf, verdict, Lent}
+use Rattle.blocks.specs.Blocks.{setLayout, mapLayout, wordsOf, verdict, Lent}
 use Rattle.blocks.proofs.Words.{items-length, lent-block}
 use Rattle.blocks.proofs.Refusing.{some-words, room-fits}
 use Rattle.blocks.proofs.Canonical.{entries-stored, sound-stored}
@@ -17,7 +17,7 @@ use Rattle.runs.specs.Runs.{lengths, Fine}
 use Rattle.runs.proofs.Running.{clear-split}
 use Rattle.runs.proofs.Several.{shapes}
 use Rattle.verdicts.specs.declared.Form.{Form}
-use Rattle.verdicts.specs.Forms.{ofSet, ofMap, ofBulletin, formOf, sizeOf, overlap, noBlocks, noRooms, Formed}
+use Rattle.verdicts.specs.Forms.{ofSet, ofMap, ofBulletin, formOf, sizeOf, overlap, noBlocks, noRooms}
 use Rattle.verdicts.proofs.Whole.{size}
 use Rattle.forms.specs.Calls.{storedIn, readCall, readSetCall, readMapCall, readBulletinCall, heldIn, inputs, noSpace, writtenAt, writeCall}
 use Rattle.demands.specs.Plain.{leaves}

@@ -94,14 +94,3 @@ value-gap [] i d s x p q = refl
 value-gap (e ∷ es) zero d s x p q = none-under e es s x (q (omega arith))
 value-gap (e ∷ es) (suc i) d s x p q =
     val-past e es x (p zero (omega arith)) ∙ value-gap es i d (s .2) x (λ j h. p (suc j) (omega arith)) (λ h. q (omega arith))
-
--- THE SPLICE: a, m, c with m replaced by n
-pub splice-sound : (a m n c : List Entry) → Sound (a ++ (m ++ c)) → Sound n → Seam a (n ++ c) → Seam n c → Sound (a ++ (n ++ c))
-splice-sound a m n c s t u v =
-    sound-append a (n ++ c) (sound-left a (m ++ c) s) (sound-append n c t (sound-right m c (sound-right a (m ++ c) s)) v) u
-
-pub splice-out : (a m n c : List Entry) (x : ℕ) → valueAt n x ≡ valueAt m x → valueAt (a ++ (n ++ c)) x ≡ valueAt (a ++ (m ++ c)) x
-splice-out a m n c x h = simp (value-append, h)
-
-pub splice-in : (a n c : List Entry) (x : ℕ) → valueAt a x ≡ none → valueAt c x ≡ none → valueAt (a ++ (n ++ c)) x ≡ valueAt n x
-splice-in a n c x h k = simp (value-append, h, k, orElse-none)

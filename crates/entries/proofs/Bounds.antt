@@ -8,7 +8,7 @@ use native.Mathlib.Omega.{arith}
 use native.Mathlib.Decide.{decLe, ℕ-discrete}
 use lib.ListN.{length}
 use Rattle.entries.specs.Sets.{Plain}
-use Rattle.entries.specs.Entries.{Value, Entry, at, valueAt, Sound, ListOf}
+use Rattle.entries.specs.Entries.{Value, Entry, valueAt, Sound, ListOf}
 use Rattle.entries.proofs.Sides.{Side, under, inside, past, side, val-in, val-past, none-upto, none-under}
 use Rattle.entries.proofs.Canon.{none≢some, no-join}
 use Rattle.entries.proofs.Plain.{gap-of}

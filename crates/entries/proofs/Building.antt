@@ -23,10 +23,6 @@ pub begins-le : (a b : ℕ) (es : List Entry) → a ≤ b → Begins b es → Be
 begins-le a b [] h k = tt
 begins-le a b (e ∷ es) h k = omega arith
 
-pub none-before : (c : ℕ) (es : List Entry) → Begins c es → Sound es → (x : ℕ) → x < c → valueAt es x ≡ none
-none-before c [] b s x h = refl
-none-before c (e ∷ es) b s x h = none-under e es s x (omega arith)
-
 -- what `glue` gives
 pub record Glued (x h : ℕ) (o : Option Value) (es gs : List Entry) : Type 0 where
   pub sound : Sound gs

@@ -78,6 +78,3 @@ canonical (e ∷ es) (f ∷ fs) s t h =
 -- the output of every operation is the one sound list of a function
 pub unique : (F : ℕ → Option Value) (es fs : List Entry) → ListOf F es → ListOf F fs → es ≡ fs
 unique F es fs b c = canonical es fs (b .sound) (c .sound) (λ x. b .names x ∙ sym (c .names x))
-
-pub ext : (F G : ℕ → Option Value) (es : List Entry) → ListOf F es → ((x : ℕ) → F x ≡ G x) → ListOf G es
-ext F G es b h = record { sound = b .sound; names = λ x. b .names x ∙ h x }

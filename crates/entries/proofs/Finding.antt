@@ -1,20 +1,16 @@
 -- What the first entry that ends at or past x tells: the value at x, and the least member from x on;
 -- and in a set, that the number right behind a range is in none.
-use mathlib.Core.Path.{_≡_, refl, sym, _∙_}
-use mathlib.Core.Bool.{true}
+use mathlib.Core.Path.{_≡_, refl}
 use mathlib.Core.Option.{none, some}
 use mathlib.Core.List.{List, [], _∷_}
 use Prim.Native.Nat.{ℕ, zero, suc, _≤_, _<_, max}
 use native.Mathlib.Omega.{arith}
 use native.Mathlib.Decide.{decLt}
-use lib.Dec.{ltb}
 use lib.ListN.{length, getD}
-use borrow.Author.Tests.{le-leb, lt-leb, lt-ltb}
-use Rattle.entries.proofs.Canon.{none≢some}
-use Rattle.entries.proofs.Sides.{none-under, val-in, val-past, Side, under, inside, past, side}
-use Rattle.entries.proofs.Windows.{below-none, Passed}
-use Rattle.entries.specs.Questions.{whollyBelow, leastMember}
-use Rattle.entries.specs.Entries.{valueAt, Value, Entry, Sound}
+use borrow.Author.Tests.{le-leb, lt-leb}
+use Rattle.entries.proofs.Windows.{Passed}
+use Rattle.entries.specs.Questions.{leastMember}
+use Rattle.entries.specs.Entries.{valueAt, Entry, Sound}
 use Rattle.entries.specs.Sets.{Plain}
 use Rattle.entries.proofs.Index.{rises, sound-ok}
 use Rattle.entries.proofs.Append.{value-index, value-gap}
@@ -56,24 +52,3 @@ module _ (d : Entry) where
       before : (j : ℕ) → j < suc i → Dec (j < i) → (getD es j d) .high < suc ((getD es i d) .high)
       before j p (yes q) = omega (arith, rises d es s j i q h, sound-ok d es s i h)
       before j p (no q) = let k : j ≡ i = omega arith in rw k (omega arith)
-
-  -- a number that has a value has it from the entry behind those wholly below it
-  pub record FoundBelow (es : List Entry) (x : ℕ) (v : Value) : Type 0 where
-    pub within : length (whollyBelow x es) < length es
-    pub value : (getD es (length (whollyBelow x es)) d) .value ≡ v
-
-  pub found-below : (es : List Entry) (x : ℕ) (v : Value) → Sound es → valueAt es x ≡ some v → FoundBelow es x v
-  found-below [] x v s h = absurd (none≢some none v refl h)
-  found-below (e ∷ es) x v s h = go (side e x) (λ k. found-below es x v (s .2) k)
-    where
-      go : Side e x → (valueAt es x ≡ some v → FoundBelow es x v) → FoundBelow (e ∷ es) x v
-      go (under p) ih = absurd (none≢some _ _ (none-under e es s x p) h)
-      go (inside p q) ih =
-          let z = below-none d (e ∷ es) x s (λ k. q) in
-          let w : some (e .value) ≡ some v = sym (val-in e es x p q) ∙ h in
-          let u : e .value ≡ v = cc in
-          record { within = rw z (omega arith); value = rw z u }
-      go (past p) ih =
-          let g = ih (sym (val-past e es x p) ∙ h) in
-          let t : ltb (e .high) x ≡ true = lt-ltb (e .high) x p in
-          record { within = rw t (omega (arith, g .within)); value = rw t (g .value) }

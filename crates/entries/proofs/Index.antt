@@ -1,14 +1,14 @@
 -- The same by index, as code meets it: seams and splices of `take` and `drop`.
 use mathlib.Core.Path.{_≡_, refl, sym, _∙_, ap}
-use mathlib.Core.Option.{Option, none, some}
+use mathlib.Core.Option.{Option, none}
 use mathlib.Core.List.{List, [], _∷_, _++_}
 use Prim.Native.Nat.{ℕ, zero, suc, _+_, _≤_, _<_}
 use native.Mathlib.Omega.{arith}
 use native.Mathlib.Decide.{decLt}
 use lib.ListN.{length, getD, take, drop, take-append-drop}
-use Rattle.entries.specs.Entries.{Value, Entry, orElse, valueAt, After, Link, Sound, entry}
-use Rattle.entries.proofs.Sides.{val-in, val-past, none-under}
-use Rattle.entries.proofs.Append.{Seam, sound-left, sound-right, sound-append, value-append, value-left, value-right, orElse-none}
+use Rattle.entries.specs.Entries.{Value, Entry, orElse, valueAt, After, Link, Sound}
+use Rattle.entries.proofs.Sides.{val-past, none-under}
+use Rattle.entries.proofs.Append.{Seam, sound-left, sound-right, sound-append, value-append, orElse-none}
 
 module _ (d : Entry) where
   -- soundness by index, as a walk over a block knows it
@@ -36,9 +36,6 @@ module _ (d : Entry) where
   sound-after (e ∷ f ∷ es) s zero h = s .1
   sound-after (e ∷ f ∷ es) s (suc i) h = sound-after (f ∷ es) (s .2) i (omega arith)
 
-  pub sound-neat : (es : List Entry) → Sound es → Neat es
-  sound-neat es s = record { ok = sound-ok es s; after = sound-after es s }
-
   -- two entries, one index below the other
   pub rises : (es : List Entry) → Sound es → (i j : ℕ) → i < j → j < length es → (getD es i d) .high < (getD es j d) .low
   rises es s i zero p q = absurd (omega arith)
@@ -47,12 +44,6 @@ module _ (d : Entry) where
       go : (i < j → (getD es i d) .high < (getD es j d) .low) → Dec (i < j) → (getD es i d) .high < (getD es (suc j) d) .low
       go ih (yes h) = omega (arith, ih h, sound-after es s j q, sound-ok es s j (omega arith))
       go ih (no h) = let k : i ≡ j = omega arith in rw k ((sound-after es s j q) .0)
-
-  -- the seams of a cut list
-  pub seam-all : (a b : List Entry) → ((i : ℕ) → suc i ≡ length a → Link (getD a i d) b) → Seam a b
-  seam-all [] b h = tt
-  seam-all (e ∷ []) b h = h zero refl
-  seam-all (e ∷ f ∷ a) b h = seam-all (f ∷ a) b (λ i p. h (suc i) (omega arith))
 
   pub seam-take : (es : List Entry) (i : ℕ) (b : List Entry) → i ≤ length es → ((k : ℕ) → suc k ≡ i → Link (getD es k d) b) → Seam (take i es) b
   seam-take es zero b h l = tt
@@ -117,12 +108,3 @@ module _ (d : Entry) where
 
     pub one-sound : Sound one
     one-sound = splice es (e ∷ []) i j s (ok, tt, tt) (omega arith) l (link-drop e es j r)
-
-    pub one-under : (x : ℕ) → x < e .low → valueAt one x ≡ valueAt (take i es) x
-    one-under x h = value-left (take i es) e (drop j es) one-sound x h
-
-    pub one-in : (x : ℕ) → e .low ≤ x → x ≤ e .high → valueAt one x ≡ some (e .value)
-    one-in x h k = value-right (take i es) e (drop j es) one-sound x h ∙ val-in e (drop j es) x h k
-
-    pub one-past : (x : ℕ) → e .high < x → valueAt one x ≡ valueAt (drop j es) x
-    one-past x h = value-right (take i es) e (drop j es) one-sound x (omega arith) ∙ val-past e (drop j es) x h

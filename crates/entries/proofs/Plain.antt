@@ -80,13 +80,6 @@ has-path none (some a) f g h = cc
 has-path (some a) none f g h = cc
 has-path (some a) (some b) f g h = ap some (f a refl ∙ sym (g b refl))
 
-pub mark-has : (es : List Entry) → Plain es → (x : ℕ) → mark (member es x) ≡ valueAt es x
-mark-has es f x = go (valueAt es x) (plain-marks es f x)
-  where
-    go : (o : Option Value) → ((v : Value) → o ≡ some v → v ≡ []) → mark (has o) ≡ o
-    go none m = refl
-    go (some a) m = ap some (sym (m a refl))
-
 -- [D3] two sound sets with the same members are one list
 pub set-canonical : (es fs : List Entry) → Sound es → Sound fs → Plain es → Plain fs → ((x : ℕ) → member es x ≡ member fs x) → es ≡ fs
 set-canonical es fs s t f g h = canonical es fs s t (λ x. has-path (valueAt es x) (valueAt fs x) (plain-marks es f x) (plain-marks fs g x) (h x))

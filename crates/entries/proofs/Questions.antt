@@ -43,10 +43,6 @@ pub size-most : (es : List Entry) (N : ℕ) → Sound es → Under N es → size
 size-most [] N s u = omega arith
 size-most (e ∷ es) N s u = omega (arith, from-low e es N s u)
 
-count-same : (m k : ℕ → Bool) (N : ℕ) → ((x : ℕ) → x < N → m x ≡ k x) → count m N ≡ count k N
-count-same m k zero h = refl
-count-same m k (suc x) h = omega (arith, ap bit (h x (omega arith)), count-same m k x (λ y p. h y (omega arith)))
-
 count-none : (m : ℕ → Bool) (N : ℕ) → ((x : ℕ) → x < N → m x ≡ false) → count m N ≡ 0
 count-none m zero h = refl
 count-none m (suc x) h = omega (arith, ap bit (h x (omega arith)), count-none m x (λ y p. h y (omega arith)))

@@ -8,7 +8,7 @@ use native.Mathlib.Omega.{arith}
 use native.Mathlib.Decide.{decLe}
 use lib.Dec.{leb}
 use borrow.Author.Tests.{le-leb, lt-leb}
-use Rattle.entries.specs.Entries.{Entry, entry, both, at, valueAt, Link, Sound}
+use Rattle.entries.specs.Entries.{Entry, both, at, valueAt, Link, Sound}
 
 -- where a number stands by an entry
 pub data Side (e : Entry) (x : ℕ) : Type 0 where

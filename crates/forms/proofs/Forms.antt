@@ -69,12 +69,6 @@ module _ (layout : Layout) (two : 2 ≤ layout .width) where
       let h = items-shaped s two n (drop 1 w) (omega (arith, room-words layout (length w) n (d .some) (d .fits), length-drop 1 w)) in
       (record { sound = d .sound; shaped = h; within = omega (arith, items-length s n (drop 1 w), d .fits) }, held-fine (suc q) ws (c .1))
 
-many-stored : (outs : List (List ℕ)) (runs : List (List Entry)) → length outs ≡ length runs → length (storedIn outs runs) ≡ length runs
-many-stored [] [] l = refl
-many-stored [] (es ∷ runs) l = absurd (omega arith)
-many-stored (w ∷ outs) [] l = absurd (omega arith)
-many-stored (w ∷ outs) (es ∷ runs) l = ap suc (many-stored outs runs (omega arith))
-
 pub many-held : (layout : Layout) (ws : List (List ℕ)) → length (heldIn layout ws) ≡ length ws
 many-held layout [] = refl
 many-held layout (w ∷ ws) = ap suc (many-held layout ws)

@@ -8,17 +8,17 @@ use Prim.Native.Nat.{ℕ, zero, suc, _+_, _-_, _≤_, _<_}
 use native.Mathlib.Omega.{arith}
 use native.Mathlib.Decide.{decLt}
 use native.Mathlib.Nat.{mul-zero}
-use lib.ListN.{length, getD, take, drop, length-take}
+use lib.ListN.{length, getD, take, drop}
 use lib.Seq.{getD-drop, take-all}
 use lib.Dec.{leb, ltb}
 use borrow.Author.Tests.{lt-ltb, le-ltb, le-leb, lt-leb}
-use Rattle.entries.specs.Entries.{Value, Entry, orElse, both, valueAt, Sound, ListOf}
+use Rattle.entries.specs.Entries.{Value, Entry, orElse, both, valueAt, ListOf}
 use Rattle.entries.specs.Build.{pick, andb, combine, cutsOf}
 use Rattle.entries.specs.Sets.{M, has, mark, member, orb, lessb, xorb, setOp, union, intersection, difference, symmetricDifference, complement, pastM}
 use Rattle.entries.specs.Maps.{overlay, keepIf, restriction, domain}
 use Rattle.entries.specs.Bulletins.{amended}
 use Rattle.entries.proofs.Values.{true≢false}
-use Rattle.entries.proofs.Sides.{at-past, val-in, val-past, none-upto}
+use Rattle.entries.proofs.Sides.{at-past}
 use Rattle.entries.proofs.Canon.{unique}
 use Rattle.entries.proofs.Cuts.{notin-append, Changes}
 use Rattle.entries.proofs.Building.{built}
@@ -240,41 +240,6 @@ fit-restriction s sb sc p q = record { two = p; four = q; wide = go }
     go false true false h = absurd (true≢false (sym h))
     go false false true h = absurd (true≢false (sym h))
     go false false false h = absurd (true≢false (sym h))
-
--- values of a result have their words
-sized-shaped : (s : ℕ) (es : List Entry) → Sound es → ((x : ℕ) → Sized s (valueAt es x)) → Shaped s es
-sized-shaped s [] d h = tt
-sized-shaped s (e ∷ es) d h = (rw (val-in e es (e .low) (omega arith) (d .0)) at (h (e .low)), sized-shaped s es (d .2) (λ x. tail x (decLt (e .high) x)))
-  where
-    tail : (x : ℕ) → Dec (e .high < x) → Sized s (valueAt es x)
-    tail x (yes l) = rw (val-past e es x l) at (h x)
-    tail x (no l) = rw (none-upto e es (d .1) (d .2) x (omega arith)) tt
-
-pub result-shaped : (t s sa sb sc : ℕ) (es fs gs : List Entry) → Fit t s sa sb sc → Shaped sa es → Shaped sb fs → Shaped sc gs → Shaped s (result t s es fs gs)
-unfolding swept mixed
-result-shaped t s sa sb sc es fs gs f p q r =
-    sized-shaped s (result t s es fs gs) (result-is t s es fs gs .sound) (λ x. rw (result-is t s es fs gs .names x) (within (ltb x pastM) x))
-  where
-    cut : (v : Value) (w : ℕ) → 2 + length v ≡ w → s ≤ w → 2 + length (take (s - 2) v) ≡ s
-    cut v w e l = omega (arith, length-take (s - 2) v, f .two)
-
-    first : (o p q : Option Value) → Sized sa o → Sized sb p → Sized sc q → s ≤ widthOf sa sb sc (has o) (has p) (has q)
-        → 2 + length (take (s - 2) (firstOf o p q)) ≡ s
-    first (some v) p q a b c l = cut v sa a l
-    first none (some v) q a b c l = cut v sb b l
-    first none none (some v) a b c l = cut v sc c l
-    first none none none a b c l = cut [] 2 refl l
-
-    mix : (o p q : Option Value) → Sized sa o → Sized sb p → Sized sc q → (u : Bool) → accepts t (has o) (has p) (has q) ≡ u
-        → Sized s (pick u (some (take (s - 2) (firstOf o p q))) none)
-    mix o p q a b c true e = first o p q a b c (f .wide (has o) (has p) (has q) e)
-    mix o p q a b c false e = tt
-
-    within : (l : Bool) (x : ℕ) → Sized s (pick l (mixed t s (valueAt es x) (valueAt fs x) (valueAt gs x)) none)
-    within true x =
-        mix (valueAt es x) (valueAt fs x) (valueAt gs x) (shaped-at sa es x p) (shaped-at sb fs x q) (shaped-at sc gs x r)
-        (accepts t (has (valueAt es x)) (has (valueAt fs x)) (has (valueAt gs x))) refl
-    within false x = tt
 
 -- the block of no items, for an operation on fewer lists
 pub none-input : (s : ℕ) → 2 ≤ s → s ≤ 4 → Input s (0 ∷ [])

@@ -10,7 +10,7 @@ use borrow.Author.Tests.{ltb-false, le-ltb}
 use Rattle.entries.specs.Entries.{Entry, Each}
 use Rattle.answers.specs.Answers.{applies, Clear}
 use Rattle.answers.proofs.Turns.{applies-clear}
-use Rattle.blocks.specs.Blocks.{wordsOf, Shaped}
+use Rattle.blocks.specs.Blocks.{Shaped}
 use Rattle.blocks.specs.declared.Layout.{Layout}
 use Rattle.numbers.specs.Numbers.{Bytes, countsIn, countBytes}
 use Rattle.numbers.proofs.Numbers.{length-counts}

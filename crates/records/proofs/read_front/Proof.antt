@@ -1,6 +1,6 @@
 use mathlib.Core.Path.{refl, sym, ap}
 use mathlib.Core.Path.{_∙_}
-use mathlib.Core.Option.{none, some}
+use mathlib.Core.Option.{some}
 use Rattle.records.specs.Records.{bodyLength}
 use Rattle.records.proofs.Table.{body-small, told-known, told-unknown, fits-known}
 use Rattle.records.proofs.Heads.{front-short, front-mark, front-kind, front-body, front-unknown, length-short}
