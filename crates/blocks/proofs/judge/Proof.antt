@@ -11,15 +11,6 @@ use Rattle.blocks.proofs.judge.Tie as tie
 returns : tie.Need-returns
 returns c = let s = c .before .before in v1 (s .args .layout) (s .args .block .now) (c .if1 .taken)
 
-word-requires : tie.Need-word-requires
-word-requires c κs = search needs
-
-wide-requires : tie.Need-wide-requires
-wide-requires c κs = search needs
-
-room-for-requires : tie.Need-room-for-requires
-room-for-requires c κs = search needs
-
 returns-2 : tie.Need-returns-2
 returns-2 c =
     let at-room-for = c .before in
@@ -66,13 +57,4 @@ returns-4 c =
 
 pub judge-spec : {M : Type 1} → statement M
 judge-spec =
-    tie.close
-    (tie.spec
-    returns
-    word-requires
-    wide-requires
-    room-for-requires
-    returns-2
-    all-sound-requires
-    returns-3
-    returns-4)
+    tie.close (tie.spec returns (λ c κs. search needs) (λ c κs. search needs) (λ c κs. search needs) returns-2 all-sound-requires returns-3 returns-4)
