@@ -5,9 +5,6 @@ use borrow.Author.Needs.{needs}
 use Rattle.searches.proofs.entry_part.Statement.{statement}
 use Rattle.searches.proofs.entry_part.Tie as tie
 
-spot-of-requires : tie.Need-spot-of-requires
-spot-of-requires c κs = search needs
-
 mul-t6 : tie.Need-mul-t6
 mul-t6 c =
     let at-if1 = c .before .before in
@@ -38,4 +35,5 @@ returns-2 c =
     entry-out (start .pre .0) (start .pre .1) (at-spot-of .spot-of .ensures) (c .if1 .left)
 
 pub entry-part-spec : {M : Type 1} → statement M
-entry-part-spec = tie.close (tie.spec spot-of-requires mul-t6 add-t7 returns returns-2)
+entry-part-spec =
+    tie.close (tie.spec (λ c κs. search needs) mul-t6 add-t7 returns returns-2)

@@ -5,9 +5,6 @@ use borrow.Author.Needs.{needs}
 use Rattle.searches.proofs.spot_of.Statement.{statement}
 use Rattle.searches.proofs.spot_of.Tie as tie
 
-count-of-requires : tie.Need-count-of-requires
-count-of-requires c κs = search needs
-
 first-from-requires : tie.Need-first-from-requires
 first-from-requires c κs = let a = c .before .before in highs (a .pre .0) (a .pre .1) (c .count-of .ensures)
 
@@ -75,13 +72,4 @@ returns-3 c =
 
 pub spot-of-spec : {M : Type 1} → statement M
 spot-of-spec =
-    tie.close
-    (tie.spec
-    count-of-requires
-    first-from-requires
-    returns
-    mul-word
-    add-word
-    word-requires
-    returns-2
-    returns-3)
+    tie.close (tie.spec (λ c κs. search needs) first-from-requires returns mul-word add-word word-requires returns-2 returns-3)
