@@ -5,21 +5,12 @@ use borrow.Author.Needs.{needs}
 use Rattle.edits.proofs.edit_out.Statement.{statement}
 use Rattle.edits.proofs.edit_out.Tie as tie
 
-judge-requires : tie.Need-judge-requires
-judge-requires c κs = search needs
-
-same-length : tie.Need-same-length
-same-length c = search needs
-
 returns : tie.Need-returns
 returns c =
     let at-judge = c .before in
     let start = at-judge .before .before .before in
     edit-refused (start .args .layout) (start .args .block .now) (start .args .a) (start .args .b) none (at-judge .judge .result)
     (at-judge .judge .ensures) (c .if1 .taken)
-
-same-length-2 : tie.Need-same-length-2
-same-length-2 c = search needs
 
 returns-2 : tie.Need-returns-2
 returns-2 c =
@@ -37,9 +28,6 @@ word-requires c κs =
     (edit-ok (start .args .layout) (start .args .block .now) (start .args .a) (start .args .b) none (at-judge .judge .result)
     (at-judge .judge .ensures) (at-if1 .if1 .left) _ (start .pre) refl) .block .some
 
-wide-requires : tie.Need-wide-requires
-wide-requires c κs = search needs
-
 take-out-requires : tie.Need-take-out-requires
 take-out-requires c κs =
     let at-wide = c .before in
@@ -53,9 +41,6 @@ take-out-requires c κs =
       at-if2 .if2 .left,
     )
 
-same-length-3 : tie.Need-same-length-3
-same-length-3 c = search needs
-
 returns-3 : tie.Need-returns-3
 returns-3 c =
     let at-take-out = c .before .before .before in
@@ -65,9 +50,6 @@ returns-3 c =
     let start = at-judge .before .before .before in
     edit-done (start .args .layout) (start .args .block .now) (start .args .a) (start .args .b) none (at-judge .judge .result)
     (at-judge .judge .ensures) (at-if1 .if1 .left) _ _ refl refl (at-if2 .if2 .left) _ _ (at-take-out .take-out .ensures) (c .if3 .taken)
-
-same-length-4 : tie.Need-same-length-4
-same-length-4 c = search needs
 
 returns-4 : tie.Need-returns-4
 returns-4 c =
@@ -81,17 +63,5 @@ returns-4 c =
 
 pub edit-out-spec : {M : Type 1} → statement M
 edit-out-spec =
-    tie.close
-    (tie.spec
-    judge-requires
-    same-length
-    returns
-    same-length-2
-    returns-2
-    word-requires
-    wide-requires
-    take-out-requires
-    same-length-3
-    returns-3
-    same-length-4
-    returns-4)
+    tie.close (tie.spec (λ c κs. search needs) (λ c. search needs) returns (λ c. search needs) returns-2 word-requires (λ c κs. search needs)
+    take-out-requires (λ c. search needs) returns-3 (λ c. search needs) returns-4)

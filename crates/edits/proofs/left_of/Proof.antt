@@ -9,9 +9,6 @@ use borrow.Author.Needs.{needs}
 use Rattle.edits.proofs.left_of.Statement.{statement}
 use Rattle.edits.proofs.left_of.Tie as tie
 
-word-requires : tie.Need-word-requires
-word-requires c κs = search needs
-
 first-from-requires : tie.Need-first-from-requires
 first-from-requires c κs =
     let start = c .before .before .before in
@@ -26,9 +23,6 @@ returns c =
     let v = take (start .args .s - 2) (drop 2 (start .args .new .now)) in
     to-left refl (at-word .word .ensures)
     (left-none (start .args .s) (start .pre .two) (start .args .n) w (start .pre .sound) v _ _ (at-first-from .first-from .ensures) (c .if1 .taken))
-
-sub-k : tie.Need-sub-k
-sub-k c = search needs
 
 mul-word : tie.Need-mul-word
 mul-word c =
@@ -53,9 +47,6 @@ word-requires-2 c κs =
     let i = at-first-from .first-from .result in
     let k = item-in (start .args .s) (i - 1) (start .args .n) (omega (arith, at-first-from .first-from .ensures .within)) in
     omega (arith, k, start .pre .held, start .pre .two, start .pre .whole)
-
-beyond-requires : tie.Need-beyond-requires
-beyond-requires c κs = search needs
 
 returns-2 : tie.Need-returns-2
 returns-2 c =
@@ -86,9 +77,6 @@ add-same-words c =
     let i = at-first-from .first-from .result in
     let k = item-in (start .args .s) (i - 1) (start .args .n) (omega (arith, at-first-from .first-from .ensures .within)) in
     omega (arith, k, start .pre .held, start .pre .two, start .pre .whole)
-
-sub-same-words : tie.Need-sub-same-words
-sub-same-words c = search needs
 
 same-words-requires : tie.Need-same-words-requires
 same-words-requires c κs =
@@ -155,23 +143,6 @@ returns-4 c =
 
 pub left-of-spec : {M : Type 1} → statement M
 left-of-spec =
-    tie.close
-    (tie.spec
-    word-requires
-    first-from-requires
-    returns
-    sub-k
-    mul-word
-    add-word
-    word-requires-2
-    beyond-requires
-    returns-2
-    mul-same-words
-    add-same-words
-    sub-same-words
-    same-words-requires
-    mul-word-2
-    add-word-2
-    word-requires-3
-    returns-3
-    returns-4)
+    tie.close (tie.spec (λ c κs. search needs) first-from-requires returns (λ c. search needs) mul-word add-word word-requires-2
+    (λ c κs. search needs) returns-2 mul-same-words add-same-words (λ c. search needs) same-words-requires mul-word-2 add-word-2 word-requires-3
+    returns-3 returns-4)

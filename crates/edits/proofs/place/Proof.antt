@@ -28,9 +28,6 @@ add-m c =
           .i-le,
     )
 
-sub-m : tie.Need-sub-m
-sub-m c = search needs
-
 add-m-2 : tie.Need-add-m-2
 add-m-2 c =
     let start = c .before .before in
@@ -51,12 +48,6 @@ add-m-2 c =
       start .pre
           .i-le,
     )
-
-mul-splice : tie.Need-mul-splice
-mul-splice c = search needs
-
-add-splice : tie.Need-add-splice
-add-splice c = search needs
 
 mul-splice-2 : tie.Need-mul-splice-2
 mul-splice-2 c =
@@ -100,15 +91,6 @@ add-splice-2 c =
           .i-le,
     )
 
-mul-splice-3 : tie.Need-mul-splice-3
-mul-splice-3 c = search needs
-
-add-splice-3 : tie.Need-add-splice-3
-add-splice-3 c = search needs
-
-narrow-requires : tie.Need-narrow-requires
-narrow-requires c κs = search needs
-
 splice-requires : tie.Need-splice-requires
 splice-requires c κs =
     let start = c .before .before .before .before in
@@ -130,12 +112,6 @@ splice-requires c κs =
           .i-le,
     )
 
-cut-end-requires : tie.Need-cut-end-requires
-cut-end-requires c κs = search needs
-
-add-cut-start : tie.Need-add-cut-start
-add-cut-start c = search needs
-
 cut-start-requires : tie.Need-cut-start-requires
 cut-start-requires c κs =
     let at-cut-end = c .before .before .before in
@@ -143,9 +119,6 @@ cut-start-requires c κs =
     let start = at-splice .before .before .before .before .before in
     cut-ok (start .pre) (start .args .lo) (start .args .i + start .args .c + (start .args .n - start .args .j)) refl (at-splice .splice .ensures) _
     (at-cut-end .cut-end .ensures)
-
-same-length : tie.Need-same-length
-same-length c = search needs
 
 returns : tie.Need-returns
 returns c =
@@ -159,21 +132,6 @@ returns c =
 
 pub place-spec : {M : Type 1} → statement M
 place-spec =
-    tie.close
-    (tie.spec
-    add-m
-    sub-m
-    add-m-2
-    mul-splice
-    add-splice
-    mul-splice-2
-    add-splice-2
-    mul-splice-3
-    add-splice-3
-    narrow-requires
-    splice-requires
-    cut-end-requires
-    add-cut-start
-    cut-start-requires
-    same-length
+    tie.close (tie.spec add-m (λ c. search needs) add-m-2 (λ c. search needs) (λ c. search needs) mul-splice-2 add-splice-2 (λ c. search needs)
+    (λ c. search needs) (λ c κs. search needs) splice-requires (λ c κs. search needs) (λ c. search needs) cut-start-requires (λ c. search needs)
     returns)

@@ -15,9 +15,6 @@ right-of-requires c κs =
     let start = c .before .before .before .before .before .before .before in
     side-ok (start .pre .edit) _ (start .pre .whole)
 
-room-for-requires : tie.Need-room-for-requires
-room-for-requires c κs = search needs
-
 add-if1 : tie.Need-add-if1
 add-if1 c =
     let at-right-of = c .before in
@@ -66,12 +63,6 @@ add-if1-2 c =
       list-count e,
     )
 
-same-length : tie.Need-same-length
-same-length c = search needs
-
-same-length-2 : tie.Need-same-length-2
-same-length-2 c = search needs
-
 returns : tie.Need-returns
 returns c =
     let at-room-for = c .before in
@@ -80,9 +71,6 @@ returns c =
     let start = at-left-of .before .before .before .before .before in
     put-no (start .pre .edit) (valueOf (start .args .layout .width) (start .args .new .now)) _ _ _ _ _ _ (start .pre .order)
     (at-left-of .left-of .ensures) (at-right-of .right-of .ensures) _ (at-room-for .room-for .ensures) (c .if1 .taken)
-
-set-ends-requires : tie.Need-set-ends-requires
-set-ends-requires c κs = search needs
 
 place-requires : tie.Need-place-requires
 place-requires c κs =
@@ -96,12 +84,6 @@ place-requires c κs =
     (at-left-of .left-of .ensures) (at-right-of .right-of .ensures) _ (at-room-for .room-for .ensures) _
     (ends-length _ _ (start .args .new .now) _ (at-set-ends .set-ends .ensures) (omega (arith, start .pre .whole, start .pre .edit .two))
     ∙ start .pre .whole) (at-if1 .if1 .left)
-
-same-length-3 : tie.Need-same-length-3
-same-length-3 c = search needs
-
-same-length-4 : tie.Need-same-length-4
-same-length-4 c = search needs
 
 returns-2 : tie.Need-returns-2
 returns-2 c =
@@ -118,19 +100,5 @@ returns-2 c =
 
 pub put-value-spec : {M : Type 1} → statement M
 put-value-spec =
-    tie.close
-    (tie.spec
-    left-of-requires
-    right-of-requires
-    room-for-requires
-    add-if1
-    sub-if1
-    add-if1-2
-    same-length
-    same-length-2
-    returns
-    set-ends-requires
-    place-requires
-    same-length-3
-    same-length-4
-    returns-2)
+    tie.close (tie.spec left-of-requires right-of-requires (λ c κs. search needs) add-if1 sub-if1 add-if1-2 (λ c. search needs) (λ c. search needs)
+    returns (λ c κs. search needs) place-requires (λ c. search needs) (λ c. search needs) returns-2)

@@ -9,9 +9,6 @@ use borrow.Author.Needs.{needs}
 use Rattle.edits.proofs.right_of.Statement.{statement}
 use Rattle.edits.proofs.right_of.Tie as tie
 
-word-requires : tie.Need-word-requires
-word-requires c κs = search needs
-
 first-past-requires : tie.Need-first-past-requires
 first-past-requires c κs =
     let start = c .before .before .before in
@@ -51,9 +48,6 @@ word-requires-2 c κs =
     let k = item-in (start .args .s) j (start .args .n) (omega arith) in
     omega (arith, k, start .pre .held, start .pre .two, start .pre .whole)
 
-beyond-requires : tie.Need-beyond-requires
-beyond-requires c κs = search needs
-
 returns-2 : tie.Need-returns-2
 returns-2 c =
     let at-beyond = c .before in
@@ -83,9 +77,6 @@ add-same-words c =
     let j = at-first-past .first-past .result in
     let k = item-in (start .args .s) j (start .args .n) (omega arith) in
     omega (arith, k, start .pre .held, start .pre .two, start .pre .whole)
-
-sub-same-words : tie.Need-sub-same-words
-sub-same-words c = search needs
 
 same-words-requires : tie.Need-same-words-requires
 same-words-requires c κs =
@@ -118,9 +109,6 @@ word-requires-3 c κs =
     let j = at-first-past .first-past .result in
     let k = item-in (start .args .s) j (start .args .n) (omega arith) in
     omega (arith, k, start .pre .held, start .pre .two, start .pre .whole)
-
-add-t15 : tie.Need-add-t15
-add-t15 c = search needs
 
 returns-3 : tie.Need-returns-3
 returns-3 c =
@@ -155,23 +143,6 @@ returns-4 c =
 
 pub right-of-spec : {M : Type 1} → statement M
 right-of-spec =
-    tie.close
-    (tie.spec
-    word-requires
-    first-past-requires
-    returns
-    mul-word
-    add-word
-    word-requires-2
-    beyond-requires
-    returns-2
-    mul-same-words
-    add-same-words
-    sub-same-words
-    same-words-requires
-    mul-word-2
-    add-word-2
-    word-requires-3
-    add-t15
-    returns-3
+    tie.close (tie.spec (λ c κs. search needs) first-past-requires returns mul-word add-word word-requires-2 (λ c κs. search needs) returns-2
+    mul-same-words add-same-words (λ c. search needs) same-words-requires mul-word-2 add-word-2 word-requires-3 (λ c. search needs) returns-3
     returns-4)
