@@ -7,15 +7,6 @@ use borrow.Author.Needs.{needs}
 use Rattle.sweeps.proofs.write.Statement.{statement}
 use Rattle.sweeps.proofs.write.Tie as tie
 
-sweep-requires : tie.Need-sweep-requires
-sweep-requires c κs = search needs
-
-narrow-requires : tie.Need-narrow-requires
-narrow-requires c κs = search needs
-
-slice-write-o : tie.Need-slice-write-o
-slice-write-o c = search needs
-
 mul-clear : tie.Need-mul-clear
 mul-clear c =
     let at-sweep = c .before .before .before .before .before in
@@ -40,9 +31,6 @@ add-clear c =
       );
     }
 
-clear-requires : tie.Need-clear-requires
-clear-requires c κs = search needs
-
 same-length : tie.Need-same-length
 same-length c =
     let at-clear = c .before .before in
@@ -65,13 +53,5 @@ returns c =
 
 pub write-spec : {M : Type 1} → statement M
 write-spec =
-    tie.close
-    (tie.spec
-    sweep-requires
-    narrow-requires
-    slice-write-o
-    mul-clear
-    add-clear
-    clear-requires
-    same-length
+    tie.close (tie.spec (λ c κs. search needs) (λ c κs. search needs) (λ c. search needs) mul-clear add-clear (λ c κs. search needs) same-length
     returns)
