@@ -14,12 +14,6 @@ use borrow.Author.Needs.{needs}
 use Rattle.sets.proofs.keeps_none.Statement.{statement}
 use Rattle.sets.proofs.keeps_none.Tie as tie
 
-judge-requires : tie.Need-judge-requires
-judge-requires c κs = search needs
-
-refusal-of-requires : tie.Need-refusal-of-requires
-refusal-of-requires c κs = search needs
-
 returns : tie.Need-returns
 returns c =
     let at-if1 = c .before in
@@ -27,12 +21,6 @@ returns c =
     let start = at-judge .before .before .before in
     refuse-first (now (start .args .a)) (now (start .args .b)) (λ (es fs : List Entry). truth (isEmpty (result (start .args .table) 2 es fs [])))
     (at-judge .judge .result) (at-judge .judge .ensures) (c .refusal-of .result) (at-if1 .if1 .taken) (c .refusal-of .ensures)
-
-judge-requires-2 : tie.Need-judge-requires-2
-judge-requires-2 c κs = search needs
-
-refusal-of-requires-2 : tie.Need-refusal-of-requires-2
-refusal-of-requires-2 c κs = search needs
 
 returns-2 : tie.Need-returns-2
 returns-2 c =
@@ -92,14 +80,5 @@ returns-4 c =
 
 pub keeps-none-spec : {M : Type 1} → statement M
 keeps-none-spec =
-    tie.close
-    (tie.spec
-    judge-requires
-    refusal-of-requires
-    returns
-    judge-requires-2
-    refusal-of-requires-2
-    returns-2
-    any-of-two-requires
-    returns-3
-    returns-4)
+    tie.close (tie.spec (λ c κs. search needs) (λ c κs. search needs) returns (λ c κs. search needs) (λ c κs. search needs) returns-2
+    any-of-two-requires returns-3 returns-4)
