@@ -14,9 +14,6 @@ use borrow.Author.Needs.{needs}
 use Rattle.bulletins.proofs.application_refusal.Statement.{statement}
 use Rattle.bulletins.proofs.application_refusal.Tie as tie
 
-judge-application-requires : tie.Need-judge-application-requires
-judge-application-requires c κs = search needs
-
 returns : tie.Need-returns
 returns c =
     let at-judge-application = c .before .before in
@@ -84,11 +81,4 @@ returns-3 c =
 
 pub application-refusal-spec : {M : Type 1} → statement M
 application-refusal-spec =
-    tie.close
-    (tie.spec
-    judge-application-requires
-    returns
-    shared-number-requires
-    returns-2
-    no-room-requires
-    returns-3)
+    tie.close (tie.spec (λ c κs. search needs) returns shared-number-requires returns-2 no-room-requires returns-3)

@@ -12,12 +12,6 @@ use borrow.Author.Needs.{needs}
 use Rattle.bulletins.proofs.apply.Statement.{statement}
 use Rattle.bulletins.proofs.apply.Tie as tie
 
-application-refusal-requires : tie.Need-application-refusal-requires
-application-refusal-requires c κs = search needs
-
-judged-of-requires : tie.Need-judged-of-requires
-judged-of-requires c κs = search needs
-
 returns : tie.Need-returns
 unfolding applyCall
 returns c =
@@ -51,12 +45,6 @@ amend-requires c κs =
       room = k 5;
     }
 
-judged-of-requires-2 : tie.Need-judged-of-requires-2
-judged-of-requires-2 c κs = search needs
-
-same-length : tie.Need-same-length
-same-length c = search needs
-
 returns-2 : tie.Need-returns-2
 unfolding applyCall
 returns-2 c =
@@ -70,12 +58,4 @@ returns-2 c =
 
 pub apply-spec : {M : Type 1} → statement M
 apply-spec =
-    tie.close
-    (tie.spec
-    application-refusal-requires
-    judged-of-requires
-    returns
-    amend-requires
-    judged-of-requires-2
-    same-length
-    returns-2)
+    tie.close (tie.spec (λ c κs. search needs) (λ c κs. search needs) returns amend-requires (λ c κs. search needs) (λ c. search needs) returns-2)

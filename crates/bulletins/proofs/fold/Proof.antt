@@ -12,12 +12,6 @@ use borrow.Author.Needs.{needs}
 use Rattle.bulletins.proofs.fold.Statement.{statement}
 use Rattle.bulletins.proofs.fold.Tie as tie
 
-fold-refusal-requires : tie.Need-fold-refusal-requires
-fold-refusal-requires c κs = search needs
-
-judged-of-requires : tie.Need-judged-of-requires
-judged-of-requires c κs = search needs
-
 returns : tie.Need-returns
 unfolding foldCall
 returns c =
@@ -77,15 +71,6 @@ amend-requires-2 c κs =
       room = k 9;
     }
 
-judged-of-requires-2 : tie.Need-judged-of-requires-2
-judged-of-requires-2 c κs = search needs
-
-same-length : tie.Need-same-length
-same-length c = search needs
-
-same-length-2 : tie.Need-same-length-2
-same-length-2 c = search needs
-
 returns-2 : tie.Need-returns-2
 unfolding foldCall
 returns-2 c =
@@ -102,14 +87,5 @@ returns-2 c =
 
 pub fold-spec : {M : Type 1} → statement M
 fold-spec =
-    tie.close
-    (tie.spec
-    fold-refusal-requires
-    judged-of-requires
-    returns
-    amend-requires
-    amend-requires-2
-    judged-of-requires-2
-    same-length
-    same-length-2
-    returns-2)
+    tie.close (tie.spec (λ c κs. search needs) (λ c κs. search needs) returns amend-requires amend-requires-2 (λ c κs. search needs)
+    (λ c. search needs) (λ c. search needs) returns-2)

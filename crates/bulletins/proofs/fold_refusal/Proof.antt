@@ -13,9 +13,6 @@ use borrow.Author.Needs.{needs}
 use Rattle.bulletins.proofs.fold_refusal.Statement.{statement}
 use Rattle.bulletins.proofs.fold_refusal.Tie as tie
 
-judge-fold-requires : tie.Need-judge-fold-requires
-judge-fold-requires c κs = search needs
-
 returns : tie.Need-returns
 returns c =
     let at-judge-fold = c .before .before in
@@ -122,13 +119,5 @@ returns-4 c =
 
 pub fold-refusal-spec : {M : Type 1} → statement M
 fold-refusal-spec =
-    tie.close
-    (tie.spec
-    judge-fold-requires
-    returns
-    shared-number-requires
-    returns-2
-    shared-number-requires-2
-    returns-3
-    fold-rooms-requires
+    tie.close (tie.spec (λ c κs. search needs) returns shared-number-requires returns-2 shared-number-requires-2 returns-3 fold-rooms-requires
     returns-4)

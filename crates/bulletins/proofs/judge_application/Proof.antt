@@ -10,18 +10,12 @@ use borrow.Author.Needs.{needs}
 use Rattle.bulletins.proofs.judge_application.Statement.{statement}
 use Rattle.bulletins.proofs.judge_application.Tie as tie
 
-judge-requires : tie.Need-judge-requires
-judge-requires c κs = search needs
-
 returns : tie.Need-returns
 returns c =
     let at-judge = c .before in
     let start = at-judge .before .before .before .before in
     stops (at-judge .judge .result) (verdict setLayout (now (start .args .list))) 0 _ (at-judge .judge .ensures)
     (verdict-small setLayout (now (start .args .list))) (c .if1 .taken)
-
-judge-two-requires : tie.Need-judge-two-requires
-judge-two-requires c κs = search needs
 
 returns-2 : tie.Need-returns-2
 returns-2 c =
@@ -32,9 +26,6 @@ returns-2 c =
     passes (verdict setLayout (now (start .args .list))) 0 _ _ (sym (at-judge .judge .ensures) ∙ at-if1 .if1 .left)
     (stops-in (input 1 setLayout (now (start .args .released)) ∷ input 2 setLayout (now (start .args .withdrawn)) ∷ [])
     (output 3 (start .args .words) ∷ []) _ (at-judge-two .judge-two .ensures) (c .if2 .taken))
-
-no-block-requires : tie.Need-no-block-requires
-no-block-requires c κs = search needs
 
 returns-3 : tie.Need-returns-3
 returns-3 c =
@@ -50,5 +41,4 @@ returns-3 c =
 
 pub judge-application-spec : {M : Type 1} → statement M
 judge-application-spec =
-    tie.close
-    (tie.spec judge-requires returns judge-two-requires returns-2 no-block-requires returns-3)
+    tie.close (tie.spec (λ c κs. search needs) returns (λ c κs. search needs) returns-2 (λ c κs. search needs) returns-3)

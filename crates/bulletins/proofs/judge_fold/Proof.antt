@@ -9,9 +9,6 @@ use borrow.Author.Needs.{needs}
 use Rattle.bulletins.proofs.judge_fold.Statement.{statement}
 use Rattle.bulletins.proofs.judge_fold.Tie as tie
 
-judge-two-requires : tie.Need-judge-two-requires
-judge-two-requires c κs = search needs
-
 returns : tie.Need-returns
 returns c =
     let at-judge-two = c .before .before in
@@ -19,9 +16,6 @@ returns c =
     stops-in (input 0 setLayout (now (start .args .released1)) ∷ input 1 setLayout (now (start .args .withdrawn1)) ∷ [])
     (input 2 setLayout (now (start .args .released2)) ∷ input 3 setLayout (now (start .args .withdrawn2)) ∷ output 4 (start .args .words4) ∷ output 5
     (start .args .words5) ∷ []) _ (at-judge-two .judge-two .ensures) (c .if1 .taken)
-
-judge-two-requires-2 : tie.Need-judge-two-requires-2
-judge-two-requires-2 c κs = search needs
 
 returns-2 : tie.Need-returns-2
 returns-2 c =
@@ -34,9 +28,6 @@ returns-2 c =
     (start .args .words5) ∷ []) _ _ (at-judge-two .judge-two .ensures) (at-if1 .if1 .left)
     (stops-in (input 2 setLayout (now (start .args .released2)) ∷ input 3 setLayout (now (start .args .withdrawn2)) ∷ [])
     (output 4 (start .args .words4) ∷ output 5 (start .args .words5) ∷ []) _ (at-judge-two2 .judge-two2 .ensures) (c .if2 .taken))
-
-no-block-requires : tie.Need-no-block-requires
-no-block-requires c κs = search needs
 
 returns-3 : tie.Need-returns-3
 returns-3 c =
@@ -53,9 +44,6 @@ returns-3 c =
     (output 4 (start .args .words4) ∷ output 5 (start .args .words5) ∷ []) _ _ (at-judge-two2 .judge-two2 .ensures) (at-if2 .if2 .left)
     (stops (at-no-block .no-block .result) (noBlock (start .args .words4)) 4 _ (at-no-block .no-block .ensures) (block-small (start .args .words4))
     (c .if3 .taken)))
-
-no-block-requires-2 : tie.Need-no-block-requires-2
-no-block-requires-2 c κs = search needs
 
 returns-4 : tie.Need-returns-4
 returns-4 c =
@@ -76,13 +64,5 @@ returns-4 c =
 
 pub judge-fold-spec : {M : Type 1} → statement M
 judge-fold-spec =
-    tie.close
-    (tie.spec
-    judge-two-requires
-    returns
-    judge-two-requires-2
-    returns-2
-    no-block-requires
-    returns-3
-    no-block-requires-2
+    tie.close (tie.spec (λ c κs. search needs) returns (λ c κs. search needs) returns-2 (λ c κs. search needs) returns-3 (λ c κs. search needs)
     returns-4)

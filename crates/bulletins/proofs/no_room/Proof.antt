@@ -6,24 +6,6 @@ use borrow.Author.Needs.{needs}
 use Rattle.bulletins.proofs.no_room.Statement.{statement}
 use Rattle.bulletins.proofs.no_room.Tie as tie
 
-count-of-requires : tie.Need-count-of-requires
-count-of-requires c κs = search needs
-
-count-of-requires-2 : tie.Need-count-of-requires-2
-count-of-requires-2 c κs = search needs
-
-add-bound : tie.Need-add-bound
-add-bound c = search needs
-
-count-of-requires-3 : tie.Need-count-of-requires-3
-count-of-requires-3 c κs = search needs
-
-add-bound-2 : tie.Need-add-bound-2
-add-bound-2 c = search needs
-
-room-for-requires : tie.Need-room-for-requires
-room-for-requires c κs = search needs
-
 fits-requires : tie.Need-fits-requires
 fits-requires c κs =
     let at-count-of3 = c .before in
@@ -60,14 +42,5 @@ returns-2 c =
 
 pub no-room-spec : {M : Type 1} → statement M
 no-room-spec =
-    tie.close
-    (tie.spec
-    count-of-requires
-    count-of-requires-2
-    add-bound
-    count-of-requires-3
-    add-bound-2
-    room-for-requires
-    fits-requires
-    returns
-    returns-2)
+    tie.close (tie.spec (λ c κs. search needs) (λ c κs. search needs) (λ c. search needs) (λ c κs. search needs) (λ c. search needs)
+    (λ c κs. search needs) fits-requires returns returns-2)
