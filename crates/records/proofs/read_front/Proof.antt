@@ -24,9 +24,6 @@ returns-3 c = record {
   good = λ z. absurd (omega arith);
 }
 
-enum-told : tie.Need-enum-told
-enum-told c = search needs
-
 returns-4 : tie.Need-returns-4
 returns-4 c =
     let g = c .before .before .before .before .before .before .before in
@@ -70,6 +67,5 @@ returns-6 c =
 
 pub read-front-spec : {M : Type 1} → statement M
 read-front-spec =
-    tie.close
-    (tie.spec returns (λ c κs. search needs) (λ c κs. search needs) returns-2 (λ c. search needs) returns-3 (λ c κs. search needs) (λ c. search needs)
-    enum-told returns-4 add-if4 returns-5 returns-6)
+    tie.close (tie.spec returns (λ c κs. search needs) (λ c κs. search needs) returns-2 (λ c. search needs) returns-3 (λ c κs. search needs)
+    (λ c. search needs) (λ c. search needs) returns-4 add-if4 returns-5 returns-6)
