@@ -58,7 +58,23 @@ module _ (s : ℕ) (two : 2 ≤ s) (n : ℕ) (w : List ℕ) where
         from = λ h. let m : j < n = omega (arith, count) in let g = f .from m in rw (item j m) (omega arith);
       }
 
--- a side of an edit, at the numbers that the code holds
+-- what becomes of item k, which lies next to a new entry: it stays where it lies apart or has another value, and else it is joined and gives its far end
+pub record Beside (Joins : ℕ → ℕ → Type 0) (w new : List ℕ) (s k near far stays joins end : ℕ) (apart : ℕ → Bool) : Type 0 where
+  pub words : (s * k + 3 + (s - 2) ≤ length w) × (2 + (s - 2) ≤ length new)
+  pub apart-from : {x : ℕ} {t : Bool} → x ≡ getD w (s * k + near) 0 → t ≡ apart x → t ≡ true → Joins stays end
+  pub differs : false ≡ sameWords (take (s - 2) (drop (s * k + 3) w)) (valueOf s new) → Joins stays end
+  pub joined : {x y : ℕ} {t : Bool} → x ≡ getD w (s * k + near) 0 → t ≡ apart x → t ≡ false
+      → true ≡ sameWords (take (s - 2) (drop (s * k + 3) w)) (valueOf s new) → y ≡ getD w (s * k + far) 0 → Joins joins y
+
+-- the two sides of a new entry that begins at a and ends at b, where i items begin before it and the first past it is j
+abbrev pub LeftOf : (w new : List ℕ) (s n i a : ℕ) → Type 0
+LeftOf w new s n i a =
+    Beside (λ k lo. JoinsLeft zero-item (itemsOf s n (drop 1 w)) k lo (getD new 0 0) (valueOf s new)) w new s (i - 1) 2 1 i (i - 1) a (λ x. ltb (suc x) a)
+
+abbrev pub RightOf : (w new : List ℕ) (s n j b : ℕ) → Type 0
+RightOf w new s n j b =
+    Beside (λ k hi. JoinsRight zero-item (itemsOf s n (drop 1 w)) k hi (getD new 1 0) (valueOf s new)) w new s j 1 2 j (j + 1) b (λ x. ltb (suc b) x)
+
 module _ {w new : List ℕ} {s n : ℕ} (ok : SideOk w new s n) where
   abbrev items : List Entry
   items = itemsOf s n (drop 1 w)
@@ -69,11 +85,9 @@ module _ {w new : List ℕ} {s n : ℕ} (ok : SideOk w new s n) where
   here : (k : ℕ) → k < n → getD items k zero-item ≡ itemAt s w k
   here k h = item s (ok .two) n w k h
 
-  -- the words of an item stand in the block, and its value is as long as the new one
-  pub item-words : (k : ℕ) → k < n → (s * k + 3 + (s - 2) ≤ length w) × (2 + (s - 2) ≤ length new)
+  item-words : (k : ℕ) → k < n → (s * k + 3 + (s - 2) ≤ length w) × (2 + (s - 2) ≤ length new)
   item-words k h = (omega (arith, item-in s k n h, ok .held, ok .two), omega (arith, ok .whole, ok .two))
 
-  -- before the new entry
   module _ {a i : ℕ} (e : a ≡ getD new 0 0) (f : FirstFrom w s 1 n a i) where
     found : Left zero-item items i a
     found = find-left s (ok .two) n w i a f
@@ -81,37 +95,30 @@ module _ {w new : List ℕ} {s n : ℕ} (ok : SideOk w new s n) where
     pub left-none : i ≡ 0 → JoinsLeft zero-item items 0 a (getD new 0 0) value
     left-none z = rw (← e) (cut-here zero-item items (ok .sound) 0 a value (rw z at found) (λ k p. absurd (omega arith)))
 
-    module _ (ne : i ≡ 0 → ⊥) where
-      abbrev k : ℕ
-      k = i - 1
-
-      last : (m : ℕ) → suc m ≡ i → getD items m zero-item ≡ itemAt s w k
-      last m p = let q : m ≡ k = omega arith in rw q (here k (omega (arith, f .within)))
-
-      pub left-apart : {x : ℕ} {t : Bool} → x ≡ getD w (s * (i - 1) + 2) 0 → t ≡ ltb (suc x) a → t ≡ true
-          → JoinsLeft zero-item items i a (getD new 0 0) value
-      left-apart {x} {t} ex et y =
+    pub left-beside : (i ≡ 0 → ⊥) → LeftOf w new s n i a
+    left-beside ne = record {
+      words = item-words k (omega (arith, f .within));
+      apart-from = λ {x} {t} ex et y.
           rw (← e) (cut-here zero-item items (ok .sound) i a value found
-          (λ m p q. absurd (let g = ap (λ (x : Entry). x .high) (last m p) in let h = ltb-true (suc x) a (sym et ∙ y) in omega arith)))
-
-      pub left-differ : false ≡ sameWords (take (s - 2) (drop (s * (i - 1) + 3) w)) value → JoinsLeft zero-item items i a (getD new 0 0) value
-      left-differ h =
-          rw (← e) (cut-here zero-item items (ok .sound) i a value found
-          (λ m p q y. words-false (take (s - 2) (drop (s * (i - 1) + 3) w)) value (sym h) (sym (ap (λ (x : Entry). x .value) (last m p)) ∙ y)))
-
-      pub left-join : {x low : ℕ} {u : Bool} → x ≡ getD w (s * (i - 1) + 2) 0 → u ≡ ltb (suc x) a → u ≡ false
-          → true ≡ sameWords (take (s - 2) (drop (s * (i - 1) + 3) w)) value → low ≡ getD w (s * (i - 1) + 1) 0
-          → JoinsLeft zero-item items (i - 1) low (getD new 0 0) value
-      left-join {x} {low} {u} ex eu y t l =
-          let g = ltb-false (suc x) a (sym eu ∙ y) in
-          let h : a ≤ suc (getD w (s * (i - 1) + 2) 0) = omega arith in
+          (λ m p q. absurd (let g = ap (λ (x : Entry). x .high) (last m p) in let h = ltb-true (suc x) a (sym et ∙ y) in omega arith)));
+      differs = λ h. rw (← e) (cut-here zero-item items (ok .sound) i a value found
+          (λ m p q y. words-false (take (s - 2) (drop (s * k + 3) w)) value (sym h) (sym (ap (λ (x : Entry). x .value) (last m p)) ∙ y)));
+      joined = λ {x} {y} {t} ex et u v l.
+          let g = ltb-false (suc x) a (sym et ∙ u) in
+          let h : a ≤ suc (getD w (s * k + 2) 0) = omega arith in
           let q : i ≡ suc k = omega arith in
           let m = here k (omega (arith, f .within)) in
           rw (← e, l, ← (ap (λ (x : Entry). x .low) m))
           (join-before zero-item items (ok .sound) k a value (rw q at found) (rw (ap (λ (x : Entry). x .high) m) h)
-          (ap (λ (x : Entry). x .value) m ∙ words-true (take (s - 2) (drop (s * (i - 1) + 3) w)) value (sym t)))
+          (ap (λ (x : Entry). x .value) m ∙ words-true (take (s - 2) (drop (s * k + 3) w)) value (sym v)));
+    }
+      where
+        k : ℕ
+        k = i - 1
 
-  -- behind it
+        last : (m : ℕ) → suc m ≡ i → getD items m zero-item ≡ itemAt s w k
+        last m p = let q : m ≡ k = omega arith in rw q (here k (omega (arith, f .within)))
+
   module _ {b j : ℕ} (e : b ≡ getD new 1 0) (f : FirstFrom w s 2 n (b + 1) j) where
     past : Right zero-item items j b
     past = find-right s (ok .two) n w j b f
@@ -119,29 +126,23 @@ module _ {w new : List ℕ} {s n : ℕ} (ok : SideOk w new s n) where
     pub right-none : n ≤ j → JoinsRight zero-item items j b (getD new 1 0) value
     right-none h = rw (← e) (cut-there zero-item items (ok .sound) j b value past (λ p. absurd (omega (arith, count s (ok .two) n w))))
 
-    module _ (h : j < n) where
-      pub right-apart : {x : ℕ} {t : Bool} → x ≡ getD w (s * j + 1) 0 → t ≡ ltb (suc b) x → t ≡ true
-          → JoinsRight zero-item items j b (getD new 1 0) value
-      right-apart {x} {t} ex et y =
+    pub right-beside : j < n → RightOf w new s n j b
+    right-beside h = record {
+      words = item-words j h;
+      apart-from = λ {x} {t} ex et y.
           rw (← e) (cut-there zero-item items (ok .sound) j b value past
-          (λ p q. absurd (let m = ap (λ (x : Entry). x .low) (here j h) in let g = ltb-true (suc b) x (sym et ∙ y) in omega arith)))
-
-      pub right-differ : false ≡ sameWords (take (s - 2) (drop (s * j + 3) w)) value → JoinsRight zero-item items j b (getD new 1 0) value
-      right-differ g =
-          rw (← e) (cut-there zero-item items (ok .sound) j b value past
-          (λ p q y. words-false (take (s - 2) (drop (s * j + 3) w)) value (sym g) (sym (ap (λ (x : Entry). x .value) (here j h)) ∙ y)))
-
-      pub right-join : {x high : ℕ} {u : Bool} → x ≡ getD w (s * j + 1) 0 → u ≡ ltb (suc b) x → u ≡ false
-          → true ≡ sameWords (take (s - 2) (drop (s * j + 3) w)) value → high ≡ getD w (s * j + 2) 0
-          → JoinsRight zero-item items (j + 1) high (getD new 1 0) value
-      right-join {x} {high} {u} ex eu y t l =
-          let z = ltb-false (suc b) x (sym eu ∙ y) in
+          (λ p q. absurd (let m = ap (λ (x : Entry). x .low) (here j h) in let g = ltb-true (suc b) x (sym et ∙ y) in omega arith)));
+      differs = λ g. rw (← e) (cut-there zero-item items (ok .sound) j b value past
+          (λ p q y. words-false (take (s - 2) (drop (s * j + 3) w)) value (sym g) (sym (ap (λ (x : Entry). x .value) (here j h)) ∙ y)));
+      joined = λ {x} {y} {t} ex et u v l.
+          let z = ltb-false (suc b) x (sym et ∙ u) in
           let g : getD w (s * j + 1) 0 ≤ suc b = omega arith in
           let m = here j h in
           let q : suc j ≡ j + 1 = omega arith in
           rw (← e, l, ← (ap (λ (x : Entry). x .high) m), ← q)
           (join-after zero-item items (ok .sound) j b value past (omega (arith, count s (ok .two) n w)) (rw (ap (λ (x : Entry). x .low) m) g)
-          (ap (λ (x : Entry). x .value) m ∙ words-true (take (s - 2) (drop (s * j + 3) w)) value (sym t)))
+          (ap (λ (x : Entry). x .value) m ∙ words-true (take (s - 2) (drop (s * j + 3) w)) value (sym v)));
+    }
 
 -- the law of `place`
 -- the words of its parts: they stand in the block, before and after
