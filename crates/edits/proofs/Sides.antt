@@ -345,6 +345,10 @@ module _ {w : List ℕ} {l : Layout} {n : ℕ} (ok : EditOk w l n) where
             from = high-of j b (find-right s (ok .two) n w j b h);
           }
 
+-- a block that was judged sound
+pub edit-ok : {l : Layout} {w : List ℕ} {v n : ℕ} → v ≡ verdict l w → v ≡ 0 → 2 ≤ l .width → n ≡ getD w 0 0 → EditOk w l n
+edit-ok {l} {w} e z two c = record { two = two; block = verdict-sound l w (sym e ∙ z); count = c }
+
 -- the call, by the tests of the code
 module _ (l : Layout) (w : List ℕ) (a b : ℕ) (o : Option (List ℕ)) (v : ℕ) (e : v ≡ verdict l w) where
   abbrev kept : Outcome
@@ -365,18 +369,12 @@ module _ (l : Layout) (w : List ℕ) (a b : ℕ) (o : Option (List ℕ)) (v : �
       go (suc k) m = refl
 
   module _ (z : v ≡ 0) where
-    pub edit-ok : (n : ℕ) → 2 ≤ l .width → n ≡ getD w 0 0 → EditOk w l n
-    edit-ok n two c = record { two = two; block = verdict-sound l w (sym e ∙ z); count = c }
+    pub edit-backwards : {x y : ℕ} → x ≡ b → y ≡ a → x < y → outcome (numberSays 4 0) (w ∷ []) ≡ editCall l w a b o
+    edit-backwards p q h = let k : b < a = omega arith in by-verdict (outcome (refused 4 0) (w ∷ [])) (rw (z, lt-ltb b a k))
 
-    pub edit-backwards : (x y : ℕ) → x ≡ b → y ≡ a → x < y → outcome (numberSays 4 0) (w ∷ []) ≡ editCall l w a b o
-    edit-backwards x y p q h = let k : b < a = omega arith in by-verdict (outcome (refused 4 0) (w ∷ [])) (rw (z, lt-ltb b a k))
-
-    module _ (x y : ℕ) (p : x ≡ b) (q : y ≡ a) (h : y ≤ x) (t : Bool) (w' : List ℕ) (k : outcome (roomSays t) (w' ∷ []) ≡ kept) where
-      in-order : kept ≡ judged v 0 (w ∷ []) ordered
-      in-order = let m : a ≤ b = omega arith in rw (z, le-ltb b a m)
-
-      pub edit-done : t ≡ true → outcome (numberSays 0 0) (w' ∷ []) ≡ editCall l w a b o
-      edit-done f = by-verdict (outcome (given []) (w' ∷ [])) (ap (λ (u : Bool). outcome (roomSays u) (w' ∷ [])) (sym f) ∙ k ∙ in-order)
-
-      pub edit-full : t ≡ false → outcome (numberSays 5 0) (w' ∷ []) ≡ editCall l w a b o
-      edit-full f = by-verdict (outcome (refused 5 0) (w' ∷ [])) (ap (λ (u : Bool). outcome (roomSays u) (w' ∷ [])) (sym f) ∙ k ∙ in-order)
+    -- stored, or refused for want of room
+    pub edit-kept : {x y : ℕ} → x ≡ b → y ≡ a → y ≤ x → {t : Bool} {w' : List ℕ} → outcome (roomSays t) (w' ∷ []) ≡ kept → {u : Bool} → t ≡ u
+        → outcome (roomSays u) (w' ∷ []) ≡ editCall l w a b o
+    edit-kept p q h {t} {w'} k {u} f =
+        let m : a ≤ b = omega arith in
+        by-verdict (outcome (roomSays u) (w' ∷ [])) (ap (λ (u : Bool). outcome (roomSays u) (w' ∷ [])) (sym f) ∙ k ∙ rw (z, le-ltb b a m))
