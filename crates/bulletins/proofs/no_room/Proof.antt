@@ -26,19 +26,15 @@ fits-requires c κs =
 
 returns : tie.Need-returns
 returns c =
-    let at-fits2 = c .before in
-    let at-room-for = at-fits2 .before in
-    let start = at-room-for .before .before .before .before .before .before .before in
-    room-yes (now (start .args .list)) (now (start .args .released)) (now (start .args .withdrawn)) (start .pre .0) (start .args .words)
-    (at-room-for .room-for .result) (at-room-for .room-for .ensures) (at-fits2 .fits2 .result) (at-fits2 .fits2 .ensures) (c .if1 .taken)
+    let at-room-for = c .before .before in
+    room-yes _ _ _ (at-room-for .before .before .before .before .before .before .before .pre .0) _ _ (at-room-for .room-for .ensures) _
+    (c .before .fits2 .ensures) (c .if1 .taken)
 
 returns-2 : tie.Need-returns-2
 returns-2 c =
-    let at-fits2 = c .before in
-    let at-room-for = at-fits2 .before in
-    let start = at-room-for .before .before .before .before .before .before .before in
-    room-no (now (start .args .list)) (now (start .args .released)) (now (start .args .withdrawn)) (start .pre .0) (start .args .words)
-    (at-room-for .room-for .result) (at-room-for .room-for .ensures) (at-fits2 .fits2 .result) (at-fits2 .fits2 .ensures) (c .if1 .left)
+    let at-room-for = c .before .before in
+    room-no _ _ _ (at-room-for .before .before .before .before .before .before .before .pre .0) _ _ (at-room-for .room-for .ensures) _
+    (c .before .fits2 .ensures) (c .if1 .left)
 
 pub no-room-spec : {M : Type 1} → statement M
 no-room-spec =
