@@ -19,12 +19,6 @@ Inv-loop a b i₀ left₀ j₀ others₀ i left j others =
 abbrev μ-loop : tie.MeasureT-loop
 μ-loop a b i₀ left₀ j₀ others₀ i left j others = left + others
 
-count-of-requires : tie.Need-count-of-requires Inv-loop μ-loop
-count-of-requires c κs = search needs
-
-count-of-requires-2 : tie.Need-count-of-requires-2 Inv-loop μ-loop
-count-of-requires-2 c κs = search needs
-
 loop-holds : tie.Need-loop-holds Inv-loop μ-loop
 loop-holds c =
     let at-count-of = c .before in
@@ -48,24 +42,6 @@ returns c =
     let start = at-loop .before .before .before .before .before in
     no-others (in-words (now (start .args .a))) (in-words (now (start .args .b))) (at-loop .loop .inv .2) (c .if1 .taken)
 
-add-word : tie.Need-add-word Inv-loop μ-loop
-add-word c = search needs
-
-word-requires : tie.Need-word-requires Inv-loop μ-loop
-word-requires c κs = search needs
-
-word-requires-2 : tie.Need-word-requires-2 Inv-loop μ-loop
-word-requires-2 c κs = search needs
-
-add-word-2 : tie.Need-add-word-2 Inv-loop μ-loop
-add-word-2 c = search needs
-
-word-requires-3 : tie.Need-word-requires-3 Inv-loop μ-loop
-word-requires-3 c κs = search needs
-
-word-requires-4 : tie.Need-word-requires-4 Inv-loop μ-loop
-word-requires-4 c κs = search needs
-
 returns-2 : tie.Need-returns-2 Inv-loop μ-loop
 returns-2 c =
     let at-word4 = c .before in
@@ -82,30 +58,6 @@ returns-2 c =
     (ltb (at-word3 .word3 .result) (at-word4 .word4 .result)) (ap₂ ltb (at-word .word .ensures) (at-word2 .word2 .ensures))
     (ap₂ ltb (at-word3 .word3 .ensures) (at-word4 .word4 .ensures))
     (same-answer (ltb (at-word .word .result) (at-word2 .word2 .result)) (ltb (at-word3 .word3 .result) (at-word4 .word4 .result)) (c .if2 .taken))
-
-add-chosen : tie.Need-add-chosen Inv-loop μ-loop
-add-chosen c = search needs
-
-chosen-requires : tie.Need-chosen-requires Inv-loop μ-loop
-chosen-requires c κs = search needs
-
-sub-chosen : tie.Need-sub-chosen Inv-loop μ-loop
-sub-chosen c = search needs
-
-chosen-requires-2 : tie.Need-chosen-requires-2 Inv-loop μ-loop
-chosen-requires-2 c κs = search needs
-
-add-chosen-2 : tie.Need-add-chosen-2 Inv-loop μ-loop
-add-chosen-2 c = search needs
-
-chosen-requires-3 : tie.Need-chosen-requires-3 Inv-loop μ-loop
-chosen-requires-3 c κs = search needs
-
-sub-chosen-2 : tie.Need-sub-chosen-2 Inv-loop μ-loop
-sub-chosen-2 c = search needs
-
-chosen-requires-4 : tie.Need-chosen-requires-4 Inv-loop μ-loop
-chosen-requires-4 c κs = search needs
 
 loop-less : tie.Need-loop-less Inv-loop μ-loop
 loop-less c =
@@ -163,29 +115,7 @@ returns-3 c =
 
 pub share-number-spec : {M : Type 1} → statement M
 share-number-spec =
-    tie.close
-    (tie.spec
-    Inv-loop
-    μ-loop
-    count-of-requires
-    count-of-requires-2
-    loop-holds
-    returns
-    add-word
-    word-requires
-    word-requires-2
-    add-word-2
-    word-requires-3
-    word-requires-4
-    returns-2
-    add-chosen
-    chosen-requires
-    sub-chosen
-    chosen-requires-2
-    add-chosen-2
-    chosen-requires-3
-    sub-chosen-2
-    chosen-requires-4
-    loop-less
-    loop-again
-    returns-3)
+    tie.close (tie.spec Inv-loop μ-loop (λ c κs. search needs) (λ c κs. search needs) loop-holds returns (λ c. search needs) (λ c κs. search needs)
+    (λ c κs. search needs) (λ c. search needs) (λ c κs. search needs) (λ c κs. search needs) returns-2 (λ c. search needs) (λ c κs. search needs)
+    (λ c. search needs) (λ c κs. search needs) (λ c. search needs) (λ c κs. search needs) (λ c. search needs) (λ c κs. search needs) loop-less
+    loop-again returns-3)
