@@ -44,38 +44,24 @@ returns c =
 
 returns-2 : tie.Need-returns-2 Inv-loop μ-loop
 returns-2 c =
-    let at-word4 = c .before in
-    let at-word3 = at-word4 .before in
-    let at-word2 = at-word3 .before in
+    let at-word2 = c .before .before .before in
     let at-word = at-word2 .before in
     let at-if1 = at-word .before in
-    let at-loop-test = at-if1 .before in
-    let at-loop = at-loop-test .before in
-    let start = at-loop .before .before .before .before .before in
-    let l = at-loop .loop in
-    met (in-words (now (start .args .a))) (in-words (now (start .args .b))) (l .inv .2) (omega (arith, at-loop-test .loop-test .taken))
-    (omega (arith, at-if1 .if1 .left)) (ltb (at-word .word .result) (at-word2 .word2 .result))
-    (ltb (at-word3 .word3 .result) (at-word4 .word4 .result)) (ap₂ ltb (at-word .word .ensures) (at-word2 .word2 .ensures))
-    (ap₂ ltb (at-word3 .word3 .ensures) (at-word4 .word4 .ensures))
-    (same-answer (ltb (at-word .word .result) (at-word2 .word2 .result)) (ltb (at-word3 .word3 .result) (at-word4 .word4 .result)) (c .if2 .taken))
+    met _ _ (at-if1 .before .before .loop .inv .2) (omega (arith, at-if1 .before .loop-test .taken)) (omega (arith, at-if1 .if1 .left)) _ _
+    (ap₂ ltb (at-word .word .ensures) (at-word2 .word2 .ensures)) (ap₂ ltb (c .before .before .word3 .ensures) (c .before .word4 .ensures))
+    (same-answer _ _ (c .if2 .taken))
 
 loop-less : tie.Need-loop-less Inv-loop μ-loop
 loop-less c =
     let at-chosen2 = c .before .before in
     let at-if2 = at-chosen2 .before .before in
-    let at-word4 = at-if2 .before in
-    let at-word3 = at-word4 .before in
-    let at-word2 = at-word3 .before in
-    let at-word = at-word2 .before in
+    let at-word3 = at-if2 .before .before in
+    let at-word = at-word3 .before .before in
     let at-if1 = at-word .before in
-    let at-loop-test = at-if1 .before in
-    let at-loop = at-loop-test .before in
-    let l = at-loop .loop in
-    walks-on (ltb (at-word .word .result) (at-word2 .word2 .result)) (ltb (at-word3 .word3 .result) (at-word4 .word4 .result)) (l .left) (l .others)
-    (at-chosen2 .chosen2 .result) (c .chosen4 .result)
-    (other-answer (ltb (at-word .word .result) (at-word2 .word2 .result)) (ltb (at-word3 .word3 .result) (at-word4 .word4 .result))
-    (at-if2 .if2 .left)) (omega (arith, at-loop-test .loop-test .taken)) (omega (arith, at-if1 .if1 .left)) (at-chosen2 .chosen2 .ensures)
-    (c .chosen4 .ensures)
+    let t = ltb (at-word .word .result) (at-word3 .before .word2 .result) in
+    let u = ltb (at-word3 .word3 .result) (at-if2 .before .word4 .result) in
+    walks-on t u _ _ _ _ (other-answer t u (at-if2 .if2 .left)) (omega (arith, at-if1 .before .loop-test .taken)) (omega (arith, at-if1 .if1 .left))
+    (at-chosen2 .chosen2 .ensures) (c .chosen4 .ensures)
 
 loop-again : tie.Need-loop-again Inv-loop μ-loop
 loop-again c =
@@ -83,27 +69,17 @@ loop-again c =
     let at-chosen2 = at-chosen3 .before in
     let at-chosen = at-chosen2 .before in
     let at-if2 = at-chosen .before in
-    let at-word4 = at-if2 .before in
-    let at-word3 = at-word4 .before in
-    let at-word2 = at-word3 .before in
-    let at-word = at-word2 .before in
+    let at-word3 = at-if2 .before .before in
+    let at-word = at-word3 .before .before in
     let at-if1 = at-word .before in
-    let at-loop-test = at-if1 .before in
-    let at-loop = at-loop-test .before in
-    let start = at-loop .before .before .before .before .before in
-    let l = at-loop .loop in (
-      walks-within (ltb (at-word .word .result) (at-word2 .word2 .result)) (l .i) (l .left) (length (now (start .args .a)))
-          (at-chosen .chosen .result) (at-chosen2 .chosen2 .result) (omega (arith, at-loop-test .loop-test .taken)) (l .inv .0)
-          (at-chosen .chosen .ensures) (at-chosen2 .chosen2 .ensures),
-      walks-within (ltb (at-word3 .word3 .result) (at-word4 .word4 .result)) (l .j)
-          (l .others) (length (now (start .args .b))) (at-chosen3 .chosen3 .result) (c .chosen4 .result) (omega (arith, at-if1 .if1 .left)) (l .inv .1)
-          (at-chosen3 .chosen3 .ensures) (c .chosen4 .ensures),
-      stepped (in-words (now (start .args .a))) (in-words (now (start .args .b))) (l .inv .2)
-          (omega (arith, at-loop-test .loop-test .taken)) (omega (arith, at-if1 .if1 .left)) (ltb (at-word .word .result) (at-word2 .word2 .result))
-          (ltb (at-word3 .word3 .result) (at-word4 .word4 .result)) (ap₂ ltb (at-word .word .ensures) (at-word2 .word2 .ensures))
-          (ap₂ ltb (at-word3 .word3 .ensures) (at-word4 .word4 .ensures))
-          (other-answer (ltb (at-word .word .result) (at-word2 .word2 .result)) (ltb (at-word3 .word3 .result) (at-word4 .word4 .result))
-          (at-if2 .if2 .left)) (at-chosen .chosen .result) (at-chosen2 .chosen2 .result) (at-chosen3 .chosen3 .result) (c .chosen4 .result)
+    let inv = at-if1 .before .before .loop .inv in
+    let t = ltb (at-word .word .result) (at-word3 .before .word2 .result) in
+    let u = ltb (at-word3 .word3 .result) (at-if2 .before .word4 .result) in (
+      walks-within t _ _ _ _ _ (omega (arith, at-if1 .before .loop-test .taken)) (inv .0) (at-chosen .chosen .ensures) (at-chosen2 .chosen2 .ensures),
+      walks-within u _ _ _ _ _ (omega (arith, at-if1 .if1 .left)) (inv .1) (at-chosen3 .chosen3 .ensures) (c .chosen4 .ensures),
+      stepped _ _ (inv .2) (omega (arith, at-if1 .before .loop-test .taken)) (omega (arith, at-if1 .if1 .left)) t u
+          (ap₂ ltb (at-word .word .ensures) (at-word3 .before .word2 .ensures)) (ap₂ ltb (at-word3 .word3 .ensures) (at-if2 .before .word4 .ensures))
+          (other-answer t u (at-if2 .if2 .left)) _ _ _ _
           (at-chosen .chosen .ensures) (at-chosen2 .chosen2 .ensures) (at-chosen3 .chosen3 .ensures) (c .chosen4 .ensures),
     )
 
