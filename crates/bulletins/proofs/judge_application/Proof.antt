@@ -20,7 +20,8 @@ returns-3 c =
     let at-judge-two = c .before .before .before in
     let at-if1 = at-judge-two .before in
     passes _ _ _ _ (sym (at-if1 .before .judge .ensures) ∙ at-if1 .if1 .left)
-    (passes-in _ _ _ _ (at-judge-two .judge-two .ensures) (c .before .if2 .left) (ends _ _ _ (c .no-block .ensures) (block-small (at-if1 .before .before .before .before .before .args .words))))
+    (passes-in _ _ _ _ (at-judge-two .judge-two .ensures) (c .before .if2 .left)
+    (ends _ _ _ (c .no-block .ensures) (block-small (at-if1 .before .before .before .before .before .args .words))))
 
 pub judge-application-spec : {M : Type 1} → statement M
 judge-application-spec =

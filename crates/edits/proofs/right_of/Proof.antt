@@ -42,5 +42,6 @@ right-of-spec =
     (λ c. omega (arith, next c .words)) (λ c κs. omega (arith, next c .words)) (λ c κs. search needs) returns-2
     (λ c. omega (arith, next (c .before .before .before) .words)) (λ c. omega (arith, next (c .before .before .before) .words)) (λ c. search needs)
     (λ c κs. next (c .before .before .before) .words) (λ c. omega (arith, next (c .before .before .before .before .before) .words))
-    (λ c. omega (arith, next (c .before .before .before .before .before) .words)) (λ c κs. omega (arith, next (c .before .before .before .before .before) .words))
+    (λ c. omega (arith, next (c .before .before .before .before .before) .words))
+    (λ c κs. omega (arith, next (c .before .before .before .before .before) .words))
     (λ c. search needs) returns-3 returns-4)

@@ -53,7 +53,8 @@ returns-3 c =
     let at-if1 = at-if2 .before .before in
     let a = at-if1 .before .before .before .before .args in
     give-two (now (a .a)) (now (a .b)) (none-kept (a .table)) _ (at-if1 .before .judge .ensures) (at-if1 .if1 .left) _ (at-if2 .before .judge2 .ensures) _
-    (at-if2 .if2 .left) (empty-no (result (a .table) 2 (entriesOf 2 (now (a .a))) (entriesOf 2 (now (a .b))) []) _ (c .before .any-of-two .ensures) (c .if3 .taken))
+    (at-if2 .if2 .left) (empty-no (result (a .table) 2 (entriesOf 2 (now (a .a))) (entriesOf 2 (now (a .b))) []) _ (c .before .any-of-two .ensures)
+    (c .if3 .taken))
 
 returns-4 : tie.Need-returns-4
 returns-4 c =
@@ -61,7 +62,8 @@ returns-4 c =
     let at-if1 = at-if2 .before .before in
     let a = at-if1 .before .before .before .before .args in
     give-two (now (a .a)) (now (a .b)) (none-kept (a .table)) _ (at-if1 .before .judge .ensures) (at-if1 .if1 .left) _ (at-if2 .before .judge2 .ensures) _
-    (at-if2 .if2 .left) (empty-yes (result (a .table) 2 (entriesOf 2 (now (a .a))) (entriesOf 2 (now (a .b))) []) _ (c .before .any-of-two .ensures) (c .if3 .left))
+    (at-if2 .if2 .left) (empty-yes (result (a .table) 2 (entriesOf 2 (now (a .a))) (entriesOf 2 (now (a .b))) []) _ (c .before .any-of-two .ensures)
+    (c .if3 .left))
 
 pub keeps-none-spec : {M : Type 1} → statement M
 keeps-none-spec =

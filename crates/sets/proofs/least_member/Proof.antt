@@ -17,7 +17,8 @@ unfolding leastMemberCall
 returns c =
     let at-judge = c .before .before in
     let start = at-judge .before .before in
-    refuse-asked (now (start .args .block)) (λ (es : List Entry). optional (leastMember es (start .args .x))) _ _ (at-judge .judge .ensures) (c .before .if1 .taken) (c .refusal-of .ensures)
+    refuse-asked (now (start .args .block)) (λ (es : List Entry). optional (leastMember es (start .args .x))) _ _ (at-judge .judge .ensures)
+    (c .before .if1 .taken) (c .refusal-of .ensures)
 
 least-in-requires : tie.Need-least-in-requires
 least-in-requires c κs = verdict-sound setLayout _ (sym (c .before .judge .ensures) ∙ c .if1 .left)
@@ -27,7 +28,8 @@ unfolding leastMemberCall
 returns-2 c =
     let at-judge = c .before .before in
     let start = at-judge .before .before in
-    give-asked (now (start .args .block)) (λ (es : List Entry). optional (leastMember es (start .args .x))) _ _ (at-judge .judge .ensures) (c .before .if1 .left) (c .least-in .ensures)
+    give-asked (now (start .args .block)) (λ (es : List Entry). optional (leastMember es (start .args .x))) _ _ (at-judge .judge .ensures)
+    (c .before .if1 .left) (c .least-in .ensures)
 
 pub least-member-spec : {M : Type 1} → statement M
 least-member-spec =

@@ -16,7 +16,8 @@ unfolding rangeAtCall
 returns c =
     let at-judge = c .before .before in
     let start = at-judge .before .before in
-    refuse-asked (now (start .args .block)) (λ (es : List Entry). ends (rangeAt es (start .args .i))) _ _ (at-judge .judge .ensures) (c .before .if1 .taken) (c .refusal-of .ensures)
+    refuse-asked (now (start .args .block)) (λ (es : List Entry). ends (rangeAt es (start .args .i))) _ _ (at-judge .judge .ensures) (c .before .if1 .taken)
+    (c .refusal-of .ensures)
 
 range-in-requires : tie.Need-range-in-requires
 range-in-requires c κs = verdict-sound setLayout _ (sym (c .before .judge .ensures) ∙ c .if1 .left)
@@ -26,7 +27,8 @@ unfolding rangeAtCall
 returns-2 c =
     let at-judge = c .before .before in
     let start = at-judge .before .before in
-    give-asked (now (start .args .block)) (λ (es : List Entry). ends (rangeAt es (start .args .i))) _ _ (at-judge .judge .ensures) (c .before .if1 .left) (c .range-in .ensures)
+    give-asked (now (start .args .block)) (λ (es : List Entry). ends (rangeAt es (start .args .i))) _ _ (at-judge .judge .ensures) (c .before .if1 .left)
+    (c .range-in .ensures)
 
 pub range-at-spec : {M : Type 1} → statement M
 range-at-spec =
