@@ -1,4 +1,3 @@
-use denote.Ref.{now}
 use lib.ListN.{length-set}
 use Rattle.sweeps.proofs.Storing.{bit-one, lay-two, lay-three, lay-four}
 use native.Mathlib.Omega.{arith}
