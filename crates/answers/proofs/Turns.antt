@@ -41,9 +41,14 @@ in-turn : (fs gs : List Finding) (lent : List (List ℕ)) (x : Outcome) → inTu
 in-turn [] gs lent x = refl
 in-turn (f ∷ fs) gs lent x = ap (judged (f .number) (f .place) lent) (in-turn fs gs lent x)
 
+-- none of two runs of tests applies where none of either does, and only there
 pub clear-both : (fs gs : List Finding) → Clear fs → Clear gs → Clear (fs ++ gs)
 clear-both [] gs c d = d
 clear-both (f ∷ fs) gs c d = (c .0, clear-both fs gs (c .1) d)
+
+pub clear-split : (fs gs : List Finding) → Clear (fs ++ gs) → Clear fs × Clear gs
+clear-split [] gs c = (tt, c)
+clear-split (f ∷ fs) gs c = let k = clear-split fs gs (c .1) in ((c .0, k .0), k .1)
 
 -- several tests at once, of which one refuses
 pub stops-in : (fs gs : List Finding) (r : Finding) → FirstOf fs r → (r .number ≡ 0 → ⊥) → FirstOf (fs ++ gs) r
@@ -151,6 +156,9 @@ pub clear-at : (fs : List Finding) → Clear fs → (i : ℕ) → numberAt fs i 
 clear-at [] c i = refl
 clear-at (f ∷ fs) c zero = c .0
 clear-at (f ∷ fs) c (suc i) = clear-at fs (c .1) i
+
+pub clear-by : {fs : List Finding} {r : Finding} → FirstOf fs r → r .number ≡ 0 → (i : ℕ) → numberAt fs i ≡ 0
+clear-by {fs} f z = clear-at fs (f .clear z)
 
 -- a test that gives a number: it is clear exactly where it does not hold
 pub applies-clear : (t : Bool) (n : ℕ) → applies t (suc n) ≡ 0 → t ≡ false

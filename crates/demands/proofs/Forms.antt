@@ -12,8 +12,7 @@ use Rattle.entries.specs.Build.{pick}
 use Rattle.entries.specs.Sets.{member}
 use Rattle.blocks.specs.Blocks.{entriesOf, blockOf, setLayout, Shaped}
 use Rattle.demands.specs.Plain.{In, leaves}
-use Rattle.answers.proofs.Turns.{turn-accepted, turn-keeps, clear-turn, refused≢given}
-use Rattle.runs.proofs.Running.{clear-split, clear-join}
+use Rattle.answers.proofs.Turns.{turn-accepted, turn-keeps, clear-turn, clear-both, clear-split, refused≢given}
 use Rattle.runs.proofs.Several.{shapes}
 use Rattle.blocks.proofs.Words.{items-length}
 use Rattle.blocks.proofs.Canonical.{entries-stored}
@@ -53,7 +52,7 @@ module _ (f : Form) (k : FormKind f) (b : List ℕ) (y : Bytes b) (outs ws : Lis
       let a = formed-accepted f k b (r .runs) (r .form) in
       let rs = outRefusals (f .layout) (lengths outs) (lengths (formEntries f b)) in
       clear-turn (formRefusals f b ++ rs) outs (outcome (given []) (storedIn outs (formEntries f b)))
-      (clear-join (formRefusals f b) rs (a .0) (subst (λ (es : List (List Entry)). Clear (outRefusals (f .layout) (lengths outs) (lengths es))) (sym (a .1))
+      (clear-both (formRefusals f b) rs (a .0) (subst (λ (es : List (List Entry)). Clear (outRefusals (f .layout) (lengths outs) (lengths es))) (sym (a .1))
       (r .room)))
       ∙ ap (outcome (given [])) (ap (storedIn outs) (a .1) ∙ sym (r .left))
 

@@ -14,7 +14,7 @@ use Rattle.blocks.proofs.Refusing.{some-words, room-fits}
 use Rattle.blocks.proofs.Canonical.{entries-stored, sound-stored}
 use Rattle.numbers.specs.Numbers.{Bytes, past2}
 use Rattle.runs.specs.Runs.{lengths, Fine}
-use Rattle.runs.proofs.Running.{clear-split}
+use Rattle.answers.proofs.Turns.{clear-split}
 use Rattle.runs.proofs.Several.{shapes}
 use Rattle.verdicts.specs.declared.Form.{Form}
 use Rattle.verdicts.specs.Forms.{ofSet, ofMap, ofBulletin, formOf, sizeOf, overlap, noBlocks, noRooms}

@@ -17,7 +17,7 @@ use Rattle.numbers.specs.Numbers.{num2}
 use Rattle.numbers.specs.Check.{checkOf}
 use Rattle.records.specs.Records.{bodyLength, bodyVerdict, recordVerdict, inOrder, entryIn, allWithin}
 use Rattle.runs.specs.Runs.{lengths, runsIn, runRefusals, runsRefusals}
-use Rattle.runs.proofs.Running.{clear-split, clear-join}
+use Rattle.answers.proofs.Turns.{clear-split, clear-both}
 use Rattle.runs.proofs.Several.{many-lengths}
 use Rattle.verdicts.specs.declared.Form.{Form}
 use Rattle.verdicts.specs.Forms.{kindsOf, startSize, formCounts, formEntries, sizeOf, sharing, trailing, overlap, formRefusals}
@@ -172,6 +172,6 @@ read-room f t b y outs many i = record { to = to; from = from }
     from h =
         let a = formed-accepted f (kind-of t) b (h .runs) (h .form) in
         same ∙ exactly .from (
-          clear-join (formRefusals f b) (noBlocks 0 ls) (a .0) (words-clear 0 outs (h .words)),
+          clear-both (formRefusals f b) (noBlocks 0 ls) (a .0) (words-clear 0 outs (h .words)),
           subst (λ (es : List (List Entry)). Lacks (f .layout) ls (lengths es) i) (sym (a .1)) (record { before = h .before; here = h .here }),
         )

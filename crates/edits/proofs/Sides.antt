@@ -25,11 +25,11 @@ use Rattle.blocks.specs.Steps.{Spliced, itemAt, zero-item}
 use Rattle.searches.specs.Steps.{FirstFrom}
 use Rattle.blocks.proofs.Moves.{entry-at, splice-entries, entries-count}
 use Rattle.edits.proofs.Cuts.{trim-length, placed}
-use Rattle.edits.specs.Steps.{cutEnd, cutStart, PlaceOk, SideOk, EditOk, CutOk, roomSays}
+use Rattle.edits.specs.Steps.{valueOf, cutEnd, cutStart, PlaceOk, SideOk, EditOk, CutOk, roomSays}
 use Rattle.answers.specs.Answers.{Outcome, outcome, given, refused, judged, applies, numberSays}
 use Rattle.blocks.specs.Calls.{stored}
 use Rattle.edits.specs.Calls.{edited, editCall}
-use Rattle.blocks.proofs.Tests.{span, item-in}
+use Rattle.blocks.proofs.Tests.{Span, span, item-in, le-mul}
 
 module _ (s : ℕ) (two : 2 ≤ s) (n : ℕ) (w : List ℕ) where
   abbrev pub es : List Entry
@@ -58,65 +58,103 @@ module _ (s : ℕ) (two : 2 ≤ s) (n : ℕ) (w : List ℕ) where
         from = λ h. let m : j < n = omega (arith, count) in let g = f .from m in rw (item j m) (omega arith);
       }
 
-  module _ (sound : Sound es) (v : List ℕ) where
-    pub left-none : (i a : ℕ) → FirstFrom w s 1 n a i → i ≡ 0 → JoinsLeft zero-item es 0 a a v
-    left-none i a f e = cut-here zero-item es sound 0 a v (rw e at (find-left i a f)) (λ k p. absurd (omega arith))
+-- what becomes of item k, which lies next to a new entry: it stays where it lies apart or has another value, and else it is joined and gives its far end
+pub record Beside (Joins : ℕ → ℕ → Type 0) (w new : List ℕ) (s k near far stays joins end : ℕ) (apart : ℕ → Bool) : Type 0 where
+  pub words : (s * k + 3 + (s - 2) ≤ length w) × (2 + (s - 2) ≤ length new)
+  pub apart-from : {x : ℕ} {t : Bool} → x ≡ getD w (s * k + near) 0 → t ≡ apart x → t ≡ true → Joins stays end
+  pub differs : false ≡ sameWords (take (s - 2) (drop (s * k + 3) w)) (valueOf s new) → Joins stays end
+  pub joined : {x y : ℕ} {t : Bool} → x ≡ getD w (s * k + near) 0 → t ≡ apart x → t ≡ false
+      → true ≡ sameWords (take (s - 2) (drop (s * k + 3) w)) (valueOf s new) → y ≡ getD w (s * k + far) 0 → Joins joins y
 
-    module _ (i a : ℕ) (f : FirstFrom w s 1 n a i) (ne : i ≡ 0 → ⊥) where
-      abbrev k : ℕ
-      k = i - 1
+-- the two sides of a new entry that begins at a and ends at b, where i items begin before it and the first past it is j
+abbrev pub LeftOf : (w new : List ℕ) (s n i a : ℕ) → Type 0
+LeftOf w new s n i a =
+    Beside (λ k lo. JoinsLeft zero-item (itemsOf s n (drop 1 w)) k lo (getD new 0 0) (valueOf s new)) w new s (i - 1) 2 1 i (i - 1) a (λ x. ltb (suc x) a)
 
-      last : (m : ℕ) → suc m ≡ i → getD es m zero-item ≡ itemAt s w k
-      last m p = let q : m ≡ k = omega arith in rw q (item k (omega (arith, f .within)))
+abbrev pub RightOf : (w new : List ℕ) (s n j b : ℕ) → Type 0
+RightOf w new s n j b =
+    Beside (λ k hi. JoinsRight zero-item (itemsOf s n (drop 1 w)) k hi (getD new 1 0) (valueOf s new)) w new s j 1 2 j (j + 1) b (λ x. ltb (suc b) x)
 
-      pub left-apart : (x : ℕ) (t : Bool) → x ≡ getD w (s * (i - 1) + 2) 0 → t ≡ ltb (suc x) a → t ≡ true → JoinsLeft zero-item es i a a v
-      left-apart x t ex et e =
-          cut-here zero-item es sound i a v (find-left i a f)
-          (λ m p q. absurd (let g = ap (λ (x : Entry). x .high) (last m p) in let h = ltb-true (suc x) a (sym et ∙ e) in omega arith))
+module _ {w new : List ℕ} {s n : ℕ} (ok : SideOk w new s n) where
+  abbrev items : List Entry
+  items = itemsOf s n (drop 1 w)
 
-      pub left-differ : false ≡ sameWords (take (s - 2) (drop (s * (i - 1) + 3) w)) v → JoinsLeft zero-item es i a a v
-      left-differ h =
-          cut-here zero-item es sound i a v (find-left i a f)
-          (λ m p q e. words-false (take (s - 2) (drop (s * (i - 1) + 3) w)) v (sym h) (sym (ap (λ (x : Entry). x .value) (last m p)) ∙ e))
+  abbrev value : List ℕ
+  value = valueOf s new
 
-      pub left-join : (x : ℕ) (u : Bool) → x ≡ getD w (s * (i - 1) + 2) 0 → u ≡ ltb (suc x) a → u ≡ false
-          → true ≡ sameWords (take (s - 2) (drop (s * (i - 1) + 3) w)) v → JoinsLeft zero-item es (i - 1) (getD w (s * (i - 1) + 1) 0) a v
-      left-join x u ex eu e t =
-          let g = ltb-false (suc x) a (sym eu ∙ e) in
-          let h : a ≤ suc (getD w (s * (i - 1) + 2) 0) = omega arith in
+  here : (k : ℕ) → k < n → getD items k zero-item ≡ itemAt s w k
+  here k h = item s (ok .two) n w k h
+
+  item-words : (k : ℕ) → k < n → (s * k + 3 + (s - 2) ≤ length w) × (2 + (s - 2) ≤ length new)
+  item-words k h = (omega (arith, item-in s k n h, ok .held, ok .two), omega (arith, ok .whole, ok .two))
+
+  module _ {a i : ℕ} (e : a ≡ getD new 0 0) (f : FirstFrom w s 1 n a i) where
+    found : Left zero-item items i a
+    found = find-left s (ok .two) n w i a f
+
+    pub left-none : i ≡ 0 → JoinsLeft zero-item items 0 a (getD new 0 0) value
+    left-none z = rw (← e) (cut-here zero-item items (ok .sound) 0 a value (rw z at found) (λ k p. absurd (omega arith)))
+
+    pub left-beside : (i ≡ 0 → ⊥) → LeftOf w new s n i a
+    left-beside ne = record {
+      words = item-words k (omega (arith, f .within));
+      apart-from = λ {x} {t} ex et y.
+          rw (← e) (cut-here zero-item items (ok .sound) i a value found
+          (λ m p q. absurd (let g = ap (λ (x : Entry). x .high) (last m p) in let h = ltb-true (suc x) a (sym et ∙ y) in omega arith)));
+      differs = λ h. rw (← e) (cut-here zero-item items (ok .sound) i a value found
+          (λ m p q y. words-false (take (s - 2) (drop (s * k + 3) w)) value (sym h) (sym (ap (λ (x : Entry). x .value) (last m p)) ∙ y)));
+      joined = λ {x} {y} {t} ex et u v l.
+          let g = ltb-false (suc x) a (sym et ∙ u) in
+          let h : a ≤ suc (getD w (s * k + 2) 0) = omega arith in
           let q : i ≡ suc k = omega arith in
-          let m = item k (omega (arith, f .within)) in
-          rw (ap (λ (x : Entry). x .low) m) at
-          (join-before zero-item es sound k a v (rw q at (find-left i a f)) (rw (ap (λ (x : Entry). x .high) m) h)
-          (ap (λ (x : Entry). x .value) m ∙ words-true (take (s - 2) (drop (s * (i - 1) + 3) w)) v (sym t)))
+          let m = here k (omega (arith, f .within)) in
+          rw (← e, l, ← (ap (λ (x : Entry). x .low) m))
+          (join-before zero-item items (ok .sound) k a value (rw q at found) (rw (ap (λ (x : Entry). x .high) m) h)
+          (ap (λ (x : Entry). x .value) m ∙ words-true (take (s - 2) (drop (s * k + 3) w)) value (sym v)));
+    }
+      where
+        k : ℕ
+        k = i - 1
 
-    module _ (j b : ℕ) (f : FirstFrom w s 2 n (b + 1) j) where
-      pub right-none : n ≤ j → JoinsRight zero-item es j b b v
-      right-none h = cut-there zero-item es sound j b v (find-right j b f) (λ p. absurd (omega (arith, count)))
+        last : (m : ℕ) → suc m ≡ i → getD items m zero-item ≡ itemAt s w k
+        last m p = let q : m ≡ k = omega arith in rw q (here k (omega (arith, f .within)))
 
-      module _ (h : j < n) where
-        pub right-apart : (x : ℕ) (t : Bool) → x ≡ getD w (s * j + 1) 0 → t ≡ ltb (suc b) x → t ≡ true → JoinsRight zero-item es j b b v
-        right-apart x t ex et e =
-            cut-there zero-item es sound j b v (find-right j b f)
-            (λ p q. absurd (let m = ap (λ (x : Entry). x .low) (item j h) in let g = ltb-true (suc b) x (sym et ∙ e) in omega arith))
+  module _ {b j : ℕ} (e : b ≡ getD new 1 0) (f : FirstFrom w s 2 n (b + 1) j) where
+    past : Right zero-item items j b
+    past = find-right s (ok .two) n w j b f
 
-        pub right-differ : false ≡ sameWords (take (s - 2) (drop (s * j + 3) w)) v → JoinsRight zero-item es j b b v
-        right-differ g =
-            cut-there zero-item es sound j b v (find-right j b f)
-            (λ p q e. words-false (take (s - 2) (drop (s * j + 3) w)) v (sym g) (sym (ap (λ (x : Entry). x .value) (item j h)) ∙ e))
+    pub right-none : n ≤ j → JoinsRight zero-item items j b (getD new 1 0) value
+    right-none h = rw (← e) (cut-there zero-item items (ok .sound) j b value past (λ p. absurd (omega (arith, count s (ok .two) n w))))
 
-        pub right-join : (x : ℕ) (u : Bool) → x ≡ getD w (s * j + 1) 0 → u ≡ ltb (suc b) x → u ≡ false
-            → true ≡ sameWords (take (s - 2) (drop (s * j + 3) w)) v → JoinsRight zero-item es (j + 1) (getD w (s * j + 2) 0) b v
-        right-join x u ex eu e t =
-            let y = ltb-false (suc b) x (sym eu ∙ e) in
-            let g : getD w (s * j + 1) 0 ≤ suc b = omega arith in
-            let m = item j h in
-            let q : suc j ≡ j + 1 = omega arith in
-            rw (ap (λ (x : Entry). x .high) m, q) at
-            (join-after zero-item es sound j b v (find-right j b f) (omega (arith, count)) (rw (ap (λ (x : Entry). x .low) m) g)
-            (ap (λ (x : Entry). x .value) m ∙ words-true (take (s - 2) (drop (s * j + 3) w)) v (sym t)))
+    pub right-beside : j < n → RightOf w new s n j b
+    right-beside h = record {
+      words = item-words j h;
+      apart-from = λ {x} {t} ex et y.
+          rw (← e) (cut-there zero-item items (ok .sound) j b value past
+          (λ p q. absurd (let m = ap (λ (x : Entry). x .low) (here j h) in let g = ltb-true (suc b) x (sym et ∙ y) in omega arith)));
+      differs = λ g. rw (← e) (cut-there zero-item items (ok .sound) j b value past
+          (λ p q y. words-false (take (s - 2) (drop (s * j + 3) w)) value (sym g) (sym (ap (λ (x : Entry). x .value) (here j h)) ∙ y)));
+      joined = λ {x} {y} {t} ex et u v l.
+          let z = ltb-false (suc b) x (sym et ∙ u) in
+          let g : getD w (s * j + 1) 0 ≤ suc b = omega arith in
+          let m = here j h in
+          let q : suc j ≡ j + 1 = omega arith in
+          rw (← e, l, ← (ap (λ (x : Entry). x .high) m), ← q)
+          (join-after zero-item items (ok .sound) j b value past (omega (arith, count s (ok .two) n w)) (rw (ap (λ (x : Entry). x .low) m) g)
+          (ap (λ (x : Entry). x .value) m ∙ words-true (take (s - 2) (drop (s * j + 3) w)) value (sym v)));
+    }
 
 -- the law of `place`
+-- the words of its parts: they stand in the block, before and after
+module _ {w new : List ℕ} {s n i j c hi : ℕ} (ok : PlaceOk w new s n i j c hi) where
+  sizes : Span s n i j c
+  sizes = span s n i j c (ok .two) (ok .i-le) (ok .j-le)
+
+  pub parts : (i + c + (n - j) ≤ length w) × (s * j ≤ s * n) × (s * n + 1 ≤ length w) × (s * n + 1 + (s * i + 1) + length new ≤ length w + (s * j + 1))
+  parts =
+      let k = sizes in
+      (omega (arith, ok .room), k .sj, omega (arith, ok .held), omega (arith, ok .room, ok .whole))
+
 cut-length : (s i lo : ℕ) (w : List ℕ) → length (cutEnd s i lo w) ≡ length w
 cut-length s zero lo w = refl
 cut-length s (suc i) lo w =
@@ -135,7 +173,7 @@ module _ {w new w1 : List ℕ} {s n i j c hi mm : ℕ} (ok : PlaceOk w new s n i
     (sp : (length w1 ≡ length w) × Spliced w new (s * i + 1) (s * j + 1) (s * n + 1) mm w1) where
   pub cut-ok : (w2 : List ℕ) → w2 ≡ cutEnd s i lo w1 → CutOk s (i + c) m hi w2
   cut-ok w2 e =
-      let g = span s n i j c (ok .two) (ok .i-le) (ok .j-le) in
+      let g = sizes ok in
       record {
         two = ok .two;
         held = omega (arith, ap length e, cut-length s i lo w1, sp .0, ok .room, g .all, ap (λ (x : ℕ). s * x) em);
@@ -154,22 +192,12 @@ module _ {w new w1 : List ℕ} {s n i j c hi mm : ℕ} (ok : PlaceOk w new s n i
       f ∙ ap (cutStart s (i + c) m hi) e
       ∙ placed s (length w) i c m lo hi (take i (itemsOf s n (drop 1 w))) (itemsOf s c new) (drop j (itemsOf s n (drop 1 w))) w1
       (rw (items-take s (ok .two) n i (drop 1 w) (ok .i-le))
-      (items-shaped s (ok .two) i (drop 1 w) (omega (arith, length-drop 1 w, (span s n i j c (ok .two) (ok .i-le) (ok .j-le)) .si, ok .held))))
+      (items-shaped s (ok .two) i (drop 1 w) (omega (arith, length-drop 1 w, (sizes ok) .si, ok .held))))
       (items-shaped s (ok .two) c new (omega (arith, ok .whole)))
       (omega (arith, length-take i (itemsOf s n (drop 1 w)), items-length s n (drop 1 w), ok .i-le))
       (items-length s c new)
       (em ∙ sym (entries-count s (ok .two) w new n i j c (ok .held) (ok .i-le) (ok .j-le) (ok .whole)))
       (splice-entries s (ok .two) w new n i j c (ok .held) (ok .i-le) (ok .j-le) (ok .whole) w1 mm (mme ∙ em) (ok .room) (sp .0) (sp .1))
-
--- the sides at the numbers that the code holds
-pub to-left : {es : List Entry} {i lo lo' a a' : ℕ} {v : List ℕ} → lo ≡ lo' → a ≡ a' → JoinsLeft zero-item es i lo a v → JoinsLeft zero-item es i lo' a' v
-to-left {es} {i} {lo} {lo'} {a} {a'} {v} e f j =
-    mathlib.Core.Path.subst (λ (x : ℕ). JoinsLeft zero-item es i lo' x v) f (mathlib.Core.Path.subst (λ (x : ℕ). JoinsLeft zero-item es i x a v) e j)
-
-pub to-right : {es : List Entry} {i lo lo' a a' : ℕ} {v : List ℕ} → lo ≡ lo' → a ≡ a' → JoinsRight zero-item es i lo a v → JoinsRight zero-item es i lo' a' v
-to-right {es} {i} {lo} {lo'} {a} {a'} {v} e f j =
-    mathlib.Core.Path.subst (λ (x : ℕ). JoinsRight zero-item es i lo' x v) f
-    (mathlib.Core.Path.subst (λ (x : ℕ). JoinsRight zero-item es i x a v) e j)
 
 pub two-set : (l : List ℕ) (a b : ℕ) → 2 ≤ length l → set (set l 0 a) 1 b ≡ a ∷ b ∷ drop 2 l
 two-set [] a b h = absurd (omega arith)
@@ -221,9 +249,14 @@ module _ {w : List ℕ} {l : Layout} {n : ℕ} (ok : EditOk w l n) where
   high-of : (j hi : ℕ) → Right zero-item list j hi → j < n → hi < getD w (s * j + 2) 0
   high-of j hi r h = let g = r .from (omega (arith, list-count)) in let m = ap (λ (x : Entry). x .high) (entry-at s (ok .two) n j w zero-item h) in omega arith
 
-  module _ (v : List ℕ) (a b i j lo hi : ℕ) (ab : a ≤ b) (p : JoinsLeft zero-item list i lo a v) (q : JoinsRight zero-item list j hi b v) where
+  module _ {v : List ℕ} {a b i j lo hi : ℕ} (ab : a ≤ b) (p : JoinsLeft zero-item list i lo a v) (q : JoinsRight zero-item list j hi b v) where
     abbrev result : List Entry
     result = trimEnd lo (take i list) ++ (entry lo hi v ∷ trimStart hi (drop j list))
+
+    -- both sides stand among the items, and those are fewer than the words of the block
+    pub among : (i ≤ n) × (j ≤ n) × (2 * n < length w)
+    among =
+        (omega (arith, p .left .within, list-count), omega (arith, q .right .within, list-count), omega (arith, held, le-mul s n (ok .two)))
 
     put-result : put (entriesOf s w) a b (some v) ≡ result
     put-result = ap (λ (es : List Entry). put es a b (some v)) (sym same-list)
@@ -242,7 +275,7 @@ module _ {w : List ℕ} {l : Layout} {n : ℕ} (ok : EditOk w l n) where
           p .left .within,
         )
 
-    module _ (cap : ℕ) (g : cap ≡ capacity l (length w)) where
+    module _ {cap : ℕ} (g : cap ≡ capacity l (length w)) where
       pub put-no : cap < i + 1 + (n - j) → outcome (roomSays false) (w ∷ []) ≡ stored 0 l w (edited l w a b (some v))
       put-no h = answer-no _ result cap (i + 1 + (n - j)) put-result result-count g h
 
@@ -250,24 +283,22 @@ module _ {w : List ℕ} {l : Layout} {n : ℕ} (ok : EditOk w l n) where
           → outcome (roomSays true) (w' ∷ []) ≡ stored 0 l w (edited l w a b (some v))
       put-yes w' h e = answer-yes _ result cap (i + 1 + (n - j)) w' put-result result-count g h e
 
-      pub put-done : (new new' w' : List ℕ) → v ≡ take (s - 2) (drop 2 new) → new' ≡ lo ∷ hi ∷ drop 2 new → i + 1 + (n - j) ≤ cap
+      pub put-done : (new : List ℕ) {new' w' : List ℕ} → v ≡ valueOf s new → new' ≡ lo ∷ hi ∷ drop 2 new → i + 1 + (n - j) ≤ cap
           → w' ≡ blockOf (length w) (trimEnd lo (take i list) ++ (itemsOf s 1 new' ++ trimStart hi (drop j list)))
           → outcome (roomSays true) (w' ∷ []) ≡ stored 0 l w (edited l w a b (some v))
-      put-done new new' w' ve e h b =
+      put-done new {w' = w'} ve e h b =
           put-yes w' h (b ∙ ap (λ (x : List ℕ). blockOf (length w) (trimEnd lo (take i list) ++ (itemsOf s 1 x ++ trimStart hi (drop j list)))) e
           ∙ ap (λ (x : List ℕ). blockOf (length w) (trimEnd lo (take i list) ++ (entry lo hi x ∷ trimStart hi (drop j list)))) (sym ve))
 
       pub put-ok : (new : List ℕ) → length new ≡ s → i + 1 + (n - j) ≤ cap → PlaceOk w new s n i j 1 hi
       put-ok new e h =
-          let hi' : i ≤ n = omega (arith, p .left .within, list-count) in
-          let hj' : j ≤ n = omega (arith, q .right .within, list-count) in
           record {
             two = ok .two;
             held = held;
-            i-le = hi';
-            j-le = hj';
+            i-le = among .0;
+            j-le = among .1;
             whole = omega (arith, mul-one s);
-            room = room-of i j 1 cap hi' hj' g h;
+            room = room-of i j 1 cap (among .0) (among .1) g h;
             from =
                 high-of j hi (q .right);
           }
@@ -314,6 +345,10 @@ module _ {w : List ℕ} {l : Layout} {n : ℕ} (ok : EditOk w l n) where
             from = high-of j b (find-right s (ok .two) n w j b h);
           }
 
+-- a block that was judged sound
+pub edit-ok : {l : Layout} {w : List ℕ} {v n : ℕ} → v ≡ verdict l w → v ≡ 0 → 2 ≤ l .width → n ≡ getD w 0 0 → EditOk w l n
+edit-ok {l} {w} e z two c = record { two = two; block = verdict-sound l w (sym e ∙ z); count = c }
+
 -- the call, by the tests of the code
 module _ (l : Layout) (w : List ℕ) (a b : ℕ) (o : Option (List ℕ)) (v : ℕ) (e : v ≡ verdict l w) where
   abbrev kept : Outcome
@@ -334,18 +369,12 @@ module _ (l : Layout) (w : List ℕ) (a b : ℕ) (o : Option (List ℕ)) (v : �
       go (suc k) m = refl
 
   module _ (z : v ≡ 0) where
-    pub edit-ok : (n : ℕ) → 2 ≤ l .width → n ≡ getD w 0 0 → EditOk w l n
-    edit-ok n two c = record { two = two; block = verdict-sound l w (sym e ∙ z); count = c }
+    pub edit-backwards : {x y : ℕ} → x ≡ b → y ≡ a → x < y → outcome (numberSays 4 0) (w ∷ []) ≡ editCall l w a b o
+    edit-backwards p q h = let k : b < a = omega arith in by-verdict (outcome (refused 4 0) (w ∷ [])) (rw (z, lt-ltb b a k))
 
-    pub edit-backwards : (x y : ℕ) → x ≡ b → y ≡ a → x < y → outcome (numberSays 4 0) (w ∷ []) ≡ editCall l w a b o
-    edit-backwards x y p q h = let k : b < a = omega arith in by-verdict (outcome (refused 4 0) (w ∷ [])) (rw (z, lt-ltb b a k))
-
-    module _ (x y : ℕ) (p : x ≡ b) (q : y ≡ a) (h : y ≤ x) (t : Bool) (w' : List ℕ) (k : outcome (roomSays t) (w' ∷ []) ≡ kept) where
-      in-order : kept ≡ judged v 0 (w ∷ []) ordered
-      in-order = let m : a ≤ b = omega arith in rw (z, le-ltb b a m)
-
-      pub edit-done : t ≡ true → outcome (numberSays 0 0) (w' ∷ []) ≡ editCall l w a b o
-      edit-done f = by-verdict (outcome (given []) (w' ∷ [])) (ap (λ (u : Bool). outcome (roomSays u) (w' ∷ [])) (sym f) ∙ k ∙ in-order)
-
-      pub edit-full : t ≡ false → outcome (numberSays 5 0) (w' ∷ []) ≡ editCall l w a b o
-      edit-full f = by-verdict (outcome (refused 5 0) (w' ∷ [])) (ap (λ (u : Bool). outcome (roomSays u) (w' ∷ [])) (sym f) ∙ k ∙ in-order)
+    -- stored, or refused for want of room
+    pub edit-kept : {x y : ℕ} → x ≡ b → y ≡ a → y ≤ x → {t : Bool} {w' : List ℕ} → outcome (roomSays t) (w' ∷ []) ≡ kept → {u : Bool} → t ≡ u
+        → outcome (roomSays u) (w' ∷ []) ≡ editCall l w a b o
+    edit-kept p q h {t} {w'} k {u} f =
+        let m : a ≤ b = omega arith in
+        by-verdict (outcome (roomSays u) (w' ∷ [])) (ap (λ (u : Bool). outcome (roomSays u) (w' ∷ [])) (sym f) ∙ k ∙ rw (z, le-ltb b a m))

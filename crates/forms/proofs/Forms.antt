@@ -11,7 +11,7 @@ use borrow.Author.Tests.{ltb-false, le-ltb, ne-eqb}
 use Rattle.entries.specs.Entries.{Entry, Each}
 use Rattle.entries.specs.Build.{pick}
 use Rattle.answers.specs.Answers.{outcome, given, inTurn, applies, Clear}
-use Rattle.answers.proofs.Turns.{turn-accepted, clear-turn, applies-clear}
+use Rattle.answers.proofs.Turns.{turn-accepted, clear-turn, clear-both, clear-split, applies-clear}
 use Rattle.blocks.specs.Calls.{noBlock}
 use Rattle.blocks.specs.Blocks.{Shaped}
 use Rattle.blocks.specs.declared.Layout.{Layout}
@@ -21,7 +21,6 @@ use Rattle.blocks.proofs.Judging.{verdict-sound, room-words}
 use Rattle.blocks.proofs.Refusing.{some-words, room-fits}
 use Rattle.numbers.specs.Numbers.{Bytes, over, patch}
 use Rattle.runs.specs.Runs.{lengths, Fine}
-use Rattle.runs.proofs.Running.{clear-split, clear-join}
 use Rattle.runs.proofs.Several.{shapes}
 use Rattle.verdicts.specs.declared.Form.{Form}
 use Rattle.verdicts.specs.Forms.{formOf, sizeOf, formEntries, sharing, overlap, formRefusals, noBlocks, noRooms, outRefusals, Formed}
@@ -131,7 +130,7 @@ module _ (f : Form) (k : FormKind f) where
       let u = space-there p (length b) (length bytes) (omega arith) (omega arith) in
       ap (λ (x : List ℕ). inTurn (writeRefusals f ws (length x) (length bytes) p) (bytes ∷ []) (writtenAt p x bytes)) form
       ∙ clear-turn (writeRefusals f ws (length b) (length bytes) p) (bytes ∷ []) (writtenAt p b bytes)
-      (clear-join (blockRefusals f ws) _ (clear-join (inputs (f .layout) 0 ws) (overlap (heldIn (f .layout) ws) ∷ []) v (o, tt)) (u, tt))
+      (clear-both (blockRefusals f ws) _ (clear-both (inputs (f .layout) 0 ws) (overlap (heldIn (f .layout) ws) ∷ []) v (o, tt)) (u, tt))
 
   -- what was written, read into enough words, gives the same words, and 0 to the end
   pub written-read : (ws : List (List ℕ)) (bytes bytes' : List ℕ) (outs : List (List ℕ)) (p n : ℕ) → length ws ≡ f .runs
@@ -162,4 +161,4 @@ module _ (f : Form) (k : FormKind f) where
       ∙ ap (λ (y : List (List Entry)). inTurn (formRefusals f g ++ outRefusals (f .layout) (lengths outs) (lengths y)) outs
       (outcome (given []) (storedIn outs y))) q
       ∙ clear-turn (formRefusals f g ++ outRefusals (f .layout) (lengths outs) (lengths es)) outs (outcome (given []) (storedIn outs es))
-      (clear-join (formRefusals f g) (outRefusals (f .layout) (lengths outs) (lengths es)) v c)
+      (clear-both (formRefusals f g) (outRefusals (f .layout) (lengths outs) (lengths es)) v c)

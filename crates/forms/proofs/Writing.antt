@@ -16,7 +16,7 @@ use Rattle.answers.specs.Says.{writtenSays, refusalOf}
 use Rattle.answers.specs.declared.Finding.{Finding}
 use Rattle.answers.specs.declared.Refusal.{Refusal}
 use Rattle.answers.specs.declared.Written.the-variants as written
-use Rattle.answers.proofs.Turns.{refusal-by, stops, passes, ends, stops-in, passes-in, given-by, applies-small}
+use Rattle.answers.proofs.Turns.{refusal-by, stops, passes, ends, stops-in, passes-in, given-by, applies-small, clear-split}
 use Rattle.blocks.specs.Blocks.{setLayout, entriesOf, itemsOf, verdict, SoundBlock, Shaped}
 use Rattle.blocks.specs.declared.Layout.{Layout}
 use Rattle.blocks.proofs.Words.{items-shaped, items-length}
@@ -28,7 +28,7 @@ use Rattle.records.specs.Reads.{countsOf}
 use Rattle.records.proofs.Items.{counts-length}
 use Rattle.runs.specs.Runs.{runOf, total, lengths, runsOf}
 use Rattle.runs.proofs.Turns.{length-record}
-use Rattle.runs.proofs.Running.{length-run, clear-split}
+use Rattle.runs.proofs.Running.{length-run}
 use Rattle.verdicts.specs.declared.Form.{Form}
 use Rattle.verdicts.specs.Forms.{formOf, startSize, overlap}
 use Rattle.forms.specs.Calls.{heldIn, inputs, noSpace, blockRefusals, writtenAt, writeCall}

@@ -13,7 +13,6 @@ use Rattle.entries.specs.Entries.{Entry}
 use Rattle.entries.specs.Build.{andb}
 use Rattle.entries.proofs.Values.{and-true}
 use Rattle.answers.specs.Answers.{Clear}
-use Rattle.answers.specs.declared.Finding.{Finding}
 use Rattle.blocks.specs.Blocks.{linkb, soundb, wordsOf, Lent, Shaped}
 use Rattle.blocks.proofs.Words.{lent-cons, lent-append}
 use Rattle.numbers.specs.Numbers.{Bytes, num8, wordsIn, wordBytes}
@@ -53,15 +52,6 @@ and-in t u p q = rw (p, q)
 
 pub bytes-drop : (k : ℕ) (b : List ℕ) → Bytes b → Bytes (drop k b)
 bytes-drop k b y i = rw (getD-drop k b i 0) (y (k + i))
-
--- none of two runs of tests applies
-pub clear-split : (fs gs : List Finding) → Clear (fs ++ gs) → Clear fs × Clear gs
-clear-split [] gs c = (tt, c)
-clear-split (f ∷ fs) gs c = let k = clear-split fs gs (c .1) in ((c .0, k .0), k .1)
-
-pub clear-join : (fs gs : List Finding) → Clear fs → Clear gs → Clear (fs ++ gs)
-clear-join [] gs c d = d
-clear-join (f ∷ fs) gs c d = (c .0, clear-join fs gs (c .1) d)
 
 pub length-entries : (kind s n : ℕ) (b : List ℕ) → length (entriesIn kind s n b) ≡ n
 unfolding entriesIn

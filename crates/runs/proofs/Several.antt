@@ -18,8 +18,9 @@ use Rattle.blocks.proofs.Judging.{sound-true, true-sound}
 use Rattle.numbers.specs.Numbers.{Bytes}
 use Rattle.records.specs.Records.{allWithin}
 use Rattle.records.specs.Steps.{ItemKind}
+use Rattle.answers.proofs.Turns.{clear-both, clear-split}
 use Rattle.runs.specs.Runs.{Fine, runOf, entriesIn, runRefusals, total, lengths, runsOf, runsIn, runsRefusals}
-use Rattle.runs.proofs.Running.{clear-split, clear-join, bytes-drop, length-entries, entries-shaped, entries-lent, run-inv, run-accept}
+use Rattle.runs.proofs.Running.{bytes-drop, length-entries, entries-shaped, entries-lent, run-inv, run-accept}
 use Rattle.runs.proofs.Running.{run-back, length-run}
 
 pub shapes : (s limit : ℕ) (runs : List (List Entry)) → Each (Fine s limit) runs → Each (Shaped s) runs
@@ -128,7 +129,7 @@ module _ (mark s : ℕ) where
         let d = runs-accept limit ks runs (omega arith) (i .1) (h .1) (p + step * n) in
         subst (λ (y : List ℕ). Clear (runRefusals mark k s n p none y ++ runsRefusals mark s (p + step * n) ks (lengths runs) (drop (step * n) y)))
         (sym (taken k ks es runs (i .0) (f .shaped)))
-        (clear-join (runRefusals mark k s n p none y) (runsRefusals mark s (p + step * n) ks (lengths runs) (drop (step * n) y)) c
+        (clear-both (runRefusals mark k s n p none y) (runsRefusals mark s (p + step * n) ks (lengths runs) (drop (step * n) y)) c
         (subst (λ (y : List ℕ). Clear (runsRefusals mark s (p + step * n) ks (lengths runs) y)) (sym (behind k ks es runs (i .0) (f .shaped))) d))
 
   pub length-runs : (kinds : List ℕ) (runs : List (List Entry)) → length runs ≡ length kinds → Each (λ k. ItemKind k s) kinds → Each (Shaped s) runs

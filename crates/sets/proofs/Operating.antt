@@ -17,12 +17,13 @@ use Rattle.entries.proofs.Limits.{union-bound, difference-bound, symmetric-boun
 use Rattle.entries.proofs.Sets.{intersection-is}
 use Rattle.entries.proofs.Questions.{none-empty}
 use Rattle.sweeps.specs.Sweeps.{result, Bounded, inEither, inBoth, firstAlone, justOne, notFirst}
-use Rattle.sweeps.proofs.Tables.{union-table, intersection-table, difference-table, symmetric-table, complement-table, fit-set}
-use Rattle.operations.proofs.Making.{set-small}
+use Rattle.sweeps.proofs.Tables.{union-table, intersection-table, difference-table, symmetric-table, complement-table, fit-set, bounded}
+use Rattle.operations.specs.Calls.{fromTwo}
+use Rattle.operations.proofs.Making.{set-small, two-as}
 use Rattle.operations.specs.Steps.{TwoFit, OneFit}
 use Rattle.answers.specs.Says.{refusalSays, refusalOf}
 use Rattle.answers.proofs.Numbers.{refused-as, given-as}
-use Rattle.blocks.specs.Blocks.{entriesOf, verdict, setLayout}
+use Rattle.blocks.specs.Blocks.{entriesOf, verdict, setLayout, Lent}
 use Rattle.blocks.proofs.Judging.{verdict-small}
 use Rattle.sets.specs.Calls.{askedTwo}
 use Rattle.entries.proofs.Values.{true≢false}
@@ -104,6 +105,15 @@ module _ (w v : List ℕ) (answer : List Entry → List Entry → Answer) (k : �
     pub give-two : (a : Answer) → l ≡ 0 → a ≡ answer (entriesOf 2 w) (entriesOf 2 v) → outcome a [] ≡ askedTwo w v answer
     give-two a y q = given-as [] 0 _ _ k (verdict setLayout w) e z (given-as [] 1 _ _ l (verdict setLayout v) g y (ap (λ (b : Answer). outcome b []) q))
 
-pub two-same : (w v : List ℕ) (answer by : List Entry → List Entry → Answer)
-    → answer (entriesOf 2 w) (entriesOf 2 v) ≡ by (entriesOf 2 w) (entriesOf 2 v) → askedTwo w v answer ≡ askedTwo w v by
-two-same w v answer by e = ap (λ (a : Answer). judgedBy (verdict setLayout w) 0 [] (judgedBy (verdict setLayout v) 1 [] (outcome a []))) e
+-- what a table makes of two sets is what its operation makes: the call that stores it, and the question whether it is empty
+module _ (t : ℕ) {op : List Entry → List Entry → List Entry} (table : (es fs : List Entry) → Bounded es → Bounded fs → result t 2 es fs [] ≡ op es fs)
+    (w v : List ℕ) (lent : Lent w) (lent' : Lent v) where
+  pub made-as : (o : List ℕ) → fromTwo setLayout setLayout setLayout (λ es fs. result t 2 es fs []) w v o ≡ fromTwo setLayout setLayout setLayout op w v o
+  made-as o =
+      two-as setLayout setLayout setLayout (λ es fs. result t 2 es fs []) op w v o
+      (λ p q. table (entriesOf 2 w) (entriesOf 2 v) (bounded 2 w lent) (bounded 2 v lent'))
+
+  pub asked-as : askedTwo w v (λ es fs. truth (isEmpty (result t 2 es fs []))) ≡ askedTwo w v (λ es fs. truth (isEmpty (op es fs)))
+  asked-as =
+      ap (λ (l : List Entry). judgedBy (verdict setLayout w) 0 [] (judgedBy (verdict setLayout v) 1 [] (outcome (truth (isEmpty l)) [])))
+      (table (entriesOf 2 w) (entriesOf 2 v) (bounded 2 w lent) (bounded 2 v lent'))

@@ -9,7 +9,7 @@ use lib.ListN.{length, take, drop, length-append, length-drop, drop-of-length-le
 use borrow.Author.Tests.{ltb-false, le-ltb}
 use Rattle.entries.specs.Entries.{Entry, Each}
 use Rattle.answers.specs.Answers.{applies, Clear}
-use Rattle.answers.proofs.Turns.{applies-clear}
+use Rattle.answers.proofs.Turns.{applies-clear, clear-both, clear-split}
 use Rattle.blocks.specs.Blocks.{Shaped}
 use Rattle.blocks.specs.declared.Layout.{Layout}
 use Rattle.numbers.specs.Numbers.{Bytes, countsIn, countBytes}
@@ -20,7 +20,7 @@ use Rattle.records.proofs.Heads.{Whole, record-inv, record-zero}
 use Rattle.records.proofs.Accepted.{start-bytes, record-whole, rest-laid, counts-back-in}
 use Rattle.runs.specs.Runs.{total, lengths, runsOf, runsIn, runsRefusals, Fine}
 use Rattle.runs.proofs.Turns.{length-record}
-use Rattle.runs.proofs.Running.{clear-split, clear-join, bytes-drop}
+use Rattle.runs.proofs.Running.{bytes-drop}
 use Rattle.runs.proofs.Several.{many-lengths, all-within, runs-inv, counts-in, runs-fine, runs-lent, runs-back, runs-accept, length-runs}
 use Rattle.verdicts.specs.declared.Form.{Form}
 use Rattle.verdicts.specs.Forms.{ofSet, ofMap, ofBulletin, kindsOf, formOf, startSize, sizeOf, formCounts, formEntries, sharing, trailing}
@@ -171,6 +171,6 @@ module _ (f : Form) (k : FormKind f) where
         (subst (λ (x : List ℕ). Clear (runsRefusals (f .mark) s (startSize f) (kindsOf f) (lengths runs) x)) (sym dropped)
         (runs-accept (f .mark) s [] (f .layout .limit) (kindsOf f) runs as-kinds kinds d (startSize f))) in (
           record-zero (f .mark) (f .start) b (allWithin (f .layout .limit) ns) (2 * f .runs) (k .start .body) start-whole c,
-          clear-join (runsRefusals (f .mark) s (startSize f) (kindsOf f) ns (drop (startSize f) b)) (trailing (sizeOf f ns) b ∷ overlap
+          clear-both (runsRefusals (f .mark) s (startSize f) (kindsOf f) ns (drop (startSize f) b)) (trailing (sizeOf f ns) b ∷ overlap
               (formEntries f b) ∷ []) r (e, (g, tt)),
         )

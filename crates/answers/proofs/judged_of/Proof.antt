@@ -5,14 +5,9 @@ use borrow.Author.Needs.{needs}
 use Rattle.answers.proofs.judged_of.Statement.{statement}
 use Rattle.answers.proofs.judged_of.Tie as tie
 
-returns : tie.Need-returns
-returns c = search needs
-
-refusal-of-requires : tie.Need-refusal-of-requires
-refusal-of-requires c κs = search needs
-
 returns-2 : tie.Need-returns-2
 returns-2 c = ap judged.Refused (c .refusal-of .ensures) ∙ judged-refused _ _ (c .before .if1 .left)
 
 pub judged-of-spec : {M : Type 1} → statement M
-judged-of-spec = tie.close (tie.spec returns refusal-of-requires returns-2)
+judged-of-spec =
+    tie.close (tie.spec (λ c. search needs) (λ c κs. search needs) returns-2)

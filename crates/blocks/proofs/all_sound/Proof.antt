@@ -18,11 +18,6 @@ returns c =
     let start = c .before .before .before in
     c .items-sound .ensures ∙ ap (λ (s : ℕ). soundb (itemsOf s (start .args .n) (drop 1 (now (start .args .block))))) (sym (c .before .if1 .taken))
 
-items-sound-requires-2 : tie.Need-items-sound-requires-2
-items-sound-requires-2 c κs = search needs
-
-returns-2 : tie.Need-returns-2
-returns-2 c = search needs
-
 pub all-sound-spec : {M : Type 1} → statement M
-all-sound-spec = tie.close (tie.spec items-sound-requires returns items-sound-requires-2 returns-2)
+all-sound-spec =
+    tie.close (tie.spec items-sound-requires returns (λ c κs. search needs) (λ c. search needs))

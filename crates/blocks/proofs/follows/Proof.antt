@@ -8,15 +8,6 @@ use borrow.Author.Needs.{needs}
 use Rattle.blocks.proofs.follows.Statement.{statement}
 use Rattle.blocks.proofs.follows.Tie as tie
 
-word-requires : tie.Need-word-requires
-word-requires c κs = search needs
-
-add-word : tie.Need-add-word
-add-word c = search needs
-
-word-requires-2 : tie.Need-word-requires-2
-word-requires-2 c κs = search needs
-
 returns : tie.Need-returns
 returns c =
     let start = c .before .before .before .before in
@@ -24,12 +15,6 @@ returns c =
     let e = itemFrom (start .args .s) w (start .args .p) in
     let f = itemFrom (start .args .s) w (start .args .p + start .args .s) in
     backwards e f (omega arith)
-
-add-word-2 : tie.Need-add-word-2
-add-word-2 c = search needs
-
-word-requires-3 : tie.Need-word-requires-3
-word-requires-3 c κs = search needs
 
 returns-2 : tie.Need-returns-2
 returns-2 c =
@@ -39,9 +24,6 @@ returns-2 c =
     let f = itemFrom (start .args .s) w (start .args .p + start .args .s) in
     overlaps e f (omega arith) (omega arith)
 
-sub-if3 : tie.Need-sub-if3
-sub-if3 c = search needs
-
 returns-3 : tie.Need-returns-3
 returns-3 c =
     let start = c .before .before .before .before .before .before .before in
@@ -49,21 +31,6 @@ returns-3 c =
     let e = itemFrom (start .args .s) w (start .args .p) in
     let f = itemFrom (start .args .s) w (start .args .p + start .args .s) in
     apart e f (omega arith) (omega arith) (omega arith)
-
-add-same-words : tie.Need-add-same-words
-add-same-words c = search needs
-
-add-same-words-2 : tie.Need-add-same-words-2
-add-same-words-2 c = search needs
-
-add-same-words-3 : tie.Need-add-same-words-3
-add-same-words-3 c = search needs
-
-sub-same-words : tie.Need-sub-same-words
-sub-same-words c = search needs
-
-same-words-requires : tie.Need-same-words-requires
-same-words-requires c κs = search needs
 
 returns-4 : tie.Need-returns-4
 returns-4 c =
@@ -85,21 +52,6 @@ returns-5 c =
 
 pub follows-spec : {M : Type 1} → statement M
 follows-spec =
-    tie.close
-    (tie.spec
-    word-requires
-    add-word
-    word-requires-2
-    returns
-    add-word-2
-    word-requires-3
-    returns-2
-    sub-if3
-    returns-3
-    add-same-words
-    add-same-words-2
-    add-same-words-3
-    sub-same-words
-    same-words-requires
-    returns-4
-    returns-5)
+    tie.close (tie.spec (λ c κs. search needs) (λ c. search needs) (λ c κs. search needs) returns (λ c. search needs) (λ c κs. search needs)
+    returns-2 (λ c. search needs) returns-3 (λ c. search needs) (λ c. search needs) (λ c. search needs) (λ c. search needs) (λ c κs. search needs)
+    returns-4 returns-5)

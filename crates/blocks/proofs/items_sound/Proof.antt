@@ -30,12 +30,6 @@ add-p c =
     let start = at-loop .before .before in
     let l = at-loop .loop in omega (arith, some-left (start .args .s) (l .left) 1 (omega arith))
 
-sub-left : tie.Need-sub-left Inv-loop μ-loop
-sub-left c = search needs
-
-loop-less : tie.Need-loop-less Inv-loop μ-loop
-loop-less c = search needs
-
 loop-again : tie.Need-loop-again Inv-loop μ-loop
 loop-again c =
     let at-follows = c .before in
@@ -94,19 +88,5 @@ returns-3 c =
 
 pub items-sound-spec : {M : Type 1} → statement M
 items-sound-spec =
-    tie.close
-    (tie.spec
-    Inv-loop
-    μ-loop
-    loop-holds
-    follows-requires
-    add-p
-    sub-left
-    loop-less
-    loop-again
-    returns
-    returns-2
-    word-requires
-    add-word
-    word-requires-2
-    returns-3)
+    tie.close (tie.spec Inv-loop μ-loop loop-holds follows-requires add-p (λ c. search needs) (λ c. search needs) loop-again returns returns-2
+    word-requires add-word word-requires-2 returns-3)

@@ -8,21 +8,12 @@ use borrow.Author.Needs.{needs}
 use Rattle.blocks.proofs.judge_two.Statement.{statement}
 use Rattle.blocks.proofs.judge_two.Tie as tie
 
-judge-requires : tie.Need-judge-requires
-judge-requires c κs = search needs
-
 returns : tie.Need-returns
 returns c =
     let at-judge = c .before in
     let start = at-judge .before .before .before in
     stops (at-judge .judge .result) (verdict (start .args .first) (now (start .args .a))) (start .args .position) _ (at-judge .judge .ensures)
     (verdict-small (start .args .first) (now (start .args .a))) (c .if1 .taken)
-
-judge-requires-2 : tie.Need-judge-requires-2
-judge-requires-2 c κs = search needs
-
-add-t9 : tie.Need-add-t9
-add-t9 c = search needs
 
 returns-2 : tie.Need-returns-2
 returns-2 c =
@@ -34,4 +25,5 @@ returns-2 c =
     (verdict-small (start .args .second) (now (start .args .b))))
 
 pub judge-two-spec : {M : Type 1} → statement M
-judge-two-spec = tie.close (tie.spec judge-requires returns judge-requires-2 add-t9 returns-2)
+judge-two-spec =
+    tie.close (tie.spec (λ c κs. search needs) returns (λ c κs. search needs) (λ c. search needs) returns-2)

@@ -19,27 +19,6 @@ abbrev μ-loop : tie.MeasureT-loop
 loop-holds : tie.Need-loop-holds Inv-loop μ-loop
 loop-holds c = (search needs, copied-none _ _ _ _ 0)
 
-mul-block : tie.Need-mul-block Inv-loop μ-loop
-mul-block c = search needs
-
-shared-slice-read-block : tie.Need-shared-slice-read-block Inv-loop μ-loop
-shared-slice-read-block c = search needs
-
-add-block : tie.Need-add-block Inv-loop μ-loop
-add-block c = search needs
-
-mul-block-2 : tie.Need-mul-block-2 Inv-loop μ-loop
-mul-block-2 c = search needs
-
-slice-write-block : tie.Need-slice-write-block Inv-loop μ-loop
-slice-write-block c = search needs
-
-add-k : tie.Need-add-k Inv-loop μ-loop
-add-k c = search needs
-
-loop-less : tie.Need-loop-less Inv-loop μ-loop
-loop-less c = search needs
-
 loop-again : tie.Need-loop-again Inv-loop μ-loop
 loop-again c =
     let at-loop = c .before .before in (
@@ -56,18 +35,5 @@ returns c = let e : c .before .loop .k ≡ length (c .before .before .args .new 
 
 pub paste-spec : {M : Type 1} → statement M
 paste-spec =
-    tie.close
-    (tie.spec
-    Inv-loop
-    μ-loop
-    loop-holds
-    mul-block
-    shared-slice-read-block
-    add-block
-    mul-block-2
-    slice-write-block
-    add-k
-    loop-less
-    loop-again
-    same-length
-    returns)
+    tie.close (tie.spec Inv-loop μ-loop loop-holds (λ c. search needs) (λ c. search needs) (λ c. search needs) (λ c. search needs)
+    (λ c. search needs) (λ c. search needs) (λ c. search needs) loop-again same-length returns)

@@ -19,24 +19,6 @@ loop-holds c =
     let start = c .before .before in
     (search needs, left-all (start .args .a .now) (start .args .b .now) (start .args .p) (start .args .q) (start .args .len))
 
-add-word : tie.Need-add-word Inv-loop μ-loop
-add-word c = search needs
-
-word-requires : tie.Need-word-requires Inv-loop μ-loop
-word-requires c κs = search needs
-
-add-word-2 : tie.Need-add-word-2 Inv-loop μ-loop
-add-word-2 c = search needs
-
-word-requires-2 : tie.Need-word-requires-2 Inv-loop μ-loop
-word-requires-2 c κs = search needs
-
-add-k : tie.Need-add-k Inv-loop μ-loop
-add-k c = search needs
-
-loop-less : tie.Need-loop-less Inv-loop μ-loop
-loop-less c = search needs
-
 loop-again : tie.Need-loop-again Inv-loop μ-loop
 loop-again c =
     let at-word2 = c .before in
@@ -65,17 +47,5 @@ returns-2 c = sym (left-none _ _ _ _ _ _ (c .loop-test .left)) ∙ c .before .lo
 
 pub same-words-spec : {M : Type 1} → statement M
 same-words-spec =
-    tie.close
-    (tie.spec
-    Inv-loop
-    μ-loop
-    loop-holds
-    add-word
-    word-requires
-    add-word-2
-    word-requires-2
-    add-k
-    loop-less
-    loop-again
-    returns
-    returns-2)
+    tie.close (tie.spec Inv-loop μ-loop loop-holds (λ c. search needs) (λ c κs. search needs) (λ c. search needs) (λ c κs. search needs)
+    (λ c. search needs) (λ c. search needs) loop-again returns returns-2)

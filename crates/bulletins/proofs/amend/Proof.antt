@@ -20,9 +20,6 @@ write-requires c κs =
       ),
     )
 
-same-length : tie.Need-same-length
-same-length c = search needs
-
 returns : tie.Need-returns
 returns c =
     let at-write = c .before .before in
@@ -31,4 +28,5 @@ returns c =
     (swept-is (now (start .args .list)) (now (start .args .released)) (now (start .args .withdrawn)) (start .pre .inputs))
 
 pub amend-spec : {M : Type 1} → statement M
-amend-spec = tie.close (tie.spec write-requires same-length returns)
+amend-spec =
+    tie.close (tie.spec write-requires (λ c. search needs) returns)

@@ -1,12 +1,9 @@
 use denote.Ref.{now}
 use mathlib.Core.Path.{sym, _∙_}
-use lib.ListN.{take, drop}
 use Rattle.blocks.proofs.Judging.{verdict-sound}
-use Rattle.searches.specs.Calls.{overlapping}
-use Rattle.blocks.specs.Calls.{noRoom}
-use Rattle.bulletins.specs.Calls.{applyRefusals, amendedWith}
+use Rattle.bulletins.specs.Calls.{amendedWith}
 use Rattle.blocks.specs.Blocks.{entriesOf, setLayout}
-use Rattle.answers.proofs.Turns.{stops, passes, ends, stops-in, passes-in, clear-at}
+use Rattle.answers.proofs.Turns.{stops, passes, ends, stops-in, passes-in, clear-by}
 use Rattle.bulletins.proofs.Amending.{judged-input, overlap-small, room-small}
 use Rattle.blocks.proofs.Refusing.{some-words}
 use native.Mathlib.Omega.{arith}
@@ -14,81 +11,47 @@ use borrow.Author.Needs.{needs}
 use Rattle.bulletins.proofs.application_refusal.Statement.{statement}
 use Rattle.bulletins.proofs.application_refusal.Tie as tie
 
-judge-application-requires : tie.Need-judge-application-requires
-judge-application-requires c κs = search needs
+-- where the call begins
+abbrev start : tie.Else1 → tie.Start
+start c = c .before .before .before .before .before .before
 
 returns : tie.Need-returns
-returns c =
-    let at-judge-application = c .before .before in
-    let start = at-judge-application .before .before .before .before in
-    let fs = applyRefusals (now (start .args .list)) (now (start .args .released)) (now (start .args .withdrawn)) (start .args .words) in
-    stops-in (take 4 fs) (drop 4 fs) _ (at-judge-application .judge-application .ensures) (c .if1 .taken)
+returns c = stops-in _ _ _ (c .before .before .judge-application .ensures) (c .if1 .taken)
 
 shared-number-requires : tie.Need-shared-number-requires
-shared-number-requires c κs =
-    let at-judge-application = c .before .before in
-    let start = at-judge-application .before .before .before .before in
-    let fs = applyRefusals (now (start .args .list)) (now (start .args .released)) (now (start .args .withdrawn)) (start .args .words) in
-    let k = clear-at (take 4 fs) (at-judge-application .judge-application .ensures .clear (c .if1 .left)) in
-    (verdict-sound setLayout (now (start .args .released)) (k 1), verdict-sound setLayout (now (start .args .withdrawn)) (k 2))
+shared-number-requires c κs = let k = clear-by (c .before .before .judge-application .ensures) (c .if1 .left) in
+    (verdict-sound setLayout _ (k 1), verdict-sound setLayout _ (k 2))
 
 returns-2 : tie.Need-returns-2
 returns-2 c =
-    let at-shared-number = c .before in
-    let at-if1 = at-shared-number .before in
-    let at-judge-application = at-if1 .before .before in
-    let start = at-judge-application .before .before .before .before in
-    let fs = applyRefusals (now (start .args .list)) (now (start .args .released)) (now (start .args .withdrawn)) (start .args .words) in
-    passes-in (take 4 fs) (drop 4 fs) _ _ (at-judge-application .judge-application .ensures) (at-if1 .if1 .left)
-    (stops (at-shared-number .shared-number .result)
-    (overlapping (entriesOf 2 (now (start .args .released))) (entriesOf 2 (now (start .args .withdrawn)))) 0 _
-    (at-shared-number .shared-number .ensures)
-    (overlap-small (entriesOf 2 (now (start .args .released))) (entriesOf 2 (now (start .args .withdrawn)))) (c .if2 .taken))
+    let at-if1 = c .before .before in
+    let a = start at-if1 .args in
+    passes-in _ _ _ _ (at-if1 .before .before .judge-application .ensures) (at-if1 .if1 .left)
+    (stops _ _ _ _ (c .before .shared-number .ensures) (overlap-small (entriesOf 2 (now (a .released))) (entriesOf 2 (now (a .withdrawn)))) (c .if2 .taken))
 
 no-room-requires : tie.Need-no-room-requires
 no-room-requires c κs =
     let at-if1 = c .before .before in
-    let at-judge-application = at-if1 .before .before in
-    let at-shared-slice-known3 = at-judge-application .before in
-    let at-shared-slice-known2 = at-shared-slice-known3 .before in
-    let at-shared-slice-known = at-shared-slice-known2 .before in
-    let start = at-shared-slice-known .before in
-    let fs = applyRefusals (now (start .args .list)) (now (start .args .released)) (now (start .args .withdrawn)) (start .args .words) in
-    let k = clear-at (take 4 fs) (at-judge-application .judge-application .ensures .clear (at-if1 .if1 .left)) in (
+    let k = clear-by (at-if1 .before .before .judge-application .ensures) (at-if1 .if1 .left) in
+    let at-shared-slice-known3 = at-if1 .before .before .before in
+    let at-shared-slice-known2 = at-shared-slice-known3 .before in (
       record {
-        first = judged-input (now (start .args .list)) (k 0) (λ j. omega (arith, at-shared-slice-known .shared-slice-known .given j));
-        second =
-            judged-input (now (start .args .released)) (k 1) (λ j. omega (arith, at-shared-slice-known2 .shared-slice-known2 .given j));
-        third = judged-input
-            (now (start .args .withdrawn)) (k 2) (λ j. omega (arith, at-shared-slice-known3 .shared-slice-known3 .given j));
+        first = judged-input _ (k 0) (λ j. omega (arith, at-shared-slice-known2 .before .shared-slice-known .given j));
+        second = judged-input _ (k 1) (λ j. omega (arith, at-shared-slice-known2 .shared-slice-known2 .given j));
+        third = judged-input _ (k 2) (λ j. omega (arith, at-shared-slice-known3 .shared-slice-known3 .given j));
       },
-      some-words
-          (start .args .words) (k 3),
+      some-words _ (k 3),
     )
 
 returns-3 : tie.Need-returns-3
 returns-3 c =
     let at-if2 = c .before in
-    let at-shared-number = at-if2 .before in
-    let at-if1 = at-shared-number .before in
-    let at-judge-application = at-if1 .before .before in
-    let start = at-judge-application .before .before .before .before in
-    let fs = applyRefusals (now (start .args .list)) (now (start .args .released)) (now (start .args .withdrawn)) (start .args .words) in
-    passes-in (take 4 fs) (drop 4 fs) _ _ (at-judge-application .judge-application .ensures) (at-if1 .if1 .left)
-    (passes (overlapping (entriesOf 2 (now (start .args .released))) (entriesOf 2 (now (start .args .withdrawn)))) 0 _ _
-    (sym (at-shared-number .shared-number .ensures) ∙ at-if2 .if2 .left)
-    (ends (c .no-room .result)
-    (noRoom setLayout (start .args .words) (amendedWith (now (start .args .list)) (now (start .args .released)) (now (start .args .withdrawn)))) 3
-    (c .no-room .ensures)
-    (room-small (start .args .words) (amendedWith (now (start .args .list)) (now (start .args .released)) (now (start .args .withdrawn))))))
+    let at-if1 = at-if2 .before .before in
+    let a = start at-if1 .args in
+    passes-in _ _ _ _ (at-if1 .before .before .judge-application .ensures) (at-if1 .if1 .left)
+    (passes _ _ _ _ (sym (at-if2 .before .shared-number .ensures) ∙ at-if2 .if2 .left)
+    (ends _ _ _ (c .no-room .ensures) (room-small (a .words) (amendedWith (now (a .list)) (now (a .released)) (now (a .withdrawn))))))
 
 pub application-refusal-spec : {M : Type 1} → statement M
 application-refusal-spec =
-    tie.close
-    (tie.spec
-    judge-application-requires
-    returns
-    shared-number-requires
-    returns-2
-    no-room-requires
-    returns-3)
+    tie.close (tie.spec (λ c κs. search needs) returns shared-number-requires returns-2 no-room-requires returns-3)

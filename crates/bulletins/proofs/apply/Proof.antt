@@ -1,10 +1,8 @@
-use denote.Ref.{now}
 use mathlib.Core.Path.{ap}
 use mathlib.Core.List.{List, [], _∷_}
 use Prim.Native.Nat.{ℕ}
-use lib.ListN.{length}
-use Rattle.bulletins.specs.Calls.{applyRefusals, applyCall}
-use Rattle.answers.proofs.Turns.{refused-by, given-by, accepted-as, clear-at}
+use Rattle.bulletins.specs.Calls.{applyCall}
+use Rattle.answers.proofs.Turns.{refused-by, given-by, accepted-as, clear-by}
 use Rattle.bulletins.proofs.Amending.{judged-input}
 use Rattle.blocks.proofs.Refusing.{some-words}
 use native.Mathlib.Omega.{arith}
@@ -12,70 +10,34 @@ use borrow.Author.Needs.{needs}
 use Rattle.bulletins.proofs.apply.Statement.{statement}
 use Rattle.bulletins.proofs.apply.Tie as tie
 
-application-refusal-requires : tie.Need-application-refusal-requires
-application-refusal-requires c κs = search needs
-
-judged-of-requires : tie.Need-judged-of-requires
-judged-of-requires c κs = search needs
-
 returns : tie.Need-returns
 unfolding applyCall
-returns c =
-    let at-if1 = c .before in
-    let at-application-refusal = at-if1 .before .before in
-    let start = at-application-refusal .before .before .before .before .before in
-    refused-by (applyRefusals (now (start .args .list)) (now (start .args .released)) (now (start .args .withdrawn))
-    (length (now (start .args .out)))) (at-application-refusal .application-refusal .result) (at-application-refusal .application-refusal .ensures)
-    (now (start .args .out) ∷ []) _ _ (at-if1 .if1 .taken) (c .judged-of .ensures)
+returns c = refused-by _ _ (c .before .before .before .application-refusal .ensures) _ _ _ (c .before .if1 .taken) (c .judged-of .ensures)
 
 amend-requires : tie.Need-amend-requires
 amend-requires c κs =
     let at-if1 = c .before in
-    let at-application-refusal = at-if1 .before .before in
-    let at-shared-slice-known3 = at-application-refusal .before .before in
+    let k = clear-by (at-if1 .before .before .application-refusal .ensures) (at-if1 .if1 .left) in
+    let at-shared-slice-known3 = at-if1 .before .before .before .before in
     let at-shared-slice-known2 = at-shared-slice-known3 .before in
-    let at-shared-slice-known = at-shared-slice-known2 .before in
-    let start = at-shared-slice-known .before in
-    let fs = applyRefusals (now (start .args .list)) (now (start .args .released)) (now (start .args .withdrawn)) (length (now (start .args .out))) in
-    let k = clear-at fs (at-application-refusal .application-refusal .ensures .clear (at-if1 .if1 .left)) in
     record {
       inputs = record {
-        first = judged-input (now (start .args .list)) (k 0) (λ j. omega (arith, at-shared-slice-known .shared-slice-known .given j));
-        second =
-            judged-input (now (start .args .released)) (k 1) (λ j. omega (arith, at-shared-slice-known2 .shared-slice-known2 .given j));
-        third = judged-input
-            (now (start .args .withdrawn)) (k 2) (λ j. omega (arith, at-shared-slice-known3 .shared-slice-known3 .given j));
+        first = judged-input _ (k 0) (λ j. omega (arith, at-shared-slice-known2 .before .shared-slice-known .given j));
+        second = judged-input _ (k 1) (λ j. omega (arith, at-shared-slice-known2 .shared-slice-known2 .given j));
+        third = judged-input _ (k 2) (λ j. omega (arith, at-shared-slice-known3 .shared-slice-known3 .given j));
       };
-      some = some-words
-          (length (now (start .args .out))) (k 3);
+      some = some-words _ (k 3);
       room = k 5;
     }
-
-judged-of-requires-2 : tie.Need-judged-of-requires-2
-judged-of-requires-2 c κs = search needs
-
-same-length : tie.Need-same-length
-same-length c = search needs
 
 returns-2 : tie.Need-returns-2
 unfolding applyCall
 returns-2 c =
     let at-amend = c .before .before .before in
     let at-if1 = at-amend .before .before in
-    let at-application-refusal = at-if1 .before .before in
-    let start = at-application-refusal .before .before .before .before .before in
-    given-by (applyRefusals (now (start .args .list)) (now (start .args .released)) (now (start .args .withdrawn)) (length (now (start .args .out))))
-    (at-application-refusal .application-refusal .result) (at-application-refusal .application-refusal .ensures) (now (start .args .out) ∷ []) _ _
-    (at-if1 .if1 .left) (accepted-as 0 _ _ _ (c .judged-of2 .ensures) (ap (λ (l : List ℕ). l ∷ []) (at-amend .amend .ensures)))
+    given-by _ _ (at-if1 .before .before .application-refusal .ensures) _ _ _ (at-if1 .if1 .left)
+    (accepted-as 0 _ _ _ (c .judged-of2 .ensures) (ap (λ (l : List ℕ). l ∷ []) (at-amend .amend .ensures)))
 
 pub apply-spec : {M : Type 1} → statement M
 apply-spec =
-    tie.close
-    (tie.spec
-    application-refusal-requires
-    judged-of-requires
-    returns
-    amend-requires
-    judged-of-requires-2
-    same-length
-    returns-2)
+    tie.close (tie.spec (λ c κs. search needs) (λ c κs. search needs) returns amend-requires (λ c κs. search needs) (λ c. search needs) returns-2)

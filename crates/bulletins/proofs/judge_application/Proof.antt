@@ -1,8 +1,4 @@
-use denote.Ref.{now}
 use mathlib.Core.Path.{sym, _∙_}
-use mathlib.Core.List.{[], _∷_}
-use Rattle.blocks.specs.Calls.{input, output, noBlock}
-use Rattle.blocks.specs.Blocks.{verdict, setLayout}
 use Rattle.answers.proofs.Turns.{stops, passes, ends, stops-in, passes-in}
 use Rattle.bulletins.proofs.Amending.{block-small}
 use Rattle.blocks.proofs.Judging.{verdict-small}
@@ -10,45 +6,23 @@ use borrow.Author.Needs.{needs}
 use Rattle.bulletins.proofs.judge_application.Statement.{statement}
 use Rattle.bulletins.proofs.judge_application.Tie as tie
 
-judge-requires : tie.Need-judge-requires
-judge-requires c κs = search needs
-
 returns : tie.Need-returns
-returns c =
-    let at-judge = c .before in
-    let start = at-judge .before .before .before .before in
-    stops (at-judge .judge .result) (verdict setLayout (now (start .args .list))) 0 _ (at-judge .judge .ensures)
-    (verdict-small setLayout (now (start .args .list))) (c .if1 .taken)
-
-judge-two-requires : tie.Need-judge-two-requires
-judge-two-requires c κs = search needs
+returns c = stops _ _ _ _ (c .before .judge .ensures) (verdict-small _ _) (c .if1 .taken)
 
 returns-2 : tie.Need-returns-2
 returns-2 c =
     let at-judge-two = c .before .before in
     let at-if1 = at-judge-two .before in
-    let at-judge = at-if1 .before in
-    let start = at-judge .before .before .before .before in
-    passes (verdict setLayout (now (start .args .list))) 0 _ _ (sym (at-judge .judge .ensures) ∙ at-if1 .if1 .left)
-    (stops-in (input 1 setLayout (now (start .args .released)) ∷ input 2 setLayout (now (start .args .withdrawn)) ∷ [])
-    (output 3 (start .args .words) ∷ []) _ (at-judge-two .judge-two .ensures) (c .if2 .taken))
-
-no-block-requires : tie.Need-no-block-requires
-no-block-requires c κs = search needs
+    passes _ _ _ _ (sym (at-if1 .before .judge .ensures) ∙ at-if1 .if1 .left) (stops-in _ _ _ (at-judge-two .judge-two .ensures) (c .if2 .taken))
 
 returns-3 : tie.Need-returns-3
 returns-3 c =
-    let at-if2 = c .before in
-    let at-judge-two = at-if2 .before .before in
+    let at-judge-two = c .before .before .before in
     let at-if1 = at-judge-two .before in
-    let at-judge = at-if1 .before in
-    let start = at-judge .before .before .before .before in
-    passes (verdict setLayout (now (start .args .list))) 0 _ _ (sym (at-judge .judge .ensures) ∙ at-if1 .if1 .left)
-    (passes-in (input 1 setLayout (now (start .args .released)) ∷ input 2 setLayout (now (start .args .withdrawn)) ∷ [])
-    (output 3 (start .args .words) ∷ []) _ _ (at-judge-two .judge-two .ensures) (at-if2 .if2 .left)
-    (ends (c .no-block .result) (noBlock (start .args .words)) 3 (c .no-block .ensures) (block-small (start .args .words))))
+    passes _ _ _ _ (sym (at-if1 .before .judge .ensures) ∙ at-if1 .if1 .left)
+    (passes-in _ _ _ _ (at-judge-two .judge-two .ensures) (c .before .if2 .left)
+    (ends _ _ _ (c .no-block .ensures) (block-small (at-if1 .before .before .before .before .before .args .words))))
 
 pub judge-application-spec : {M : Type 1} → statement M
 judge-application-spec =
-    tie.close
-    (tie.spec judge-requires returns judge-two-requires returns-2 no-block-requires returns-3)
+    tie.close (tie.spec (λ c κs. search needs) returns (λ c κs. search needs) returns-2 (λ c κs. search needs) returns-3)

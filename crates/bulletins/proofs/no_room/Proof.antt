@@ -6,24 +6,6 @@ use borrow.Author.Needs.{needs}
 use Rattle.bulletins.proofs.no_room.Statement.{statement}
 use Rattle.bulletins.proofs.no_room.Tie as tie
 
-count-of-requires : tie.Need-count-of-requires
-count-of-requires c κs = search needs
-
-count-of-requires-2 : tie.Need-count-of-requires-2
-count-of-requires-2 c κs = search needs
-
-add-bound : tie.Need-add-bound
-add-bound c = search needs
-
-count-of-requires-3 : tie.Need-count-of-requires-3
-count-of-requires-3 c κs = search needs
-
-add-bound-2 : tie.Need-add-bound-2
-add-bound-2 c = search needs
-
-room-for-requires : tie.Need-room-for-requires
-room-for-requires c κs = search needs
-
 fits-requires : tie.Need-fits-requires
 fits-requires c κs =
     let at-count-of3 = c .before in
@@ -44,30 +26,17 @@ fits-requires c κs =
 
 returns : tie.Need-returns
 returns c =
-    let at-fits2 = c .before in
-    let at-room-for = at-fits2 .before in
-    let start = at-room-for .before .before .before .before .before .before .before in
-    room-yes (now (start .args .list)) (now (start .args .released)) (now (start .args .withdrawn)) (start .pre .0) (start .args .words)
-    (at-room-for .room-for .result) (at-room-for .room-for .ensures) (at-fits2 .fits2 .result) (at-fits2 .fits2 .ensures) (c .if1 .taken)
+    let at-room-for = c .before .before in
+    room-yes _ _ _ (at-room-for .before .before .before .before .before .before .before .pre .0) _ _ (at-room-for .room-for .ensures) _
+    (c .before .fits2 .ensures) (c .if1 .taken)
 
 returns-2 : tie.Need-returns-2
 returns-2 c =
-    let at-fits2 = c .before in
-    let at-room-for = at-fits2 .before in
-    let start = at-room-for .before .before .before .before .before .before .before in
-    room-no (now (start .args .list)) (now (start .args .released)) (now (start .args .withdrawn)) (start .pre .0) (start .args .words)
-    (at-room-for .room-for .result) (at-room-for .room-for .ensures) (at-fits2 .fits2 .result) (at-fits2 .fits2 .ensures) (c .if1 .left)
+    let at-room-for = c .before .before in
+    room-no _ _ _ (at-room-for .before .before .before .before .before .before .before .pre .0) _ _ (at-room-for .room-for .ensures) _
+    (c .before .fits2 .ensures) (c .if1 .left)
 
 pub no-room-spec : {M : Type 1} → statement M
 no-room-spec =
-    tie.close
-    (tie.spec
-    count-of-requires
-    count-of-requires-2
-    add-bound
-    count-of-requires-3
-    add-bound-2
-    room-for-requires
-    fits-requires
-    returns
-    returns-2)
+    tie.close (tie.spec (λ c κs. search needs) (λ c κs. search needs) (λ c. search needs) (λ c κs. search needs) (λ c. search needs)
+    (λ c κs. search needs) fits-requires returns returns-2)

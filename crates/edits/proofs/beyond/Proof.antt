@@ -9,9 +9,6 @@ use Rattle.edits.proofs.beyond.Tie as tie
 returns : tie.Need-returns
 returns c = let s = c .before in sym (le-ltb (suc (s .args .x)) (s .args .y) (omega arith))
 
-sub-if2 : tie.Need-sub-if2
-sub-if2 c = search needs
-
 returns-2 : tie.Need-returns-2
 returns-2 c = let s = c .before .before in sym (lt-ltb (suc (s .args .x)) (s .args .y) (omega arith))
 
@@ -19,4 +16,5 @@ returns-3 : tie.Need-returns-3
 returns-3 c = let s = c .before .before in sym (le-ltb (suc (s .args .x)) (s .args .y) (omega arith))
 
 pub beyond-spec : {M : Type 1} → statement M
-beyond-spec = tie.close (tie.spec returns sub-if2 returns-2 returns-3)
+beyond-spec =
+    tie.close (tie.spec returns (λ c. search needs) returns-2 returns-3)

@@ -11,9 +11,6 @@ returns c =
     let start = c .before .before in
     no-end (start .args .s) (start .args .i) (start .args .lo) (start .args .block .now) (c .if1 .taken)
 
-sub-lower : tie.Need-sub-lower
-sub-lower c = search needs
-
 mul-lower : tie.Need-mul-lower
 mul-lower c =
     let start = c .before .before .before in
@@ -29,9 +26,6 @@ lower-requires c κs =
     let start = c .before .before .before in
     let k = less-one (start .args .s) (start .args .i) (omega arith) in omega (arith, k)
 
-same-length : tie.Need-same-length
-same-length c = search needs
-
 returns-2 : tie.Need-returns-2
 returns-2 c =
     let at-lower = c .before .before in
@@ -41,4 +35,4 @@ returns-2 c =
 
 pub cut-end-spec : {M : Type 1} → statement M
 cut-end-spec =
-    tie.close (tie.spec returns sub-lower mul-lower add-lower lower-requires same-length returns-2)
+    tie.close (tie.spec returns (λ c. search needs) mul-lower add-lower lower-requires (λ c. search needs) returns-2)

@@ -27,9 +27,6 @@ raise-requires c κs =
     let k = item-in (start .args .s) (start .args .k) (start .args .m) (omega arith) in
     (omega (arith, k, start .pre .held, start .pre .two), start .pre .from (omega arith))
 
-same-length : tie.Need-same-length
-same-length c = search needs
-
 returns-2 : tie.Need-returns-2
 returns-2 c =
     let at-raise = c .before .before in
@@ -40,4 +37,4 @@ returns-2 c =
 
 pub cut-start-spec : {M : Type 1} → statement M
 cut-start-spec =
-    tie.close (tie.spec returns mul-raise add-raise raise-requires same-length returns-2)
+    tie.close (tie.spec returns mul-raise add-raise raise-requires (λ c. search needs) returns-2)

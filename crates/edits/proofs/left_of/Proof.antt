@@ -1,16 +1,11 @@
-use Prim.Native.Nat.{_-_}
-use mathlib.Core.Path.{refl, sym, _∙_}
-use lib.ListN.{take, drop}
-use Rattle.blocks.proofs.Tests.{item-in}
-use Rattle.edits.proofs.Sides.{to-left, left-none, left-apart, left-differ, left-join}
+use denote.Ref.{now}
+use mathlib.Core.Path.{sym, _∙_}
+use Rattle.edits.proofs.Sides.{LeftOf, left-none, left-beside}
 use Rattle.searches.proofs.Finding.{sorted-lows}
 use native.Mathlib.Omega.{arith}
 use borrow.Author.Needs.{needs}
 use Rattle.edits.proofs.left_of.Statement.{statement}
 use Rattle.edits.proofs.left_of.Tie as tie
-
-word-requires : tie.Need-word-requires
-word-requires c κs = search needs
 
 first-from-requires : tie.Need-first-from-requires
 first-from-requires c κs =
@@ -19,159 +14,34 @@ first-from-requires c κs =
 
 returns : tie.Need-returns
 returns c =
-    let at-first-from = c .before in
-    let at-word = at-first-from .before in
-    let start = at-word .before .before .before in
-    let w = start .args .block .now in
-    let v = take (start .args .s - 2) (drop 2 (start .args .new .now)) in
-    to-left refl (at-word .word .ensures)
-    (left-none (start .args .s) (start .pre .two) (start .args .n) w (start .pre .sound) v _ _ (at-first-from .first-from .ensures) (c .if1 .taken))
+    let at-word = c .before .before in
+    left-none (at-word .before .before .before .pre) (at-word .word .ensures) (c .before .first-from .ensures) (c .if1 .taken)
 
-sub-k : tie.Need-sub-k
-sub-k c = search needs
-
-mul-word : tie.Need-mul-word
-mul-word c =
-    let at-first-from = c .before in
-    let start = at-first-from .before .before .before .before in
-    let i = at-first-from .first-from .result in
-    let k = item-in (start .args .s) (i - 1) (start .args .n) (omega (arith, at-first-from .first-from .ensures .within)) in
-    omega (arith, k, start .pre .held, start .pre .two, start .pre .whole)
-
-add-word : tie.Need-add-word
-add-word c =
-    let at-first-from = c .before in
-    let start = at-first-from .before .before .before .before in
-    let i = at-first-from .first-from .result in
-    let k = item-in (start .args .s) (i - 1) (start .args .n) (omega (arith, at-first-from .first-from .ensures .within)) in
-    omega (arith, k, start .pre .held, start .pre .two, start .pre .whole)
-
-word-requires-2 : tie.Need-word-requires-2
-word-requires-2 c κs =
-    let at-first-from = c .before in
-    let start = at-first-from .before .before .before .before in
-    let i = at-first-from .first-from .result in
-    let k = item-in (start .args .s) (i - 1) (start .args .n) (omega (arith, at-first-from .first-from .ensures .within)) in
-    omega (arith, k, start .pre .held, start .pre .two, start .pre .whole)
-
-beyond-requires : tie.Need-beyond-requires
-beyond-requires c κs = search needs
+-- the item before the new entry
+next : (c : tie.Else1) → let a = c .before .before .before .before .before .args in
+    LeftOf (now (a .block)) (now (a .new)) (a .s) (a .n) (c .before .first-from .result) (c .before .before .word .result)
+next c =
+    let at-word = c .before .before in
+    left-beside (at-word .before .before .before .pre) (at-word .word .ensures) (c .before .first-from .ensures) (c .if1 .left)
 
 returns-2 : tie.Need-returns-2
-returns-2 c =
-    let at-beyond = c .before in
-    let at-word2 = at-beyond .before in
-    let at-if1 = at-word2 .before in
-    let at-first-from = at-if1 .before in
-    let at-word = at-first-from .before in
-    let start = at-word .before .before .before in
-    let w = start .args .block .now in
-    let v = take (start .args .s - 2) (drop 2 (start .args .new .now)) in
-    to-left refl (at-word .word .ensures)
-    (left-apart (start .args .s) (start .pre .two) (start .args .n) w (start .pre .sound) v _ _ (at-first-from .first-from .ensures)
-    (at-if1 .if1 .left) _ _ (at-word2 .word2 .ensures) (at-beyond .beyond .ensures) (c .if2 .taken))
-
-mul-same-words : tie.Need-mul-same-words
-mul-same-words c =
-    let at-first-from = c .before .before .before .before in
-    let start = at-first-from .before .before .before .before in
-    let i = at-first-from .first-from .result in
-    let k = item-in (start .args .s) (i - 1) (start .args .n) (omega (arith, at-first-from .first-from .ensures .within)) in
-    omega (arith, k, start .pre .held, start .pre .two, start .pre .whole)
-
-add-same-words : tie.Need-add-same-words
-add-same-words c =
-    let at-first-from = c .before .before .before .before in
-    let start = at-first-from .before .before .before .before in
-    let i = at-first-from .first-from .result in
-    let k = item-in (start .args .s) (i - 1) (start .args .n) (omega (arith, at-first-from .first-from .ensures .within)) in
-    omega (arith, k, start .pre .held, start .pre .two, start .pre .whole)
-
-sub-same-words : tie.Need-sub-same-words
-sub-same-words c = search needs
-
-same-words-requires : tie.Need-same-words-requires
-same-words-requires c κs =
-    let at-first-from = c .before .before .before .before in
-    let start = at-first-from .before .before .before .before in
-    let i = at-first-from .first-from .result in
-    let k = item-in (start .args .s) (i - 1) (start .args .n) (omega (arith, at-first-from .first-from .ensures .within)) in
-    omega (arith, k, start .pre .held, start .pre .two, start .pre .whole)
-
-mul-word-2 : tie.Need-mul-word-2
-mul-word-2 c =
-    let at-first-from = c .before .before .before .before .before .before in
-    let start = at-first-from .before .before .before .before in
-    let i = at-first-from .first-from .result in
-    let k = item-in (start .args .s) (i - 1) (start .args .n) (omega (arith, at-first-from .first-from .ensures .within)) in
-    omega (arith, k, start .pre .held, start .pre .two, start .pre .whole)
-
-add-word-2 : tie.Need-add-word-2
-add-word-2 c =
-    let at-first-from = c .before .before .before .before .before .before in
-    let start = at-first-from .before .before .before .before in
-    let i = at-first-from .first-from .result in
-    let k = item-in (start .args .s) (i - 1) (start .args .n) (omega (arith, at-first-from .first-from .ensures .within)) in
-    omega (arith, k, start .pre .held, start .pre .two, start .pre .whole)
-
-word-requires-3 : tie.Need-word-requires-3
-word-requires-3 c κs =
-    let at-first-from = c .before .before .before .before .before .before in
-    let start = at-first-from .before .before .before .before in
-    let i = at-first-from .first-from .result in
-    let k = item-in (start .args .s) (i - 1) (start .args .n) (omega (arith, at-first-from .first-from .ensures .within)) in
-    omega (arith, k, start .pre .held, start .pre .two, start .pre .whole)
+returns-2 c = next (c .before .before .before) .apart-from (c .before .before .word2 .ensures) (c .before .beyond .ensures) (c .if2 .taken)
 
 returns-3 : tie.Need-returns-3
 returns-3 c =
-    let at-if3 = c .before in
-    let at-same-words = at-if3 .before in
-    let at-if2 = at-same-words .before in
-    let at-beyond = at-if2 .before in
-    let at-word2 = at-beyond .before in
-    let at-if1 = at-word2 .before in
-    let at-first-from = at-if1 .before in
-    let at-word = at-first-from .before in
-    let start = at-word .before .before .before in
-    let w = start .args .block .now in
-    let v = take (start .args .s - 2) (drop 2 (start .args .new .now)) in
-    to-left (sym (c .word3 .ensures)) (at-word .word .ensures)
-    (left-join (start .args .s) (start .pre .two) (start .args .n) w (start .pre .sound) v _ _ (at-first-from .first-from .ensures)
-    (at-if1 .if1 .left) _ _ (at-word2 .word2 .ensures) (at-beyond .beyond .ensures) (at-if2 .if2 .left)
-    (sym (at-if3 .if3 .taken) ∙ at-same-words .same-words .ensures))
+    let at-if2 = c .before .before .before in
+    next (at-if2 .before .before .before) .joined (at-if2 .before .before .word2 .ensures) (at-if2 .before .beyond .ensures) (at-if2 .if2 .left)
+    (sym (c .before .if3 .taken) ∙ c .before .before .same-words .ensures) (c .word3 .ensures)
 
 returns-4 : tie.Need-returns-4
-returns-4 c =
-    let at-same-words = c .before in
-    let at-if1 = at-same-words .before .before .before .before in
-    let at-first-from = at-if1 .before in
-    let at-word = at-first-from .before in
-    let start = at-word .before .before .before in
-    let w = start .args .block .now in
-    let v = take (start .args .s - 2) (drop 2 (start .args .new .now)) in
-    to-left refl (at-word .word .ensures)
-    (left-differ (start .args .s) (start .pre .two) (start .args .n) w (start .pre .sound) v _ _ (at-first-from .first-from .ensures)
-    (at-if1 .if1 .left) (sym (c .if3 .left) ∙ at-same-words .same-words .ensures))
+returns-4 c = next (c .before .before .before .before .before) .differs (sym (c .if3 .left) ∙ c .before .same-words .ensures)
 
 pub left-of-spec : {M : Type 1} → statement M
 left-of-spec =
-    tie.close
-    (tie.spec
-    word-requires
-    first-from-requires
-    returns
-    sub-k
-    mul-word
-    add-word
-    word-requires-2
-    beyond-requires
-    returns-2
-    mul-same-words
-    add-same-words
-    sub-same-words
-    same-words-requires
-    mul-word-2
-    add-word-2
-    word-requires-3
-    returns-3
-    returns-4)
+    tie.close (tie.spec (λ c κs. search needs) first-from-requires returns (λ c. search needs) (λ c. omega (arith, next c .words))
+    (λ c. omega (arith, next c .words)) (λ c κs. omega (arith, next c .words)) (λ c κs. search needs) returns-2
+    (λ c. omega (arith, next (c .before .before .before) .words)) (λ c. omega (arith, next (c .before .before .before) .words)) (λ c. search needs)
+    (λ c κs. next (c .before .before .before) .words) (λ c. omega (arith, next (c .before .before .before .before .before) .words))
+    (λ c. omega (arith, next (c .before .before .before .before .before) .words))
+    (λ c κs. omega (arith, next (c .before .before .before .before .before) .words))
+    returns-3 returns-4)

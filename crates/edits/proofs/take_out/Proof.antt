@@ -13,19 +13,10 @@ first-from-requires c κs = let e = c .before .before .pre .0 in lows (e .two) (
 first-past-requires : tie.Need-first-past-requires
 first-past-requires c κs = let e = c .before .before .before .before .pre .0 in highs (e .two) (e .block) (e .count)
 
-room-for-requires : tie.Need-room-for-requires
-room-for-requires c κs = search needs
-
-sub-if1 : tie.Need-sub-if1
-sub-if1 c = search needs
-
 add-if1 : tie.Need-add-if1
 add-if1 c =
     let start = c .before .before .before .before .before .before in
     let e = start .pre .0 in omega (arith, held e, le-mul (start .args .layout .width) (start .args .n) (e .two))
-
-same-length : tie.Need-same-length
-same-length c = search needs
 
 returns : tie.Need-returns
 returns c =
@@ -36,15 +27,6 @@ returns c =
     out-no (start .pre .0) _ _ _ _ (start .pre .1) (at-first-from .first-from .ensures) (at-first-past .first-past .ensures) _
     (at-room-for .room-for .ensures) (c .if1 .taken)
 
-sub-place : tie.Need-sub-place
-sub-place c = search needs
-
-part-place-start : tie.Need-part-place-start
-part-place-start c = search needs
-
-part-place-end : tie.Need-part-place-end
-part-place-end c = search needs
-
 place-requires : tie.Need-place-requires
 place-requires c κs =
     let at-if1 = c .before .before .before in
@@ -54,9 +36,6 @@ place-requires c κs =
     let start = at-first-from .before .before .before in
     out-ok (start .pre .0) _ _ _ _ (start .pre .1) (at-first-from .first-from .ensures) (at-first-past .first-past .ensures) _
     (at-room-for .room-for .ensures) _ refl (at-if1 .if1 .left)
-
-same-length-2 : tie.Need-same-length-2
-same-length-2 c = search needs
 
 returns-2 : tie.Need-returns-2
 returns-2 c =
@@ -71,18 +50,5 @@ returns-2 c =
 
 pub take-out-spec : {M : Type 1} → statement M
 take-out-spec =
-    tie.close
-    (tie.spec
-    first-from-requires
-    first-past-requires
-    room-for-requires
-    sub-if1
-    add-if1
-    same-length
-    returns
-    sub-place
-    part-place-start
-    part-place-end
-    place-requires
-    same-length-2
-    returns-2)
+    tie.close (tie.spec first-from-requires first-past-requires (λ c κs. search needs) (λ c. search needs) add-if1 (λ c. search needs) returns
+    (λ c. search needs) (λ c. search needs) (λ c. search needs) place-requires (λ c. search needs) returns-2)

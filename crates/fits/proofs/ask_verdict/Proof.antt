@@ -4,9 +4,6 @@ use borrow.Author.Needs.{needs}
 use Rattle.fits.proofs.ask_verdict.Statement.{statement}
 use Rattle.fits.proofs.ask_verdict.Tie as tie
 
-window-verdict-requires : tie.Need-window-verdict-requires
-window-verdict-requires c κs = search needs
-
 returns : tie.Need-returns
 returns c =
     let at-window-verdict = c .before in
@@ -31,4 +28,5 @@ returns-3 c =
     (at-window-verdict .window-verdict .ensures) (at-if1 .if1 .left) (c .if2 .left)
 
 pub ask-verdict-spec : {M : Type 1} → statement M
-ask-verdict-spec = tie.close (tie.spec window-verdict-requires returns returns-2 returns-3)
+ask-verdict-spec =
+    tie.close (tie.spec (λ c κs. search needs) returns returns-2 returns-3)

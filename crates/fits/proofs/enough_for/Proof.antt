@@ -3,9 +3,6 @@ use borrow.Author.Needs.{needs}
 use Rattle.fits.proofs.enough_for.Statement.{statement}
 use Rattle.fits.proofs.enough_for.Tie as tie
 
-sub-result : tie.Need-sub-result
-sub-result c = search needs
-
 returns : tie.Need-returns
 returns c = enough-best _ _ (c .if1 .taken)
 
@@ -13,4 +10,5 @@ returns-2 : tie.Need-returns-2
 returns-2 c = enough-first _ _ (c .if1 .left)
 
 pub enough-for-spec : {M : Type 1} → statement M
-enough-for-spec = tie.close (tie.spec sub-result returns returns-2)
+enough-for-spec =
+    tie.close (tie.spec (λ c. search needs) returns returns-2)

@@ -8,12 +8,6 @@ use borrow.Author.Needs.{needs}
 use Rattle.fits.proofs.fit.Statement.{statement}
 use Rattle.fits.proofs.fit.Tie as tie
 
-ask-verdict-requires : tie.Need-ask-verdict-requires
-ask-verdict-requires c κs = search needs
-
-refusal-of-requires : tie.Need-refusal-of-requires
-refusal-of-requires c κs = search needs
-
 returns : tie.Need-returns
 returns c =
     let at-if1 = c .before in
@@ -41,9 +35,6 @@ returns-2 c =
     (place-found (start .args .shortest) (start .args .a) (start .args .b) (start .args .k) (entriesOf 2 (now (start .args .block)))
     (at-gap-for .gap-for .result) (at-gap-for .gap-for .ensures) (c .if2 .taken)) refl
 
-refusal-of-requires-2 : tie.Need-refusal-of-requires-2
-refusal-of-requires-2 c κs = search needs
-
 returns-3 : tie.Need-returns-3
 returns-3 c =
     let at-if2 = c .before in
@@ -58,12 +49,4 @@ returns-3 c =
 
 pub fit-spec : {M : Type 1} → statement M
 fit-spec =
-    tie.close
-    (tie.spec
-    ask-verdict-requires
-    refusal-of-requires
-    returns
-    gap-for-requires
-    returns-2
-    refusal-of-requires-2
-    returns-3)
+    tie.close (tie.spec (λ c κs. search needs) (λ c κs. search needs) returns gap-for-requires returns-2 (λ c κs. search needs) returns-3)

@@ -6,9 +6,6 @@ use Rattle.fits.proofs.gap_before.Tie as tie
 returns : tie.Need-returns
 returns c = let a = c .before in before-none (a .args .best) (a .args .from) (a .args .low) (a .args .b) (a .args .k) (a .pre) (c .if1 .taken)
 
-tried-requires : tie.Need-tried-requires
-tried-requires c κs = search needs
-
 returns-2 : tie.Need-returns-2
 returns-2 c =
     let at-if2 = c .before in
@@ -16,12 +13,6 @@ returns-2 c =
     let start = at-if1 .before in
     before-cut (start .args .best) (start .args .from) (start .args .low) (start .args .b) (start .args .k) (start .pre) (c .tried .result)
     (at-if1 .if1 .left) (at-if2 .if2 .taken) (c .tried .ensures)
-
-sub-tried : tie.Need-sub-tried
-sub-tried c = search needs
-
-tried-requires-2 : tie.Need-tried-requires-2
-tried-requires-2 c κs = search needs
 
 returns-3 : tie.Need-returns-3
 returns-3 c =
@@ -33,4 +24,4 @@ returns-3 c =
 
 pub gap-before-spec : {M : Type 1} → statement M
 gap-before-spec =
-    tie.close (tie.spec returns tried-requires returns-2 sub-tried tried-requires-2 returns-3)
+    tie.close (tie.spec returns (λ c κs. search needs) returns-2 (λ c. search needs) (λ c κs. search needs) returns-3)

@@ -18,12 +18,6 @@ Inv-loop block a b k shortest enough best₀ from₀ p₀ left₀ best from p le
 abbrev μ-loop : tie.MeasureT-loop
 μ-loop block a b k shortest enough best₀ from₀ p₀ left₀ best from p left = left
 
-enough-for-requires : tie.Need-enough-for-requires Inv-loop μ-loop
-enough-for-requires c κs = search needs
-
-count-of-requires : tie.Need-count-of-requires Inv-loop μ-loop
-count-of-requires c κs = search needs
-
 loop-holds : tie.Need-loop-holds Inv-loop μ-loop
 loop-holds c =
     let at-enough-for = c .before in
@@ -69,20 +63,11 @@ returns-2 c =
     walked-over (at-loop .loop .inv) (at-loop-test .loop-test .taken) (at-word .word .result) (at-word2 .word2 .result) (at-word .word .ensures)
     (at-word2 .word2 .ensures) (at-gap-before .gap-before .result) (at-gap-before .gap-before .ensures) (c .if2 .taken)
 
-above-requires : tie.Need-above-requires Inv-loop μ-loop
-above-requires c κs = search needs
-
 add-p : tie.Need-add-p Inv-loop μ-loop
 add-p c =
     let at-loop-test = c .before .before .before .before .before .before .before in
     let at-loop = at-loop-test .before in
     record { fits = omega (arith, walked-inside (at-loop .loop .inv) (at-loop-test .loop-test .taken)) }
-
-sub-left : tie.Need-sub-left Inv-loop μ-loop
-sub-left c = search needs
-
-loop-less : tie.Need-loop-less Inv-loop μ-loop
-loop-less c = search needs
 
 loop-again : tie.Need-loop-again Inv-loop μ-loop
 loop-again c =
@@ -106,24 +91,6 @@ returns-3 c = walked-end (c .before .before .loop .inv) (omega arith) (c .tried 
 
 pub gap-for-spec : {M : Type 1} → statement M
 gap-for-spec =
-    tie.close
-    (tie.spec
-    Inv-loop
-    μ-loop
-    enough-for-requires
-    count-of-requires
-    loop-holds
-    word-requires
-    add-word
-    word-requires-2
-    gap-before-requires
-    within-requires
-    returns
-    returns-2
-    above-requires
-    add-p
-    sub-left
-    loop-less
-    loop-again
-    tried-requires
-    returns-3)
+    tie.close (tie.spec Inv-loop μ-loop (λ c κs. search needs) (λ c κs. search needs) loop-holds word-requires add-word word-requires-2
+    gap-before-requires within-requires returns returns-2 (λ c κs. search needs) add-p (λ c. search needs) (λ c. search needs) loop-again
+    tried-requires returns-3)

@@ -4,17 +4,8 @@ use borrow.Author.Needs.{needs}
 use Rattle.fits.proofs.tried.Statement.{statement}
 use Rattle.fits.proofs.tried.Tie as tie
 
-sub-less : tie.Need-sub-less
-sub-less c = search needs
-
-sub-if1 : tie.Need-sub-if1
-sub-if1 c = search needs
-
 returns : tie.Need-returns
 returns c = let a = c .before in tried-short (a .args .best) (a .args .low) (a .args .high) (a .args .k) (a .pre) (c .if1 .taken)
-
-within-requires : tie.Need-within-requires
-within-requires c κs = search needs
 
 returns-2 : tie.Need-returns-2
 returns-2 c =
@@ -33,4 +24,5 @@ returns-3 c =
     (sym (at-within .within .ensures) ∙ c .if2 .left)
 
 pub tried-spec : {M : Type 1} → statement M
-tried-spec = tie.close (tie.spec sub-less sub-if1 returns within-requires returns-2 returns-3)
+tried-spec =
+    tie.close (tie.spec (λ c. search needs) (λ c. search needs) returns (λ c κs. search needs) returns-2 returns-3)

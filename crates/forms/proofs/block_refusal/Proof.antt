@@ -1,7 +1,11 @@
-use mathlib.Core.Path.{sym, _∙_, refl}
-use mathlib.Core.Bool.{true, false}
+use mathlib.Core.Path.{_≡_, sym, _∙_, refl}
+use mathlib.Core.Bool.{Bool}
+use Rattle.answers.specs.Answers.{at, applies}
+use Rattle.answers.specs.Steps.{FirstOf}
 use Rattle.blocks.proofs.Judging.{verdict-sound}
+use Rattle.verdicts.specs.Steps.{eachOf}
 use Rattle.verdicts.proofs.Two.{not-one}
+use Rattle.forms.specs.Calls.{blockRefusals}
 use Rattle.forms.proofs.Writing.{first-unsound, one-sound, second-unsound, both-sound}
 use Rattle.forms.proofs.block_refusal.Statement.{statement}
 use Rattle.forms.proofs.block_refusal.Tie as tie
@@ -46,27 +50,22 @@ share-number-requires c κs =
       rw two at (verdict-sound l (a .second .now) (sym (c .before .judge2 .ensures) ∙ c .if3 .left)),
     )
 
-returns-4 : tie.Need-returns-4
-returns-4 c =
-    let j = c .before .before .before .before .before .before .before in
+-- both blocks are sound: the refusal, by whether they share a number
+shared : (c : tie.After-share-number) {t : Bool} → c .share-number .result ≡ t
+    → let a = c .before .before .before .before .before .before .before .before .before .args in
+    FirstOf (blockRefusals (a .form) (eachOf (a .form) (a .first .now) (a .second .now))) (at 0 (applies t 14))
+shared c {t} e =
+    let j = c .before .before .before .before .before .before in
     let k = j .before .before .before in
-    let a = k .args in
-    let two = not-one _ _ (k .pre .shape) (c .before .before .before .before .if2 .left) in
-    both-sound (a .form .layout) (a .form .runs) (a .first .now) (a .second .now) (k .pre .shape) _ (j .judge .ensures)
-    (c .before .before .before .before .before .before .if1 .left)
-    (two .0) _ (c .before .before .before .judge2 .ensures) (c .before .before .if3 .left) (two .1) true (sym
-    (c .if4 .taken) ∙ c .before .share-number .ensures) 14 refl
+    let two = not-one _ _ (k .pre .shape) (c .before .before .before .if2 .left) in
+    both-sound _ _ _ _ (k .pre .shape) _ (j .judge .ensures) (c .before .before .before .before .before .if1 .left) (two .0) _
+    (c .before .before .judge2 .ensures) (c .before .if3 .left) (two .1) t (sym e ∙ c .share-number .ensures) _ refl
+
+returns-4 : tie.Need-returns-4
+returns-4 c = shared (c .before) (c .if4 .taken)
 
 returns-5 : tie.Need-returns-5
-returns-5 c =
-    let j = c .before .before .before .before .before .before .before in
-    let k = j .before .before .before in
-    let a = k .args in
-    let two = not-one _ _ (k .pre .shape) (c .before .before .before .before .if2 .left) in
-    both-sound (a .form .layout) (a .form .runs) (a .first .now) (a .second .now) (k .pre .shape) _ (j .judge .ensures)
-    (c .before .before .before .before .before .before .if1 .left)
-    (two .0) _ (c .before .before .before .judge2 .ensures) (c .before .before .if3 .left) (two .1) false (sym
-    (c .if4 .left) ∙ c .before .share-number .ensures) 0 refl
+returns-5 c = shared (c .before) (c .if4 .left)
 
 pub block-refusal-spec : {M : Type 1} → statement M
 block-refusal-spec =

@@ -6,21 +6,6 @@ use borrow.Author.Needs.{needs}
 use Rattle.host.proofs.wimblorque_set_judge_form.Statement.{statement}
 use Rattle.host.proofs.wimblorque_set_judge_form.Tie as tie
 
-judge-set-requires : tie.Need-judge-set-requires
-judge-set-requires c κs = search needs
-
-enum-known-n : tie.Need-enum-known-n
-enum-known-n c = search needs
-
-one-value-requires : tie.Need-one-value-requires
-one-value-requires c κs = search needs
-
-enum-known-number : tie.Need-enum-known-number
-enum-known-number c = search needs
-
-refused-requires : tie.Need-refused-requires
-refused-requires c κs = search needs
-
 returns : tie.Need-returns
 returns c =
     let j = c .before .before .before .before in
@@ -41,12 +26,5 @@ returns-2 c =
 
 pub wimblorque-set-judge-form-spec : {M : Type 1} → statement M
 wimblorque-set-judge-form-spec =
-    tie.close
-    (tie.spec
-    judge-set-requires
-    enum-known-n
-    one-value-requires
-    enum-known-number
-    refused-requires
-    returns
+    tie.close (tie.spec (λ c κs. search needs) (λ c. search needs) (λ c κs. search needs) (λ c. search needs) (λ c κs. search needs) returns
     returns-2)

@@ -3,19 +3,14 @@ use borrow.Author.Needs.{needs}
 use Rattle.maps.proofs.deciding_of.Statement.{statement}
 use Rattle.maps.proofs.deciding_of.Tie as tie
 
-entry-part-requires : tie.Need-entry-part-requires
-entry-part-requires c κs = search needs
-
 returns : tie.Need-returns
 returns c =
     site-decides (c .before .before .entry-part .ensures) (c .if1 .taken)
-
-entry-part-requires-2 : tie.Need-entry-part-requires-2
-entry-part-requires-2 c κs = search needs
 
 returns-2 : tie.Need-returns-2
 returns-2 c =
     factory-decides (c .before .before .before .entry-part .ensures) (c .before .if1 .left) (c .entry-part2 .ensures)
 
 pub deciding-of-spec : {M : Type 1} → statement M
-deciding-of-spec = tie.close (tie.spec entry-part-requires returns entry-part-requires-2 returns-2)
+deciding-of-spec =
+    tie.close (tie.spec (λ c κs. search needs) returns (λ c κs. search needs) returns-2)

@@ -18,9 +18,6 @@ use Rattle.maps.proofs.domain.Tie as tie
 from-one-requires : tie.Need-from-one-requires
 from-one-requires c κs = domain-fit
 
-same-length : tie.Need-same-length
-same-length c = search needs
-
 returns : tie.Need-returns
 unfolding domainCall
 returns c =
@@ -33,4 +30,5 @@ returns c =
     (bounded width (now (start .args .map)) (λ j. omega (arith, at-shared-slice-known .shared-slice-known .given j))))
 
 pub domain-spec : {M : Type 1} → statement M
-domain-spec = tie.close (tie.spec from-one-requires same-length returns)
+domain-spec =
+    tie.close (tie.spec from-one-requires (λ c. search needs) returns)

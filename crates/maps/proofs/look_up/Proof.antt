@@ -7,12 +7,6 @@ use borrow.Author.Needs.{needs}
 use Rattle.maps.proofs.look_up.Statement.{statement}
 use Rattle.maps.proofs.look_up.Tie as tie
 
-judge-requires : tie.Need-judge-requires
-judge-requires c κs = search needs
-
-refusal-of-requires : tie.Need-refusal-of-requires
-refusal-of-requires c κs = search needs
-
 returns : tie.Need-returns
 returns c =
     let at-if1 = c .before in
@@ -34,4 +28,4 @@ returns-2 c =
 
 pub look-up-spec : {M : Type 1} → statement M
 look-up-spec =
-    tie.close (tie.spec judge-requires refusal-of-requires returns value-in-requires returns-2)
+    tie.close (tie.spec (λ c κs. search needs) (λ c κs. search needs) returns value-in-requires returns-2)

@@ -18,9 +18,6 @@ use Rattle.maps.proofs.overlay.Tie as tie
 from-two-requires : tie.Need-from-two-requires
 from-two-requires c κs = overlay-fit
 
-same-length : tie.Need-same-length
-same-length c = search needs
-
 returns : tie.Need-returns
 unfolding overlayCall
 returns c =
@@ -36,4 +33,5 @@ returns c =
     (entries-shaped mapLayout (now (start .args .upper)) (omega arith) p) (entries-shaped mapLayout (now (start .args .lower)) (omega arith) q))
 
 pub overlay-spec : {M : Type 1} → statement M
-overlay-spec = tie.close (tie.spec from-two-requires same-length returns)
+overlay-spec =
+    tie.close (tie.spec from-two-requires (λ c. search needs) returns)

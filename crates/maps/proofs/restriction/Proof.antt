@@ -18,9 +18,6 @@ use Rattle.maps.proofs.restriction.Tie as tie
 from-two-requires : tie.Need-from-two-requires
 from-two-requires c κs = restriction-fit
 
-same-length : tie.Need-same-length
-same-length c = search needs
-
 returns : tie.Need-returns
 unfolding restrictionCall
 returns c =
@@ -36,4 +33,5 @@ returns c =
     (entries-shaped mapLayout (now (start .args .map)) (omega arith) p))
 
 pub restriction-spec : {M : Type 1} → statement M
-restriction-spec = tie.close (tie.spec from-two-requires same-length returns)
+restriction-spec =
+    tie.close (tie.spec from-two-requires (λ c. search needs) returns)

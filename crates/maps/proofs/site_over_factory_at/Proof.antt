@@ -9,12 +9,6 @@ use borrow.Author.Needs.{needs}
 use Rattle.maps.proofs.site_over_factory_at.Statement.{statement}
 use Rattle.maps.proofs.site_over_factory_at.Tie as tie
 
-judge-two-requires : tie.Need-judge-two-requires
-judge-two-requires c κs = search needs
-
-refusal-of-requires : tie.Need-refusal-of-requires
-refusal-of-requires c κs = search needs
-
 returns : tie.Need-returns
 unfolding siteOverFactoryAtCall
 returns c =
@@ -50,11 +44,4 @@ returns-3 c =
 
 pub site-over-factory-at-spec : {M : Type 1} → statement M
 site-over-factory-at-spec =
-    tie.close
-    (tie.spec
-    judge-two-requires
-    refusal-of-requires
-    returns
-    deciding-of-requires
-    returns-2
-    returns-3)
+    tie.close (tie.spec (λ c κs. search needs) (λ c κs. search needs) returns deciding-of-requires returns-2 returns-3)

@@ -6,12 +6,6 @@ use borrow.Author.Needs.{needs}
 use Rattle.maps.proofs.site_over_factory_refusal.Statement.{statement}
 use Rattle.maps.proofs.site_over_factory_refusal.Tie as tie
 
-judge-two-requires : tie.Need-judge-two-requires
-judge-two-requires c κs = search needs
-
-judged-of-requires : tie.Need-judged-of-requires
-judged-of-requires c κs = search needs
-
 returns : tie.Need-returns
 unfolding siteRefusalCall
 returns c =
@@ -21,4 +15,5 @@ returns c =
     (at-judge-two .judge-two .ensures) [] (c .judged-of .result) (c .judged-of .ensures)
 
 pub site-over-factory-refusal-spec : {M : Type 1} → statement M
-site-over-factory-refusal-spec = tie.close (tie.spec judge-two-requires judged-of-requires returns)
+site-over-factory-refusal-spec =
+    tie.close (tie.spec (λ c κs. search needs) (λ c κs. search needs) returns)

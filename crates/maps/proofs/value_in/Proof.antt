@@ -4,15 +4,9 @@ use borrow.Author.Needs.{needs}
 use Rattle.maps.proofs.value_in.Statement.{statement}
 use Rattle.maps.proofs.value_in.Tie as tie
 
-entry-part-requires : tie.Need-entry-part-requires
-entry-part-requires c κs = search needs
-
 returns : tie.Need-returns
 returns c =
     value-none (c .before .before .entry-part .ensures) (c .if1 .taken)
-
-add-word : tie.Need-add-word
-add-word c = search needs
 
 word-requires : tie.Need-word-requires
 word-requires c κs =
@@ -23,4 +17,5 @@ returns-2 c =
     value-is (c .before .before .before .before .entry-part .ensures) (c .before .before .if1 .left) (c .word .result) (c .word .ensures)
 
 pub value-in-spec : {M : Type 1} → statement M
-value-in-spec = tie.close (tie.spec entry-part-requires returns add-word word-requires returns-2)
+value-in-spec =
+    tie.close (tie.spec (λ c κs. search needs) returns (λ c. search needs) word-requires returns-2)

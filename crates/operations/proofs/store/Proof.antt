@@ -10,9 +10,6 @@ use borrow.Author.Needs.{needs}
 use Rattle.operations.proofs.store.Statement.{statement}
 use Rattle.operations.proofs.store.Tie as tie
 
-room-for-requires : tie.Need-room-for-requires
-room-for-requires c κs = search needs
-
 fits-requires : tie.Need-fits-requires
 fits-requires c κs =
     let start = c .before .before .before .before .before in
@@ -28,9 +25,6 @@ write-requires c κs =
     (length (resultOf (start .args .plan) (now (start .args .a)) (now (start .args .b)) (now (start .args .c)))) (at-room-for .room-for .ensures)
     (start .pre .1 .1 .2) (leb-true _ _ (sym (at-fits2 .fits2 .ensures) ∙ at-if1 .if1 .taken)) in
     (start .pre .0, (start .pre .1 .0, room))
-
-same-length : tie.Need-same-length
-same-length c = search needs
 
 returns : tie.Need-returns
 returns c =
@@ -55,5 +49,4 @@ returns-2 c =
 
 pub store-spec : {M : Type 1} → statement M
 store-spec =
-    tie.close
-    (tie.spec room-for-requires fits-requires write-requires same-length returns returns-2)
+    tie.close (tie.spec (λ c κs. search needs) fits-requires write-requires (λ c. search needs) returns returns-2)

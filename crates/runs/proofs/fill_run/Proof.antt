@@ -14,9 +14,6 @@ fill-records-requires c κs =
     let start = c .before .before .before .before in
     subst (λ (s : ℕ). Fills s (start .args .n) (now (start .args .bytes)) (now (start .args .out))) (c .before .if1 .taken) (start .pre)
 
-same-length : tie.Need-same-length
-same-length c = search needs
-
 returns : tie.Need-returns
 returns c =
     let start = c .before .before .before .before .before .before .before in
@@ -24,22 +21,6 @@ returns c =
     ∙ ap (λ (s : ℕ). over (wordsOf (entriesIn (start .args .kind) s (start .args .n) (now (start .args .bytes)))) (now (start .args .out)))
     (sym (c .before .before .before .before .if1 .taken))
 
-fill-records-requires-2 : tie.Need-fill-records-requires-2
-fill-records-requires-2 c κs = search needs
-
-same-length-2 : tie.Need-same-length-2
-same-length-2 c = search needs
-
-returns-2 : tie.Need-returns-2
-returns-2 c = search needs
-
 pub fill-run-spec : {M : Type 1} → statement M
 fill-run-spec =
-    tie.close
-    (tie.spec
-    fill-records-requires
-    same-length
-    returns
-    fill-records-requires-2
-    same-length-2
-    returns-2)
+    tie.close (tie.spec fill-records-requires (λ c. search needs) returns (λ c κs. search needs) (λ c. search needs) (λ c. search needs))

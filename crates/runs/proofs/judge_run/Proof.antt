@@ -31,9 +31,6 @@ loop-holds c = (search needs, λ r f. f, refl)
 read-item-requires : tie.Need-read-item-requires Inv-loop μ-loop
 read-item-requires c κs = c .before .before .before .before .pre .0
 
-enum-told : tie.Need-enum-told Inv-loop μ-loop
-enum-told c = search needs
-
 returns : tie.Need-returns Inv-loop μ-loop
 returns c =
     let r = c .before .before .before in
@@ -89,6 +86,5 @@ returns-2 c =
 
 pub judge-run-spec : {M : Type 1} → statement M
 judge-run-spec =
-    tie.close
-    (tie.spec Inv-loop μ-loop loop-holds (λ c. search needs) (λ c. search needs) (λ c. search needs) read-item-requires (λ c. search needs) enum-told
-    (λ c κs. search needs) returns mul-p add-p add-p-2 (λ c. search needs) (λ c. search needs) loop-again returns-2)
+    tie.close (tie.spec Inv-loop μ-loop loop-holds (λ c. search needs) (λ c. search needs) (λ c. search needs) read-item-requires (λ c. search needs)
+    (λ c. search needs) (λ c κs. search needs) returns mul-p add-p add-p-2 (λ c. search needs) (λ c. search needs) loop-again returns-2)

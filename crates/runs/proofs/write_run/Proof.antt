@@ -14,9 +14,6 @@ write-records-requires c κs =
     let start = c .before .before .before .before in
     subst (λ (s : ℕ). Fills s (start .args .n) (now (start .args .bytes)) (now (start .args .words))) (c .before .if1 .taken) (start .pre)
 
-same-length : tie.Need-same-length
-same-length c = search needs
-
 returns : tie.Need-returns
 returns c =
     let start = c .before .before .before .before .before .before .before in
@@ -24,22 +21,6 @@ returns c =
     ∙ ap (λ (s : ℕ). over (runOf (start .args .mark) (start .args .kind) (itemsOf s (start .args .n) (now (start .args .words)))) (now (start .args .bytes)))
     (sym (c .before .before .before .before .if1 .taken))
 
-write-records-requires-2 : tie.Need-write-records-requires-2
-write-records-requires-2 c κs = search needs
-
-same-length-2 : tie.Need-same-length-2
-same-length-2 c = search needs
-
-returns-2 : tie.Need-returns-2
-returns-2 c = search needs
-
 pub write-run-spec : {M : Type 1} → statement M
 write-run-spec =
-    tie.close
-    (tie.spec
-    write-records-requires
-    same-length
-    returns
-    write-records-requires-2
-    same-length-2
-    returns-2)
+    tie.close (tie.spec write-records-requires (λ c. search needs) returns (λ c κs. search needs) (λ c. search needs) (λ c. search needs))

@@ -35,12 +35,6 @@ word-requires c κs =
     let start = at-loop .before .before in
     omega (arith, item-in (start .args .s) (at-loop .loop .i) (start .args .n) (c .loop-test .taken), start .pre .held)
 
-add-i : tie.Need-add-i Inv-loop μ-loop
-add-i c = search needs
-
-loop-less : tie.Need-loop-less Inv-loop μ-loop
-loop-less c = search needs
-
 loop-again : tie.Need-loop-again Inv-loop μ-loop
 loop-again c = (search needs, below-more _ _ (c .before .before .before .loop .inv .1) (omega arith))
 
@@ -52,16 +46,5 @@ returns-2 c = record { within = omega arith; before = c .before .loop .inv .1; f
 
 pub first-from-spec : {M : Type 1} → statement M
 first-from-spec =
-    tie.close
-    (tie.spec
-    Inv-loop
-    μ-loop
-    loop-holds
-    mul-word
-    add-word
-    word-requires
-    add-i
-    loop-less
-    loop-again
-    returns
+    tie.close (tie.spec Inv-loop μ-loop loop-holds mul-word add-word word-requires (λ c. search needs) (λ c. search needs) loop-again returns
     returns-2)

@@ -15,14 +15,6 @@ returns c =
       from = λ h. absurd (omega arith);
     }
 
-add-first-from : tie.Need-add-first-from
-add-first-from c = search needs
-
-first-from-requires : tie.Need-first-from-requires
-first-from-requires c κs = search needs
-
-returns-2 : tie.Need-returns-2
-returns-2 c = search needs
-
 pub first-past-spec : {M : Type 1} → statement M
-first-past-spec = tie.close (tie.spec returns add-first-from first-from-requires returns-2)
+first-past-spec =
+    tie.close (tie.spec returns (λ c. search needs) (λ c κs. search needs) (λ c. search needs))

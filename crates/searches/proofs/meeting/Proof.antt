@@ -7,24 +7,6 @@ use borrow.Author.Needs.{needs}
 use Rattle.searches.proofs.meeting.Statement.{statement}
 use Rattle.searches.proofs.meeting.Tie as tie
 
-part-at-requires : tie.Need-part-at-requires
-part-at-requires c κs = search needs
-
-add-to : tie.Need-add-to
-add-to c = search needs
-
-mul-result : tie.Need-mul-result
-mul-result c = search needs
-
-sub-result : tie.Need-sub-result
-sub-result c = search needs
-
-part-result-start : tie.Need-part-result-start
-part-result-start c = search needs
-
-part-result-end : tie.Need-part-result-end
-part-result-end c = search needs
-
 returns : tie.Need-returns
 returns c =
     let at-part-at = c .before .before in
@@ -39,12 +21,5 @@ returns c =
 
 pub meeting-spec : {M : Type 1} → statement M
 meeting-spec =
-    tie.close
-    (tie.spec
-    part-at-requires
-    add-to
-    mul-result
-    sub-result
-    part-result-start
-    part-result-end
+    tie.close (tie.spec (λ c κs. search needs) (λ c. search needs) (λ c. search needs) (λ c. search needs) (λ c. search needs) (λ c. search needs)
     returns)

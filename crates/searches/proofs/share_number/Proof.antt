@@ -19,12 +19,6 @@ Inv-loop a b i₀ left₀ j₀ others₀ i left j others =
 abbrev μ-loop : tie.MeasureT-loop
 μ-loop a b i₀ left₀ j₀ others₀ i left j others = left + others
 
-count-of-requires : tie.Need-count-of-requires Inv-loop μ-loop
-count-of-requires c κs = search needs
-
-count-of-requires-2 : tie.Need-count-of-requires-2 Inv-loop μ-loop
-count-of-requires-2 c κs = search needs
-
 loop-holds : tie.Need-loop-holds Inv-loop μ-loop
 loop-holds c =
     let at-count-of = c .before in
@@ -48,82 +42,26 @@ returns c =
     let start = at-loop .before .before .before .before .before in
     no-others (in-words (now (start .args .a))) (in-words (now (start .args .b))) (at-loop .loop .inv .2) (c .if1 .taken)
 
-add-word : tie.Need-add-word Inv-loop μ-loop
-add-word c = search needs
-
-word-requires : tie.Need-word-requires Inv-loop μ-loop
-word-requires c κs = search needs
-
-word-requires-2 : tie.Need-word-requires-2 Inv-loop μ-loop
-word-requires-2 c κs = search needs
-
-add-word-2 : tie.Need-add-word-2 Inv-loop μ-loop
-add-word-2 c = search needs
-
-word-requires-3 : tie.Need-word-requires-3 Inv-loop μ-loop
-word-requires-3 c κs = search needs
-
-word-requires-4 : tie.Need-word-requires-4 Inv-loop μ-loop
-word-requires-4 c κs = search needs
-
 returns-2 : tie.Need-returns-2 Inv-loop μ-loop
 returns-2 c =
-    let at-word4 = c .before in
-    let at-word3 = at-word4 .before in
-    let at-word2 = at-word3 .before in
+    let at-word2 = c .before .before .before in
     let at-word = at-word2 .before in
     let at-if1 = at-word .before in
-    let at-loop-test = at-if1 .before in
-    let at-loop = at-loop-test .before in
-    let start = at-loop .before .before .before .before .before in
-    let l = at-loop .loop in
-    met (in-words (now (start .args .a))) (in-words (now (start .args .b))) (l .inv .2) (omega (arith, at-loop-test .loop-test .taken))
-    (omega (arith, at-if1 .if1 .left)) (ltb (at-word .word .result) (at-word2 .word2 .result))
-    (ltb (at-word3 .word3 .result) (at-word4 .word4 .result)) (ap₂ ltb (at-word .word .ensures) (at-word2 .word2 .ensures))
-    (ap₂ ltb (at-word3 .word3 .ensures) (at-word4 .word4 .ensures))
-    (same-answer (ltb (at-word .word .result) (at-word2 .word2 .result)) (ltb (at-word3 .word3 .result) (at-word4 .word4 .result)) (c .if2 .taken))
-
-add-chosen : tie.Need-add-chosen Inv-loop μ-loop
-add-chosen c = search needs
-
-chosen-requires : tie.Need-chosen-requires Inv-loop μ-loop
-chosen-requires c κs = search needs
-
-sub-chosen : tie.Need-sub-chosen Inv-loop μ-loop
-sub-chosen c = search needs
-
-chosen-requires-2 : tie.Need-chosen-requires-2 Inv-loop μ-loop
-chosen-requires-2 c κs = search needs
-
-add-chosen-2 : tie.Need-add-chosen-2 Inv-loop μ-loop
-add-chosen-2 c = search needs
-
-chosen-requires-3 : tie.Need-chosen-requires-3 Inv-loop μ-loop
-chosen-requires-3 c κs = search needs
-
-sub-chosen-2 : tie.Need-sub-chosen-2 Inv-loop μ-loop
-sub-chosen-2 c = search needs
-
-chosen-requires-4 : tie.Need-chosen-requires-4 Inv-loop μ-loop
-chosen-requires-4 c κs = search needs
+    met _ _ (at-if1 .before .before .loop .inv .2) (omega (arith, at-if1 .before .loop-test .taken)) (omega (arith, at-if1 .if1 .left)) _ _
+    (ap₂ ltb (at-word .word .ensures) (at-word2 .word2 .ensures)) (ap₂ ltb (c .before .before .word3 .ensures) (c .before .word4 .ensures))
+    (same-answer _ _ (c .if2 .taken))
 
 loop-less : tie.Need-loop-less Inv-loop μ-loop
 loop-less c =
     let at-chosen2 = c .before .before in
     let at-if2 = at-chosen2 .before .before in
-    let at-word4 = at-if2 .before in
-    let at-word3 = at-word4 .before in
-    let at-word2 = at-word3 .before in
-    let at-word = at-word2 .before in
+    let at-word3 = at-if2 .before .before in
+    let at-word = at-word3 .before .before in
     let at-if1 = at-word .before in
-    let at-loop-test = at-if1 .before in
-    let at-loop = at-loop-test .before in
-    let l = at-loop .loop in
-    walks-on (ltb (at-word .word .result) (at-word2 .word2 .result)) (ltb (at-word3 .word3 .result) (at-word4 .word4 .result)) (l .left) (l .others)
-    (at-chosen2 .chosen2 .result) (c .chosen4 .result)
-    (other-answer (ltb (at-word .word .result) (at-word2 .word2 .result)) (ltb (at-word3 .word3 .result) (at-word4 .word4 .result))
-    (at-if2 .if2 .left)) (omega (arith, at-loop-test .loop-test .taken)) (omega (arith, at-if1 .if1 .left)) (at-chosen2 .chosen2 .ensures)
-    (c .chosen4 .ensures)
+    let t = ltb (at-word .word .result) (at-word3 .before .word2 .result) in
+    let u = ltb (at-word3 .word3 .result) (at-if2 .before .word4 .result) in
+    walks-on t u _ _ _ _ (other-answer t u (at-if2 .if2 .left)) (omega (arith, at-if1 .before .loop-test .taken)) (omega (arith, at-if1 .if1 .left))
+    (at-chosen2 .chosen2 .ensures) (c .chosen4 .ensures)
 
 loop-again : tie.Need-loop-again Inv-loop μ-loop
 loop-again c =
@@ -131,27 +69,17 @@ loop-again c =
     let at-chosen2 = at-chosen3 .before in
     let at-chosen = at-chosen2 .before in
     let at-if2 = at-chosen .before in
-    let at-word4 = at-if2 .before in
-    let at-word3 = at-word4 .before in
-    let at-word2 = at-word3 .before in
-    let at-word = at-word2 .before in
+    let at-word3 = at-if2 .before .before in
+    let at-word = at-word3 .before .before in
     let at-if1 = at-word .before in
-    let at-loop-test = at-if1 .before in
-    let at-loop = at-loop-test .before in
-    let start = at-loop .before .before .before .before .before in
-    let l = at-loop .loop in (
-      walks-within (ltb (at-word .word .result) (at-word2 .word2 .result)) (l .i) (l .left) (length (now (start .args .a)))
-          (at-chosen .chosen .result) (at-chosen2 .chosen2 .result) (omega (arith, at-loop-test .loop-test .taken)) (l .inv .0)
-          (at-chosen .chosen .ensures) (at-chosen2 .chosen2 .ensures),
-      walks-within (ltb (at-word3 .word3 .result) (at-word4 .word4 .result)) (l .j)
-          (l .others) (length (now (start .args .b))) (at-chosen3 .chosen3 .result) (c .chosen4 .result) (omega (arith, at-if1 .if1 .left)) (l .inv .1)
-          (at-chosen3 .chosen3 .ensures) (c .chosen4 .ensures),
-      stepped (in-words (now (start .args .a))) (in-words (now (start .args .b))) (l .inv .2)
-          (omega (arith, at-loop-test .loop-test .taken)) (omega (arith, at-if1 .if1 .left)) (ltb (at-word .word .result) (at-word2 .word2 .result))
-          (ltb (at-word3 .word3 .result) (at-word4 .word4 .result)) (ap₂ ltb (at-word .word .ensures) (at-word2 .word2 .ensures))
-          (ap₂ ltb (at-word3 .word3 .ensures) (at-word4 .word4 .ensures))
-          (other-answer (ltb (at-word .word .result) (at-word2 .word2 .result)) (ltb (at-word3 .word3 .result) (at-word4 .word4 .result))
-          (at-if2 .if2 .left)) (at-chosen .chosen .result) (at-chosen2 .chosen2 .result) (at-chosen3 .chosen3 .result) (c .chosen4 .result)
+    let inv = at-if1 .before .before .loop .inv in
+    let t = ltb (at-word .word .result) (at-word3 .before .word2 .result) in
+    let u = ltb (at-word3 .word3 .result) (at-if2 .before .word4 .result) in (
+      walks-within t _ _ _ _ _ (omega (arith, at-if1 .before .loop-test .taken)) (inv .0) (at-chosen .chosen .ensures) (at-chosen2 .chosen2 .ensures),
+      walks-within u _ _ _ _ _ (omega (arith, at-if1 .if1 .left)) (inv .1) (at-chosen3 .chosen3 .ensures) (c .chosen4 .ensures),
+      stepped _ _ (inv .2) (omega (arith, at-if1 .before .loop-test .taken)) (omega (arith, at-if1 .if1 .left)) t u
+          (ap₂ ltb (at-word .word .ensures) (at-word3 .before .word2 .ensures)) (ap₂ ltb (at-word3 .word3 .ensures) (at-if2 .before .word4 .ensures))
+          (other-answer t u (at-if2 .if2 .left)) _ _ _ _
           (at-chosen .chosen .ensures) (at-chosen2 .chosen2 .ensures) (at-chosen3 .chosen3 .ensures) (c .chosen4 .ensures),
     )
 
@@ -163,29 +91,7 @@ returns-3 c =
 
 pub share-number-spec : {M : Type 1} → statement M
 share-number-spec =
-    tie.close
-    (tie.spec
-    Inv-loop
-    μ-loop
-    count-of-requires
-    count-of-requires-2
-    loop-holds
-    returns
-    add-word
-    word-requires
-    word-requires-2
-    add-word-2
-    word-requires-3
-    word-requires-4
-    returns-2
-    add-chosen
-    chosen-requires
-    sub-chosen
-    chosen-requires-2
-    add-chosen-2
-    chosen-requires-3
-    sub-chosen-2
-    chosen-requires-4
-    loop-less
-    loop-again
-    returns-3)
+    tie.close (tie.spec Inv-loop μ-loop (λ c κs. search needs) (λ c κs. search needs) loop-holds returns (λ c. search needs) (λ c κs. search needs)
+    (λ c κs. search needs) (λ c. search needs) (λ c κs. search needs) (λ c κs. search needs) returns-2 (λ c. search needs) (λ c κs. search needs)
+    (λ c. search needs) (λ c κs. search needs) (λ c. search needs) (λ c κs. search needs) (λ c. search needs) (λ c κs. search needs) loop-less
+    loop-again returns-3)

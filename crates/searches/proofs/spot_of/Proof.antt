@@ -1,3 +1,6 @@
+use denote.Ref.{now}
+use Prim.Native.Nat.{_+_, _*_, _≤_}
+use lib.ListN.{length}
 use Rattle.searches.proofs.Finding.{highs}
 use Rattle.searches.proofs.Spots.{spot-end, item-held, spot-under, spot-in}
 use native.Mathlib.Omega.{arith}
@@ -5,83 +8,41 @@ use borrow.Author.Needs.{needs}
 use Rattle.searches.proofs.spot_of.Statement.{statement}
 use Rattle.searches.proofs.spot_of.Tie as tie
 
-count-of-requires : tie.Need-count-of-requires
-count-of-requires c κs = search needs
-
 first-from-requires : tie.Need-first-from-requires
-first-from-requires c κs = let a = c .before .before in highs (a .pre .0) (a .pre .1) (c .count-of .ensures)
+first-from-requires c κs = let p = c .before .before .pre in highs (p .0) (p .1) (c .count-of .ensures)
 
 returns : tie.Need-returns
 returns c =
-    let at-first-from = c .before in
-    let at-count-of = at-first-from .before in
-    let start = at-count-of .before .before in
-    spot-end (start .pre .0) (start .pre .1) (at-count-of .count-of .ensures) (at-first-from .first-from .ensures) (c .if1 .taken)
+    let at-count-of = c .before .before in
+    let p = at-count-of .before .before .pre in
+    spot-end (p .0) (p .1) (at-count-of .count-of .ensures) (c .before .first-from .ensures) (c .if1 .taken)
 
-mul-word : tie.Need-mul-word
-mul-word c =
-    let at-if1 = c .before in
-    let at-first-from = at-if1 .before in
-    let at-count-of = at-first-from .before in
-    let start = at-count-of .before .before in
-    record {
-      fits = omega
-          (arith, item-held (start .pre .0) (start .pre .1) (at-count-of .count-of .ensures) (at-first-from .first-from .ensures) (at-if1 .if1 .left));
-    }
-
-add-word : tie.Need-add-word
-add-word c =
-    let at-if1 = c .before in
-    let at-first-from = at-if1 .before in
-    let at-count-of = at-first-from .before in
-    let start = at-count-of .before .before in
-    record {
-      fits = omega
-          (arith, item-held (start .pre .0) (start .pre .1) (at-count-of .count-of .ensures) (at-first-from .first-from .ensures) (at-if1 .if1 .left));
-    }
-
-word-requires : tie.Need-word-requires
-word-requires c κs =
-    let at-if1 = c .before in
-    let at-first-from = at-if1 .before in
-    let at-count-of = at-first-from .before in
-    let start = at-count-of .before .before in
-    omega (
-      arith,
-      start .pre .0,
-      item-held (start .pre .0) (start .pre .1) (at-count-of .count-of .ensures) (at-first-from .first-from .ensures)
-          (at-if1 .if1 .left),
-    )
+-- the item that was found stands in the block
+item : (c : tie.Else1) → let a = c .before .before .before .before .args in
+    a .layout .width * c .before .first-from .result + 1 + a .layout .width ≤ length (now (a .block))
+item c =
+    let at-count-of = c .before .before in
+    let p = at-count-of .before .before .pre in
+    item-held (p .0) (p .1) (at-count-of .count-of .ensures) (c .before .first-from .ensures) (c .if1 .left)
 
 returns-2 : tie.Need-returns-2
 returns-2 c =
     let at-word = c .before in
     let at-if1 = at-word .before .before in
-    let at-first-from = at-if1 .before in
-    let at-count-of = at-first-from .before in
-    let start = at-count-of .before .before in
-    spot-under (start .pre .0) (start .pre .1) (at-count-of .count-of .ensures) (at-first-from .first-from .ensures) (at-if1 .if1 .left)
-    (at-word .word .result) (at-word .word .ensures) (c .if2 .taken)
+    let p = at-if1 .before .before .before .before .pre in
+    spot-under (p .0) (p .1) (at-if1 .before .before .count-of .ensures) (at-if1 .before .first-from .ensures) (at-if1 .if1 .left) _ (at-word .word .ensures)
+    (c .if2 .taken)
 
 returns-3 : tie.Need-returns-3
 returns-3 c =
     let at-word = c .before in
     let at-if1 = at-word .before .before in
-    let at-first-from = at-if1 .before in
-    let at-count-of = at-first-from .before in
-    let start = at-count-of .before .before in
-    spot-in (start .pre .0) (start .pre .1) (at-count-of .count-of .ensures) (at-first-from .first-from .ensures) (at-if1 .if1 .left)
-    (at-word .word .result) (at-word .word .ensures) (c .if2 .left)
+    let p = at-if1 .before .before .before .before .pre in
+    spot-in (p .0) (p .1) (at-if1 .before .before .count-of .ensures) (at-if1 .before .first-from .ensures) (at-if1 .if1 .left) _ (at-word .word .ensures)
+    (c .if2 .left)
 
 pub spot-of-spec : {M : Type 1} → statement M
 spot-of-spec =
-    tie.close
-    (tie.spec
-    count-of-requires
-    first-from-requires
-    returns
-    mul-word
-    add-word
-    word-requires
-    returns-2
-    returns-3)
+    tie.close (tie.spec (λ c κs. search needs) first-from-requires returns (λ c. record { fits = omega (arith, item (c .before)) })
+    (λ c. record { fits = omega (arith, item (c .before)) })
+    (λ c κs. omega (arith, c .before .before .before .before .before .pre .0, item (c .before))) returns-2 returns-3)

@@ -10,18 +10,6 @@ use borrow.Author.Needs.{needs}
 use Rattle.searches.proofs.window.Statement.{statement}
 use Rattle.searches.proofs.window.Tie as tie
 
-window-verdict-requires : tie.Need-window-verdict-requires
-window-verdict-requires c κs = search needs
-
-sub-result : tie.Need-sub-result
-sub-result c = search needs
-
-part-result-start : tie.Need-part-result-start
-part-result-start c = search needs
-
-part-result-end : tie.Need-part-result-end
-part-result-end c = search needs
-
 returns : tie.Need-returns
 unfolding windowCall
 returns c =
@@ -52,12 +40,4 @@ returns-2 c =
 
 pub window-spec : {M : Type 1} → statement M
 window-spec =
-    tie.close
-    (tie.spec
-    window-verdict-requires
-    sub-result
-    part-result-start
-    part-result-end
-    returns
-    meeting-requires
-    returns-2)
+    tie.close (tie.spec (λ c κs. search needs) (λ c. search needs) (λ c. search needs) (λ c. search needs) returns meeting-requires returns-2)

@@ -9,12 +9,6 @@ use borrow.Author.Needs.{needs}
 use Rattle.searches.proofs.window_at.Statement.{statement}
 use Rattle.searches.proofs.window_at.Tie as tie
 
-window-verdict-requires : tie.Need-window-verdict-requires
-window-verdict-requires c κs = search needs
-
-refusal-of-requires : tie.Need-refusal-of-requires
-refusal-of-requires c κs = search needs
-
 returns : tie.Need-returns
 unfolding windowAtCall
 returns c =
@@ -51,11 +45,4 @@ returns-3 c =
 
 pub window-at-spec : {M : Type 1} → statement M
 window-at-spec =
-    tie.close
-    (tie.spec
-    window-verdict-requires
-    refusal-of-requires
-    returns
-    part-at-requires
-    returns-2
-    returns-3)
+    tie.close (tie.spec (λ c κs. search needs) (λ c κs. search needs) returns part-at-requires returns-2 returns-3)

@@ -7,12 +7,6 @@ use borrow.Author.Needs.{needs}
 use Rattle.searches.proofs.window_refusal.Statement.{statement}
 use Rattle.searches.proofs.window_refusal.Tie as tie
 
-window-verdict-requires : tie.Need-window-verdict-requires
-window-verdict-requires c κs = search needs
-
-judged-of-requires : tie.Need-judged-of-requires
-judged-of-requires c κs = search needs
-
 returns : tie.Need-returns
 unfolding windowRefusalCall
 returns c =
@@ -22,4 +16,5 @@ returns c =
     (at 0 (at-window-verdict .window-verdict .result)) (at-window-verdict .window-verdict .ensures) [] (c .judged-of .result) (c .judged-of .ensures)
 
 pub window-refusal-spec : {M : Type 1} → statement M
-window-refusal-spec = tie.close (tie.spec window-verdict-requires judged-of-requires returns)
+window-refusal-spec =
+    tie.close (tie.spec (λ c κs. search needs) (λ c κs. search needs) returns)

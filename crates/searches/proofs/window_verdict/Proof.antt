@@ -4,9 +4,6 @@ use borrow.Author.Needs.{needs}
 use Rattle.searches.proofs.window_verdict.Statement.{statement}
 use Rattle.searches.proofs.window_verdict.Tie as tie
 
-judge-requires : tie.Need-judge-requires
-judge-requires c κs = search needs
-
 returns : tie.Need-returns
 returns c =
     let at-judge = c .before in
@@ -30,4 +27,5 @@ returns-3 c =
     (c .if2 .left)
 
 pub window-verdict-spec : {M : Type 1} → statement M
-window-verdict-spec = tie.close (tie.spec judge-requires returns returns-2 returns-3)
+window-verdict-spec =
+    tie.close (tie.spec (λ c κs. search needs) returns returns-2 returns-3)

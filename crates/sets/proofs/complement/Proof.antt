@@ -16,9 +16,6 @@ use Rattle.sets.proofs.complement.Tie as tie
 from-one-requires : tie.Need-from-one-requires
 from-one-requires c κs = complement-fit
 
-same-length : tie.Need-same-length
-same-length c = search needs
-
 returns : tie.Need-returns
 unfolding complementCall
 returns c =
@@ -28,4 +25,5 @@ returns c =
     (now (start .args .out)) (complement-table (entriesOf 2 (now (start .args .set))))
 
 pub complement-spec : {M : Type 1} → statement M
-complement-spec = tie.close (tie.spec from-one-requires same-length returns)
+complement-spec =
+    tie.close (tie.spec from-one-requires (λ c. search needs) returns)

@@ -1,35 +1,20 @@
 use denote.Ref.{now}
-use mathlib.Core.Path.{_∙_, ap}
-use mathlib.Core.List.{List, []}
-use Rattle.entries.specs.Entries.{Entry}
-use Rattle.entries.specs.Sets.{symmetricDifference}
-use Rattle.entries.specs.Questions.{isEmpty}
-use Rattle.answers.specs.Answers.{truth}
-use Rattle.blocks.specs.Blocks.{entriesOf}
-use Rattle.sweeps.specs.Sweeps.{result, justOne}
-use Rattle.sweeps.proofs.Tables.{symmetric-table, bounded}
+use mathlib.Core.Path.{_∙_}
+use Rattle.sweeps.specs.Sweeps.{justOne}
+use Rattle.sweeps.proofs.Tables.{symmetric-table}
 use Rattle.sets.specs.Calls.{equalCall}
-use Rattle.sets.proofs.Operating.{two-same}
+use Rattle.sets.proofs.Operating.{asked-as}
 use native.Mathlib.Omega.{arith}
 use borrow.Author.Needs.{needs}
 use Rattle.sets.proofs.equal.Statement.{statement}
 use Rattle.sets.proofs.equal.Tie as tie
 
-keeps-none-requires : tie.Need-keeps-none-requires
-keeps-none-requires c κs = search needs
-
 returns : tie.Need-returns
 unfolding equalCall
 returns c =
-    let at-shared-slice-known2 = c .before in
-    let at-shared-slice-known = at-shared-slice-known2 .before in
-    let start = at-shared-slice-known .before in
-    c .keeps-none .ensures ∙ two-same (now (start .args .a)) (now (start .args .b))
-    (λ (es fs : List Entry). truth (isEmpty (result justOne 2 es fs []))) (λ (es fs : List Entry). truth (isEmpty (symmetricDifference es fs)))
-    (ap (λ (l : List Entry). truth (isEmpty l))
-    (symmetric-table (entriesOf 2 (now (start .args .a))) (entriesOf 2 (now (start .args .b)))
-    (bounded 2 (now (start .args .a)) (λ j. omega (arith, at-shared-slice-known .shared-slice-known .given j)))
-    (bounded 2 (now (start .args .b)) (λ j. omega (arith, at-shared-slice-known2 .shared-slice-known2 .given j)))))
+    let first = c .before .before in
+    c .keeps-none .ensures ∙ asked-as justOne symmetric-table (now (first .before .args .a)) (now (first .before .args .b))
+    (λ j. omega (arith, first .shared-slice-known .given j)) (λ j. omega (arith, c .before .shared-slice-known2 .given j))
 
 pub equal-spec : {M : Type 1} → statement M
-equal-spec = tie.close (tie.spec keeps-none-requires returns)
+equal-spec = tie.close (tie.spec (λ c κs. search needs) returns)

@@ -1,9 +1,10 @@
 use denote.Ref.{now}
 use mathlib.Core.Path.{refl, sym, _∙_}
 use mathlib.Core.List.{List, []}
+use Prim.Native.Nat.{ℕ}
 use Rattle.entries.specs.Entries.{Entry}
 use Rattle.entries.specs.Questions.{isEmpty}
-use Rattle.answers.specs.Answers.{truth}
+use Rattle.answers.specs.Answers.{Answer, truth}
 use Rattle.blocks.specs.Blocks.{entriesOf, setLayout}
 use Rattle.blocks.proofs.Judging.{verdict-sound}
 use Rattle.sweeps.specs.Sweeps.{result}
@@ -14,92 +15,57 @@ use borrow.Author.Needs.{needs}
 use Rattle.sets.proofs.keeps_none.Statement.{statement}
 use Rattle.sets.proofs.keeps_none.Tie as tie
 
-judge-requires : tie.Need-judge-requires
-judge-requires c κs = search needs
-
-refusal-of-requires : tie.Need-refusal-of-requires
-refusal-of-requires c κs = search needs
+-- the answer: whether the table keeps nothing
+abbrev none-kept : ℕ → List Entry → List Entry → Answer
+none-kept t es fs = truth (isEmpty (result t 2 es fs []))
 
 returns : tie.Need-returns
 returns c =
-    let at-if1 = c .before in
-    let at-judge = at-if1 .before in
-    let start = at-judge .before .before .before in
-    refuse-first (now (start .args .a)) (now (start .args .b)) (λ (es fs : List Entry). truth (isEmpty (result (start .args .table) 2 es fs [])))
-    (at-judge .judge .result) (at-judge .judge .ensures) (c .refusal-of .result) (at-if1 .if1 .taken) (c .refusal-of .ensures)
-
-judge-requires-2 : tie.Need-judge-requires-2
-judge-requires-2 c κs = search needs
-
-refusal-of-requires-2 : tie.Need-refusal-of-requires-2
-refusal-of-requires-2 c κs = search needs
+    let at-judge = c .before .before in
+    let a = at-judge .before .before .before .args in
+    refuse-first (now (a .a)) (now (a .b)) (none-kept (a .table)) _ (at-judge .judge .ensures) _ (c .before .if1 .taken) (c .refusal-of .ensures)
 
 returns-2 : tie.Need-returns-2
 returns-2 c =
-    let at-if2 = c .before in
-    let at-judge2 = at-if2 .before in
+    let at-judge2 = c .before .before in
     let at-if1 = at-judge2 .before in
-    let at-judge = at-if1 .before in
-    let start = at-judge .before .before .before in
-    refuse-second (now (start .args .a)) (now (start .args .b)) (λ (es fs : List Entry). truth (isEmpty (result (start .args .table) 2 es fs [])))
-    (at-judge .judge .result) (at-judge .judge .ensures) (at-if1 .if1 .left) (at-judge2 .judge2 .result) (at-judge2 .judge2 .ensures)
-    (c .refusal-of2 .result) (at-if2 .if2 .taken) (c .refusal-of2 .ensures)
+    let a = at-if1 .before .before .before .before .args in
+    refuse-second (now (a .a)) (now (a .b)) (none-kept (a .table)) _ (at-if1 .before .judge .ensures) (at-if1 .if1 .left) _ (at-judge2 .judge2 .ensures) _
+    (c .before .if2 .taken) (c .refusal-of2 .ensures)
 
 any-of-two-requires : tie.Need-any-of-two-requires
 any-of-two-requires c κs =
-    let at-judge2 = c .before in
-    let at-if1 = at-judge2 .before in
+    let at-if1 = c .before .before in
     let at-judge = at-if1 .before in
-    let at-shared-slice-known2 = at-judge .before in
-    let at-shared-slice-known = at-shared-slice-known2 .before in
-    let start = at-shared-slice-known .before in
+    let known = at-judge .before in
     record {
-      first = input (verdict-sound setLayout (now (start .args .a)) (sym (at-judge .judge .ensures) ∙ at-if1 .if1 .left)) (omega arith)
-          (omega arith) (λ j. omega (arith, at-shared-slice-known .shared-slice-known .given j));
-      second = input
-          (verdict-sound setLayout (now (start .args .b)) (sym (at-judge2 .judge2 .ensures) ∙ c .if2 .left)) (omega arith) (omega arith)
-          (λ j. omega (arith, at-shared-slice-known2 .shared-slice-known2 .given j));
+      first = input (verdict-sound setLayout _ (sym (at-judge .judge .ensures) ∙ at-if1 .if1 .left)) (omega arith) (omega arith)
+          (λ j. omega (arith, known .before .shared-slice-known .given j));
+      second = input (verdict-sound setLayout _ (sym (c .before .judge2 .ensures) ∙ c .if2 .left)) (omega arith) (omega arith)
+          (λ j. omega (arith, known .shared-slice-known2 .given j));
       third = refl;
-      fit = fit-set (start .args .table) 2 2 2 (omega arith)
-          (omega arith) (omega arith);
+      fit = fit-set _ 2 2 2 (omega arith) (omega arith) (omega arith);
     }
 
 returns-3 : tie.Need-returns-3
 returns-3 c =
-    let at-any-of-two = c .before in
-    let at-if2 = at-any-of-two .before in
-    let at-judge2 = at-if2 .before in
-    let at-if1 = at-judge2 .before in
-    let at-judge = at-if1 .before in
-    let start = at-judge .before .before .before in
-    give-two (now (start .args .a)) (now (start .args .b)) (λ (es fs : List Entry). truth (isEmpty (result (start .args .table) 2 es fs [])))
-    (at-judge .judge .result) (at-judge .judge .ensures) (at-if1 .if1 .left) (at-judge2 .judge2 .result) (at-judge2 .judge2 .ensures) _
-    (at-if2 .if2 .left) (empty-no (result (start .args .table) 2 (entriesOf 2 (now (start .args .a))) (entriesOf 2 (now (start .args .b))) [])
-    (at-any-of-two .any-of-two .result) (at-any-of-two .any-of-two .ensures) (c .if3 .taken))
+    let at-if2 = c .before .before in
+    let at-if1 = at-if2 .before .before in
+    let a = at-if1 .before .before .before .before .args in
+    give-two (now (a .a)) (now (a .b)) (none-kept (a .table)) _ (at-if1 .before .judge .ensures) (at-if1 .if1 .left) _ (at-if2 .before .judge2 .ensures) _
+    (at-if2 .if2 .left) (empty-no (result (a .table) 2 (entriesOf 2 (now (a .a))) (entriesOf 2 (now (a .b))) []) _ (c .before .any-of-two .ensures)
+    (c .if3 .taken))
 
 returns-4 : tie.Need-returns-4
 returns-4 c =
-    let at-any-of-two = c .before in
-    let at-if2 = at-any-of-two .before in
-    let at-judge2 = at-if2 .before in
-    let at-if1 = at-judge2 .before in
-    let at-judge = at-if1 .before in
-    let start = at-judge .before .before .before in
-    give-two (now (start .args .a)) (now (start .args .b)) (λ (es fs : List Entry). truth (isEmpty (result (start .args .table) 2 es fs [])))
-    (at-judge .judge .result) (at-judge .judge .ensures) (at-if1 .if1 .left) (at-judge2 .judge2 .result) (at-judge2 .judge2 .ensures) _
-    (at-if2 .if2 .left) (empty-yes (result (start .args .table) 2 (entriesOf 2 (now (start .args .a))) (entriesOf 2 (now (start .args .b))) [])
-    (at-any-of-two .any-of-two .result) (at-any-of-two .any-of-two .ensures) (c .if3 .left))
+    let at-if2 = c .before .before in
+    let at-if1 = at-if2 .before .before in
+    let a = at-if1 .before .before .before .before .args in
+    give-two (now (a .a)) (now (a .b)) (none-kept (a .table)) _ (at-if1 .before .judge .ensures) (at-if1 .if1 .left) _ (at-if2 .before .judge2 .ensures) _
+    (at-if2 .if2 .left) (empty-yes (result (a .table) 2 (entriesOf 2 (now (a .a))) (entriesOf 2 (now (a .b))) []) _ (c .before .any-of-two .ensures)
+    (c .if3 .left))
 
 pub keeps-none-spec : {M : Type 1} → statement M
 keeps-none-spec =
-    tie.close
-    (tie.spec
-    judge-requires
-    refusal-of-requires
-    returns
-    judge-requires-2
-    refusal-of-requires-2
-    returns-2
-    any-of-two-requires
-    returns-3
-    returns-4)
+    tie.close (tie.spec (λ c κs. search needs) (λ c κs. search needs) returns (λ c κs. search needs) (λ c κs. search needs) returns-2
+    any-of-two-requires returns-3 returns-4)

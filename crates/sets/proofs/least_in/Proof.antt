@@ -4,14 +4,8 @@ use borrow.Author.Needs.{needs}
 use Rattle.sets.proofs.least_in.Statement.{statement}
 use Rattle.sets.proofs.least_in.Tie as tie
 
-spot-of-requires : tie.Need-spot-of-requires
-spot-of-requires c κs = search needs
-
 returns : tie.Need-returns
 returns c = let s = c .before in least-inside (s .before .before .pre) (s .spot-of .ensures) (c .if1 .taken)
-
-count-of-requires : tie.Need-count-of-requires
-count-of-requires c κs = search needs
 
 returns-2 : tie.Need-returns-2
 returns-2 c =
@@ -20,15 +14,6 @@ returns-2 c =
     let at-spot-of = at-if1 .before in
     let start = at-spot-of .before .before in
     least-none (start .pre) (at-spot-of .spot-of .ensures) (at-if1 .if1 .left) (omega (arith, at-count-of .count-of .ensures, c .if2 .taken))
-
-mul-word : tie.Need-mul-word
-mul-word c = search needs
-
-add-word : tie.Need-add-word
-add-word c = search needs
-
-word-requires : tie.Need-word-requires
-word-requires c κs = search needs
 
 returns-3 : tie.Need-returns-3
 returns-3 c =
@@ -42,13 +27,5 @@ returns-3 c =
 
 pub least-in-spec : {M : Type 1} → statement M
 least-in-spec =
-    tie.close
-    (tie.spec
-    spot-of-requires
-    returns
-    count-of-requires
-    returns-2
-    mul-word
-    add-word
-    word-requires
-    returns-3)
+    tie.close (tie.spec (λ c κs. search needs) returns (λ c κs. search needs) returns-2 (λ c. search needs) (λ c. search needs)
+    (λ c κs. search needs) returns-3)

@@ -12,33 +12,25 @@ use borrow.Author.Needs.{needs}
 use Rattle.sets.proofs.least_member.Statement.{statement}
 use Rattle.sets.proofs.least_member.Tie as tie
 
-judge-requires : tie.Need-judge-requires
-judge-requires c κs = search needs
-
-refusal-of-requires : tie.Need-refusal-of-requires
-refusal-of-requires c κs = search needs
-
 returns : tie.Need-returns
 unfolding leastMemberCall
 returns c =
-    let at-if1 = c .before in
-    let at-judge = at-if1 .before in
+    let at-judge = c .before .before in
     let start = at-judge .before .before in
-    refuse-asked (now (start .args .block)) (λ (es : List Entry). optional (leastMember es (start .args .x))) (at-judge .judge .result)
-    (c .refusal-of .result) (at-judge .judge .ensures) (at-if1 .if1 .taken) (c .refusal-of .ensures)
+    refuse-asked (now (start .args .block)) (λ (es : List Entry). optional (leastMember es (start .args .x))) _ _ (at-judge .judge .ensures)
+    (c .before .if1 .taken) (c .refusal-of .ensures)
 
 least-in-requires : tie.Need-least-in-requires
-least-in-requires c κs = verdict-sound setLayout (now (c .before .before .before .args .block)) (sym (c .before .judge .ensures) ∙ c .if1 .left)
+least-in-requires c κs = verdict-sound setLayout _ (sym (c .before .judge .ensures) ∙ c .if1 .left)
 
 returns-2 : tie.Need-returns-2
 unfolding leastMemberCall
 returns-2 c =
-    let at-if1 = c .before in
-    let at-judge = at-if1 .before in
+    let at-judge = c .before .before in
     let start = at-judge .before .before in
-    give-asked (now (start .args .block)) (λ (es : List Entry). optional (leastMember es (start .args .x))) (at-judge .judge .result) _
-    (at-judge .judge .ensures) (at-if1 .if1 .left) (c .least-in .ensures)
+    give-asked (now (start .args .block)) (λ (es : List Entry). optional (leastMember es (start .args .x))) _ _ (at-judge .judge .ensures)
+    (c .before .if1 .left) (c .least-in .ensures)
 
 pub least-member-spec : {M : Type 1} → statement M
 least-member-spec =
-    tie.close (tie.spec judge-requires refusal-of-requires returns least-in-requires returns-2)
+    tie.close (tie.spec (λ c κs. search needs) (λ c κs. search needs) returns least-in-requires returns-2)

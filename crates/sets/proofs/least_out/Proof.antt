@@ -5,15 +5,6 @@ use borrow.Author.Needs.{needs}
 use Rattle.sets.proofs.least_out.Statement.{statement}
 use Rattle.sets.proofs.least_out.Tie as tie
 
-spot-of-requires : tie.Need-spot-of-requires
-spot-of-requires c κs = search needs
-
-mul-word : tie.Need-mul-word
-mul-word c = search needs
-
-add-word : tie.Need-add-word
-add-word c = search needs
-
 word-requires : tie.Need-word-requires
 word-requires c κs =
     let at-if1 = c .before in
@@ -29,9 +20,6 @@ returns c =
     let start = at-spot-of .before .before in
     free-none (start .pre) (at-spot-of .spot-of .ensures) (at-if1 .if1 .taken) (at-word .word .result) (at-word .word .ensures) (c .if2 .taken)
 
-add-t10 : tie.Need-add-t10
-add-t10 c = search needs
-
 returns-2 : tie.Need-returns-2
 returns-2 c =
     let at-word = c .before in
@@ -45,5 +33,4 @@ returns-3 c = let s = c .before in free-here (s .before .before .pre) (s .spot-o
 
 pub least-out-spec : {M : Type 1} → statement M
 least-out-spec =
-    tie.close
-    (tie.spec spot-of-requires mul-word add-word word-requires returns add-t10 returns-2 returns-3)
+    tie.close (tie.spec (λ c κs. search needs) (λ c. search needs) (λ c. search needs) word-requires returns (λ c. search needs) returns-2 returns-3)

@@ -3,20 +3,8 @@ use borrow.Author.Needs.{needs}
 use Rattle.sets.proofs.make_empty.Statement.{statement}
 use Rattle.sets.proofs.make_empty.Tie as tie
 
-judged-of-requires : tie.Need-judged-of-requires
-judged-of-requires c κs = search needs
-
 returns : tie.Need-returns
 returns c = empty-refused _ _ (c .judged-of .ensures) (c .before .if1 .taken)
-
-clear-requires : tie.Need-clear-requires
-clear-requires c κs = search needs
-
-judged-of-requires-2 : tie.Need-judged-of-requires-2
-judged-of-requires-2 c κs = search needs
-
-same-length : tie.Need-same-length
-same-length c = search needs
 
 returns-2 : tie.Need-returns-2
 returns-2 c =
@@ -26,5 +14,4 @@ returns-2 c =
 
 pub make-empty-spec : {M : Type 1} → statement M
 make-empty-spec =
-    tie.close
-    (tie.spec judged-of-requires returns clear-requires judged-of-requires-2 same-length returns-2)
+    tie.close (tie.spec (λ c κs. search needs) returns (λ c κs. search needs) (λ c κs. search needs) (λ c. search needs) returns-2)

@@ -13,12 +13,6 @@ use borrow.Author.Needs.{needs}
 use Rattle.sets.proofs.member.Statement.{statement}
 use Rattle.sets.proofs.member.Tie as tie
 
-judge-requires : tie.Need-judge-requires
-judge-requires c κs = search needs
-
-refusal-of-requires : tie.Need-refusal-of-requires
-refusal-of-requires c κs = search needs
-
 returns : tie.Need-returns
 unfolding memberCall
 returns c =
@@ -54,5 +48,4 @@ returns-3 c =
 
 pub member-spec : {M : Type 1} → statement M
 member-spec =
-    tie.close
-    (tie.spec judge-requires refusal-of-requires returns spot-of-requires returns-2 returns-3)
+    tie.close (tie.spec (λ c κs. search needs) (λ c κs. search needs) returns spot-of-requires returns-2 returns-3)

@@ -11,33 +11,25 @@ use borrow.Author.Needs.{needs}
 use Rattle.sets.proofs.range_at.Statement.{statement}
 use Rattle.sets.proofs.range_at.Tie as tie
 
-judge-requires : tie.Need-judge-requires
-judge-requires c κs = search needs
-
-refusal-of-requires : tie.Need-refusal-of-requires
-refusal-of-requires c κs = search needs
-
 returns : tie.Need-returns
 unfolding rangeAtCall
 returns c =
-    let at-if1 = c .before in
-    let at-judge = at-if1 .before in
+    let at-judge = c .before .before in
     let start = at-judge .before .before in
-    refuse-asked (now (start .args .block)) (λ (es : List Entry). ends (rangeAt es (start .args .i))) (at-judge .judge .result)
-    (c .refusal-of .result) (at-judge .judge .ensures) (at-if1 .if1 .taken) (c .refusal-of .ensures)
+    refuse-asked (now (start .args .block)) (λ (es : List Entry). ends (rangeAt es (start .args .i))) _ _ (at-judge .judge .ensures) (c .before .if1 .taken)
+    (c .refusal-of .ensures)
 
 range-in-requires : tie.Need-range-in-requires
-range-in-requires c κs = verdict-sound setLayout (now (c .before .before .before .args .block)) (sym (c .before .judge .ensures) ∙ c .if1 .left)
+range-in-requires c κs = verdict-sound setLayout _ (sym (c .before .judge .ensures) ∙ c .if1 .left)
 
 returns-2 : tie.Need-returns-2
 unfolding rangeAtCall
 returns-2 c =
-    let at-if1 = c .before in
-    let at-judge = at-if1 .before in
+    let at-judge = c .before .before in
     let start = at-judge .before .before in
-    give-asked (now (start .args .block)) (λ (es : List Entry). ends (rangeAt es (start .args .i))) (at-judge .judge .result) _
-    (at-judge .judge .ensures) (at-if1 .if1 .left) (c .range-in .ensures)
+    give-asked (now (start .args .block)) (λ (es : List Entry). ends (rangeAt es (start .args .i))) _ _ (at-judge .judge .ensures) (c .before .if1 .left)
+    (c .range-in .ensures)
 
 pub range-at-spec : {M : Type 1} → statement M
 range-at-spec =
-    tie.close (tie.spec judge-requires refusal-of-requires returns range-in-requires returns-2)
+    tie.close (tie.spec (λ c κs. search needs) (λ c κs. search needs) returns range-in-requires returns-2)

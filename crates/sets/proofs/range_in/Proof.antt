@@ -8,12 +8,6 @@ use borrow.Author.Needs.{needs}
 use Rattle.sets.proofs.range_in.Statement.{statement}
 use Rattle.sets.proofs.range_in.Tie as tie
 
-count-of-requires : tie.Need-count-of-requires
-count-of-requires c κs = search needs
-
-wide-requires : tie.Need-wide-requires
-wide-requires c κs = search needs
-
 returns : tie.Need-returns
 returns c =
     let at-wide = c .before in
@@ -21,24 +15,6 @@ returns c =
     let start = at-count-of .before .before in
     range-none (now (start .args .block)) (at-count-of .count-of .result) (at-wide .wide .result) (at-count-of .count-of .ensures) (c .if1 .taken)
     ∙ ap (λ k. ends (rangeAt (entriesOf 2 (now (start .args .block))) k)) (at-wide .wide .ensures)
-
-mul-word : tie.Need-mul-word
-mul-word c = search needs
-
-add-word : tie.Need-add-word
-add-word c = search needs
-
-word-requires : tie.Need-word-requires
-word-requires c κs = search needs
-
-mul-word-2 : tie.Need-mul-word-2
-mul-word-2 c = search needs
-
-add-word-2 : tie.Need-add-word-2
-add-word-2 c = search needs
-
-word-requires-2 : tie.Need-word-requires-2
-word-requires-2 c κs = search needs
 
 returns-2 : tie.Need-returns-2
 returns-2 c =
@@ -53,15 +29,5 @@ returns-2 c =
 
 pub range-in-spec : {M : Type 1} → statement M
 range-in-spec =
-    tie.close
-    (tie.spec
-    count-of-requires
-    wide-requires
-    returns
-    mul-word
-    add-word
-    word-requires
-    mul-word-2
-    add-word-2
-    word-requires-2
-    returns-2)
+    tie.close (tie.spec (λ c κs. search needs) (λ c κs. search needs) returns (λ c. search needs) (λ c. search needs) (λ c κs. search needs)
+    (λ c. search needs) (λ c. search needs) (λ c κs. search needs) returns-2)

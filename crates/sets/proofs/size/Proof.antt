@@ -14,12 +14,6 @@ use borrow.Author.Needs.{needs}
 use Rattle.sets.proofs.size.Statement.{statement}
 use Rattle.sets.proofs.size.Tie as tie
 
-judge-requires : tie.Need-judge-requires
-judge-requires c κs = search needs
-
-refusal-of-requires : tie.Need-refusal-of-requires
-refusal-of-requires c κs = search needs
-
 returns : tie.Need-returns
 unfolding sizeCall
 returns c =
@@ -69,12 +63,4 @@ returns-3 c =
 
 pub size-spec : {M : Type 1} → statement M
 size-spec =
-    tie.close
-    (tie.spec
-    judge-requires
-    refusal-of-requires
-    returns
-    count-of-requires
-    returns-2
-    size-less-one-requires
-    returns-3)
+    tie.close (tie.spec (λ c κs. search needs) (λ c κs. search needs) returns count-of-requires returns-2 size-less-one-requires returns-3)

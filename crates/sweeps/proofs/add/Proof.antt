@@ -5,20 +5,11 @@ use borrow.Author.Needs.{needs}
 use Rattle.sweeps.proofs.add.Statement.{statement}
 use Rattle.sweeps.proofs.add.Tie as tie
 
-less-requires : tie.Need-less-requires
-less-requires c κs = search needs
-
 store-requires : tie.Need-store-requires
 store-requires c κs =
     let at-less = c .before in
     let start = at-less .before .before in
     (start .pre .two, start .pre .four, add-room (start .pre) (at-less .less .result) (at-less .less .ensures))
-
-more-requires : tie.Need-more-requires
-more-requires c κs = search needs
-
-same-length : tie.Need-same-length
-same-length c = search needs
 
 returns : tie.Need-returns
 returns c =
@@ -33,4 +24,5 @@ returns c =
     )
 
 pub add-spec : {M : Type 1} → statement M
-add-spec = tie.close (tie.spec less-requires store-requires more-requires same-length returns)
+add-spec =
+    tie.close (tie.spec (λ c κs. search needs) store-requires (λ c κs. search needs) (λ c. search needs) returns)

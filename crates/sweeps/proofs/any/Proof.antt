@@ -5,9 +5,6 @@ use borrow.Author.Needs.{needs}
 use Rattle.sweeps.proofs.any.Statement.{statement}
 use Rattle.sweeps.proofs.any.Tie as tie
 
-slice-aggregate-sweep : tie.Need-slice-aggregate-sweep
-slice-aggregate-sweep c = search needs
-
 sweep-requires : tie.Need-sweep-requires
 sweep-requires c κs =
     let start = c .before .before .before .before in
@@ -17,4 +14,5 @@ returns : tie.Need-returns
 returns c = some-met _ (c .before .sweep .result) (c .before .sweep .ensures .size)
 
 pub any-spec : {M : Type 1} → statement M
-any-spec = tie.close (tie.spec slice-aggregate-sweep sweep-requires returns)
+any-spec =
+    tie.close (tie.spec (λ c. search needs) sweep-requires returns)

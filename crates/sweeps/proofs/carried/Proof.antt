@@ -3,9 +3,6 @@ use borrow.Author.Needs.{needs}
 use Rattle.sweeps.proofs.carried.Statement.{statement}
 use Rattle.sweeps.proofs.carried.Tie as tie
 
-nothing-requires : tie.Need-nothing-requires
-nothing-requires c κs = search needs
-
 returns : tie.Need-returns
 returns c =
     let at-if1 = c .before in
@@ -73,9 +70,6 @@ returns-4 c =
     carried-c (start .args .at) (start .args .sides) (start .args .ends) (start .pre .0) (start .pre .1 .0) (start .pre .1 .1 .0)
     (start .pre .1 .1 .1) (at-if2 .if2 .taken) (at-if3 .if3 .left) (at-if4 .if4 .left) (at-if1 .if1 .left) _ (c .words-behind3 .ensures)
 
-nothing-requires-2 : tie.Need-nothing-requires-2
-nothing-requires-2 c κs = search needs
-
 returns-5 : tie.Need-returns-5
 returns-5 c =
     let at-if2 = c .before in
@@ -85,15 +79,5 @@ returns-5 c =
 
 pub carried-spec : {M : Type 1} → statement M
 carried-spec =
-    tie.close
-    (tie.spec
-    nothing-requires
-    returns
-    words-behind-requires
-    returns-2
-    words-behind-requires-2
-    returns-3
-    words-behind-requires-3
-    returns-4
-    nothing-requires-2
-    returns-5)
+    tie.close (tie.spec (λ c κs. search needs) returns words-behind-requires returns-2 words-behind-requires-2 returns-3 words-behind-requires-3
+    returns-4 (λ c κs. search needs) returns-5)

@@ -10,12 +10,6 @@ returns c =
     let start = c .before .before .before .before in
     bound-fits _ (start .args .bound) (start .args .cap) (start .pre .1 .1 .1) (c .if1 .taken)
 
-add-sweep : tie.Need-add-sweep
-add-sweep c = search needs
-
-slice-aggregate-sweep : tie.Need-slice-aggregate-sweep
-slice-aggregate-sweep c = search needs
-
 sweep-requires : tie.Need-sweep-requires
 sweep-requires c κs =
     let start = c .before .before .before .before .before in
@@ -28,4 +22,5 @@ returns-2 c =
     few-enough _ (at-sweep .sweep .result) (start .args .cap) (at-sweep .sweep .ensures .size)
 
 pub fits-spec : {M : Type 1} → statement M
-fits-spec = tie.close (tie.spec returns add-sweep slice-aggregate-sweep sweep-requires returns-2)
+fits-spec =
+    tie.close (tie.spec returns (λ c. search needs) (λ c. search needs) sweep-requires returns-2)

@@ -1,4 +1,3 @@
-use denote.Ref.{now}
 use lib.ListN.{length-set}
 use Rattle.sweeps.proofs.Storing.{bit-one, lay-two, lay-three, lay-four}
 use native.Mathlib.Omega.{arith}
@@ -6,91 +5,33 @@ use borrow.Author.Needs.{needs}
 use Rattle.sweeps.proofs.lay.Statement.{statement}
 use Rattle.sweeps.proofs.lay.Tie as tie
 
-more-requires : tie.Need-more-requires
-more-requires c κs = search needs
-
 mul-o : tie.Need-mul-o
 mul-o c = let a = c .before .before in record { fits = omega (arith, c .more .ensures, bit-one (a .args .join)) }
 
 slice-write-o : tie.Need-slice-write-o
 slice-write-o c = let a = c .before .before in omega (arith, c .more .ensures, bit-one (a .args .join))
 
-add-o : tie.Need-add-o
-add-o c = search needs
-
-mul-o-2 : tie.Need-mul-o-2
-mul-o-2 c = search needs
-
-slice-write-o-2 : tie.Need-slice-write-o-2
-slice-write-o-2 c = simp length-set (omega arith)
-
-same-length : tie.Need-same-length
-same-length c = search needs
-
 returns : tie.Need-returns
 returns c =
     let at-more = c .before in
     let start = at-more .before .before in
-    lay-two (start .args .s) (now (start .args .o)) (start .args .q) (start .args .x) (start .args .h) (start .args .join) (at-more .more .result)
-    (at-more .more .ensures) (start .args .v) (start .pre .0) (start .pre .2) (c .if1 .taken)
-
-add-o-2 : tie.Need-add-o-2
-add-o-2 c = search needs
-
-mul-o-3 : tie.Need-mul-o-3
-mul-o-3 c = search needs
-
-slice-write-o-3 : tie.Need-slice-write-o-3
-slice-write-o-3 c = simp length-set (omega arith)
-
-same-length-2 : tie.Need-same-length-2
-same-length-2 c = search needs
+    lay-two _ _ _ _ _ (start .args .join) _ (at-more .more .ensures) _ (start .pre .0) (start .pre .2) (c .if1 .taken)
 
 returns-2 : tie.Need-returns-2
 returns-2 c =
     let at-more = c .before .before in
     let start = at-more .before .before in
-    lay-three (start .args .s) (now (start .args .o)) (start .args .q) (start .args .x) (start .args .h) (start .args .join) (at-more .more .result)
-    (at-more .more .ensures) (start .args .v) (start .pre .0) (start .pre .2) (c .if2 .taken)
-
-add-o-3 : tie.Need-add-o-3
-add-o-3 c = search needs
-
-mul-o-4 : tie.Need-mul-o-4
-mul-o-4 c = search needs
-
-slice-write-o-4 : tie.Need-slice-write-o-4
-slice-write-o-4 c = simp length-set (omega arith)
-
-same-length-3 : tie.Need-same-length-3
-same-length-3 c = search needs
+    lay-three _ _ _ _ _ (start .args .join) _ (at-more .more .ensures) _ (start .pre .0) (start .pre .2) (c .if2 .taken)
 
 returns-3 : tie.Need-returns-3
 returns-3 c =
     let at-more = c .before .before in
     let start = at-more .before .before in
-    lay-four (start .args .s) (now (start .args .o)) (start .args .q) (start .args .x) (start .args .h) (start .args .join) (at-more .more .result)
-    (at-more .more .ensures) (start .args .v) (start .pre .0) (start .pre .2) (omega arith)
+    lay-four _ _ _ _ _ (start .args .join) _ (at-more .more .ensures) _ (start .pre .0) (start .pre .2) (omega arith)
 
 pub lay-spec : {M : Type 1} → statement M
 lay-spec =
-    tie.close
-    (tie.spec
-    more-requires
-    mul-o
-    slice-write-o
-    add-o
-    mul-o-2
-    slice-write-o-2
-    same-length
-    returns
-    add-o-2
-    mul-o-3
-    slice-write-o-3
-    same-length-2
-    returns-2
-    add-o-3
-    mul-o-4
-    slice-write-o-4
-    same-length-3
-    returns-3)
+    tie.close (tie.spec (λ c κs. search needs) mul-o slice-write-o (λ c. search needs) (λ c. search needs) (λ c. simp length-set (omega arith))
+    (λ c. search needs)
+    returns (λ c. search needs) (λ c. search needs) (λ c. simp length-set (omega arith)) (λ c. search needs) returns-2 (λ c. search needs) (λ c. search needs)
+    (λ c. simp length-set (omega arith)) (λ c. search needs) returns-3)

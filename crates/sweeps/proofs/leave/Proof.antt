@@ -11,12 +11,6 @@ word-requires c κs =
     let a = c .before in
     omega (arith, in-here (a .args .s) (now (a .args .w)) (a .args .x) (a .pre .0) (a .pre .1), a .pre .0 .two)
 
-sub-q : tie.Need-sub-q
-sub-q c = search needs
-
-add-q : tie.Need-add-q
-add-q c = search needs
-
 returns : tie.Need-returns
 returns c =
     let at-word = c .before in
@@ -47,9 +41,6 @@ sub-if2 c =
       c .word2 .ensures,
     )
 
-add-t12 : tie.Need-add-t12
-add-t12 c = search needs
-
 returns-2 : tie.Need-returns-2
 returns-2 c =
     let at-word2 = c .before in
@@ -70,14 +61,4 @@ returns-3 c =
 
 pub leave-spec : {M : Type 1} → statement M
 leave-spec =
-    tie.close
-    (tie.spec
-    word-requires
-    sub-q
-    add-q
-    returns
-    word-requires-2
-    sub-if2
-    add-t12
-    returns-2
-    returns-3)
+    tie.close (tie.spec word-requires (λ c. search needs) (λ c. search needs) returns word-requires-2 sub-if2 (λ c. search needs) returns-2 returns-3)

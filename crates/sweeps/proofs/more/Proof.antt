@@ -3,9 +3,6 @@ use borrow.Author.Needs.{needs}
 use Rattle.sweeps.proofs.more.Statement.{statement}
 use Rattle.sweeps.proofs.more.Tie as tie
 
-add-result : tie.Need-add-result
-add-result c = search needs
-
 returns : tie.Need-returns
 returns c = rw (c .if1 .taken)
 
@@ -13,4 +10,5 @@ returns-2 : tie.Need-returns-2
 returns-2 c = rw (c .if1 .left) (omega arith)
 
 pub more-spec : {M : Type 1} → statement M
-more-spec = tie.close (tie.spec add-result returns returns-2)
+more-spec =
+    tie.close (tie.spec (λ c. search needs) returns returns-2)

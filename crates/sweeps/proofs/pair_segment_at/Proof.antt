@@ -10,33 +10,6 @@ use borrow.Author.Needs.{needs}
 use Rattle.sweeps.proofs.pair_segment_at.Statement.{statement}
 use Rattle.sweeps.proofs.pair_segment_at.Tie as tie
 
-flip-requires : tie.Need-flip-requires
-flip-requires c κs = search needs
-
-flip-requires-2 : tie.Need-flip-requires-2
-flip-requires-2 c κs = search needs
-
-least-requires : tie.Need-least-requires
-least-requires c κs = search needs
-
-accepted-requires : tie.Need-accepted-requires
-accepted-requires c κs = search needs
-
-chosen-requires : tie.Need-chosen-requires
-chosen-requires c κs = search needs
-
-chosen-requires-2 : tie.Need-chosen-requires-2
-chosen-requires-2 c κs = search needs
-
-turned-requires : tie.Need-turned-requires
-turned-requires c κs = search needs
-
-turned-requires-2 : tie.Need-turned-requires-2
-turned-requires-2 c κs = search needs
-
-nothing-requires : tie.Need-nothing-requires
-nothing-requires c κs = search needs
-
 returns : tie.Need-returns
 returns c =
     let at-turned2 = c .before in
@@ -64,15 +37,5 @@ returns c =
 
 pub pair-segment-at-spec : {M : Type 1} → statement M
 pair-segment-at-spec =
-    tie.close
-    (tie.spec
-    flip-requires
-    flip-requires-2
-    least-requires
-    accepted-requires
-    chosen-requires
-    chosen-requires-2
-    turned-requires
-    turned-requires-2
-    nothing-requires
-    returns)
+    tie.close (tie.spec (λ c κs. search needs) (λ c κs. search needs) (λ c κs. search needs) (λ c κs. search needs) (λ c κs. search needs)
+    (λ c κs. search needs) (λ c κs. search needs) (λ c κs. search needs) (λ c κs. search needs) returns)

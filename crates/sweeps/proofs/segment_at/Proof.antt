@@ -4,45 +4,6 @@ use borrow.Author.Needs.{needs}
 use Rattle.sweeps.proofs.segment_at.Statement.{statement}
 use Rattle.sweeps.proofs.segment_at.Tie as tie
 
-run-at-requires : tie.Need-run-at-requires
-run-at-requires c κs = search needs
-
-run-at-requires-2 : tie.Need-run-at-requires-2
-run-at-requires-2 c κs = search needs
-
-run-at-requires-3 : tie.Need-run-at-requires-3
-run-at-requires-3 c κs = search needs
-
-least-requires : tie.Need-least-requires
-least-requires c κs = search needs
-
-least-requires-2 : tie.Need-least-requires-2
-least-requires-2 c κs = search needs
-
-accepted-requires : tie.Need-accepted-requires
-accepted-requires c κs = search needs
-
-carried-requires : tie.Need-carried-requires
-carried-requires c κs = search needs
-
-chosen-requires : tie.Need-chosen-requires
-chosen-requires c κs = search needs
-
-chosen-requires-2 : tie.Need-chosen-requires-2
-chosen-requires-2 c κs = search needs
-
-chosen-requires-3 : tie.Need-chosen-requires-3
-chosen-requires-3 c κs = search needs
-
-turned-requires : tie.Need-turned-requires
-turned-requires c κs = search needs
-
-turned-requires-2 : tie.Need-turned-requires-2
-turned-requires-2 c κs = search needs
-
-turned-requires-3 : tie.Need-turned-requires-3
-turned-requires-3 c κs = search needs
-
 returns : tie.Need-returns
 returns c =
     let at-turned2 = c .before .before in
@@ -67,19 +28,6 @@ returns c =
 
 pub segment-at-spec : {M : Type 1} → statement M
 segment-at-spec =
-    tie.close
-    (tie.spec
-    run-at-requires
-    run-at-requires-2
-    run-at-requires-3
-    least-requires
-    least-requires-2
-    accepted-requires
-    carried-requires
-    chosen-requires
-    chosen-requires-2
-    chosen-requires-3
-    turned-requires
-    turned-requires-2
-    turned-requires-3
-    returns)
+    tie.close (tie.spec (λ c κs. search needs) (λ c κs. search needs) (λ c κs. search needs) (λ c κs. search needs) (λ c κs. search needs)
+    (λ c κs. search needs) (λ c κs. search needs) (λ c κs. search needs) (λ c κs. search needs) (λ c κs. search needs) (λ c κs. search needs)
+    (λ c κs. search needs) (λ c κs. search needs) returns)

@@ -6,45 +6,6 @@ use borrow.Author.Needs.{needs}
 use Rattle.sweeps.proofs.set_segment_at.Statement.{statement}
 use Rattle.sweeps.proofs.set_segment_at.Tie as tie
 
-flip-requires : tie.Need-flip-requires
-flip-requires c κs = search needs
-
-flip-requires-2 : tie.Need-flip-requires-2
-flip-requires-2 c κs = search needs
-
-flip-requires-3 : tie.Need-flip-requires-3
-flip-requires-3 c κs = search needs
-
-least-requires : tie.Need-least-requires
-least-requires c κs = search needs
-
-least-requires-2 : tie.Need-least-requires-2
-least-requires-2 c κs = search needs
-
-accepted-requires : tie.Need-accepted-requires
-accepted-requires c κs = search needs
-
-chosen-requires : tie.Need-chosen-requires
-chosen-requires c κs = search needs
-
-chosen-requires-2 : tie.Need-chosen-requires-2
-chosen-requires-2 c κs = search needs
-
-chosen-requires-3 : tie.Need-chosen-requires-3
-chosen-requires-3 c κs = search needs
-
-turned-requires : tie.Need-turned-requires
-turned-requires c κs = search needs
-
-turned-requires-2 : tie.Need-turned-requires-2
-turned-requires-2 c κs = search needs
-
-turned-requires-3 : tie.Need-turned-requires-3
-turned-requires-3 c κs = search needs
-
-nothing-requires : tie.Need-nothing-requires
-nothing-requires c κs = search needs
-
 returns : tie.Need-returns
 returns c =
     let at-turned3 = c .before in
@@ -69,19 +30,6 @@ returns c =
 
 pub set-segment-at-spec : {M : Type 1} → statement M
 set-segment-at-spec =
-    tie.close
-    (tie.spec
-    flip-requires
-    flip-requires-2
-    flip-requires-3
-    least-requires
-    least-requires-2
-    accepted-requires
-    chosen-requires
-    chosen-requires-2
-    chosen-requires-3
-    turned-requires
-    turned-requires-2
-    turned-requires-3
-    nothing-requires
-    returns)
+    tie.close (tie.spec (λ c κs. search needs) (λ c κs. search needs) (λ c κs. search needs) (λ c κs. search needs) (λ c κs. search needs)
+    (λ c κs. search needs) (λ c κs. search needs) (λ c κs. search needs) (λ c κs. search needs) (λ c κs. search needs) (λ c κs. search needs)
+    (λ c κs. search needs) (λ c κs. search needs) returns)

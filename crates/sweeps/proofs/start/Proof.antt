@@ -7,12 +7,6 @@ use borrow.Author.Needs.{needs}
 use Rattle.sweeps.proofs.start.Statement.{statement}
 use Rattle.sweeps.proofs.start.Tie as tie
 
-word-requires : tie.Need-word-requires
-word-requires c κs = search needs
-
-wide-requires : tie.Need-wide-requires
-wide-requires c κs = search needs
-
 mul-end : tie.Need-mul-end
 mul-end c =
     let at-word = c .before in
@@ -73,13 +67,4 @@ returns-3 c =
 
 pub start-spec : {M : Type 1} → statement M
 start-spec =
-    tie.close
-    (tie.spec
-    word-requires
-    wide-requires
-    mul-end
-    add-end
-    returns
-    word-requires-2
-    returns-2
-    returns-3)
+    tie.close (tie.spec (λ c κs. search needs) (λ c κs. search needs) mul-end add-end returns word-requires-2 returns-2 returns-3)

@@ -16,12 +16,6 @@ add-q c = let a = c .before .before in let h = rw (c .if1 .taken) at (a .pre .2)
 sub-if2 : tie.Need-sub-if2
 sub-if2 c = let a = c .before .before in let h = rw (c .if1 .taken) at (a .pre .2) in omega arith
 
-lay-requires : tie.Need-lay-requires
-lay-requires c κs = search needs
-
-same-length : tie.Need-same-length
-same-length c = search needs
-
 returns : tie.Need-returns
 returns c =
     let at-lay = c .before .before in
@@ -42,4 +36,4 @@ returns-3 c = rw (c .if1 .left) tt
 
 pub store-spec : {M : Type 1} → statement M
 store-spec =
-    tie.close (tie.spec mul-q add-q sub-if2 lay-requires same-length returns returns-2 returns-3)
+    tie.close (tie.spec mul-q add-q sub-if2 (λ c κs. search needs) (λ c. search needs) returns returns-2 returns-3)

@@ -11,9 +11,6 @@ use borrow.Author.Needs.{needs}
 use Rattle.sweeps.proofs.sweep.Statement.{statement}
 use Rattle.sweeps.proofs.sweep.Tie as tie
 
-only-sets-requires : tie.Need-only-sets-requires
-only-sets-requires c κs = search needs
-
 sweep-sets-requires : tie.Need-sweep-sets-requires
 sweep-sets-requires c κs =
     let at-if1 = c .before in
@@ -26,9 +23,6 @@ sweep-sets-requires c κs =
           ≤ length (now (start .args .o))) e (start .pre .1 .1),
     )
 
-same-length : tie.Need-same-length
-same-length c = search needs
-
 returns : tie.Need-returns
 returns c =
     let at-sweep-sets = c .before .before in
@@ -40,23 +34,7 @@ returns c =
     (resultOf p (now (start .args .a)) (now (start .args .b)) (now (start .args .c))) (at-sweep-sets .sweep-sets .result)
     (at-sweep-sets .sweep-sets .last .1 .1 .1 .1 .1 .1 .0)) (sym e) (at-sweep-sets .sweep-sets .ensures)
 
-sweep-any-requires : tie.Need-sweep-any-requires
-sweep-any-requires c κs = search needs
-
-same-length-2 : tie.Need-same-length-2
-same-length-2 c = search needs
-
-returns-2 : tie.Need-returns-2
-returns-2 c = search needs
-
 pub sweep-spec : {M : Type 1} → statement M
 sweep-spec =
-    tie.close
-    (tie.spec
-    only-sets-requires
-    sweep-sets-requires
-    same-length
-    returns
-    sweep-any-requires
-    same-length-2
-    returns-2)
+    tie.close (tie.spec (λ c κs. search needs) sweep-sets-requires (λ c. search needs) returns (λ c κs. search needs) (λ c. search needs)
+    (λ c. search needs))

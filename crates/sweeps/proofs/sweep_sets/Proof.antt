@@ -7,9 +7,6 @@ use borrow.Author.Needs.{needs}
 use Rattle.sweeps.proofs.sweep_sets.Statement.{statement}
 use Rattle.sweeps.proofs.sweep_sets.Tie as tie
 
-set-plan-requires : tie.Need-set-plan-requires
-set-plan-requires c κs = search needs
-
 begin-requires : tie.Need-begin-requires
 begin-requires c κs =
     let start = c .before .before .before .before .before in
@@ -31,12 +28,6 @@ sweep-pair-requires c κs =
       ),
     )
 
-same-length : tie.Need-same-length
-same-length c = search needs
-
-returns : tie.Need-returns
-returns c = search needs
-
 sweep-three-requires : tie.Need-sweep-three-requires
 sweep-three-requires c κs =
     let at-begin = c .before .before .before in
@@ -51,21 +42,7 @@ sweep-three-requires c κs =
       ),
     )
 
-same-length-2 : tie.Need-same-length-2
-same-length-2 c = search needs
-
-returns-2 : tie.Need-returns-2
-returns-2 c = search needs
-
 pub sweep-sets-spec : {M : Type 1} → statement M
 sweep-sets-spec =
-    tie.close
-    (tie.spec
-    set-plan-requires
-    begin-requires
-    sweep-pair-requires
-    same-length
-    returns
-    sweep-three-requires
-    same-length-2
-    returns-2)
+    tie.close (tie.spec (λ c κs. search needs) begin-requires sweep-pair-requires (λ c. search needs) (λ c. search needs) sweep-three-requires
+    (λ c. search needs) (λ c. search needs))

@@ -7,26 +7,11 @@ use borrow.Author.Needs.{needs}
 use Rattle.sweeps.proofs.words_behind.Statement.{statement}
 use Rattle.sweeps.proofs.words_behind.Tie as tie
 
-returns : tie.Need-returns
-returns c = search needs
-
-add-word : tie.Need-add-word
-add-word c = search needs
-
-word-requires : tie.Need-word-requires
-word-requires c κs = search needs
-
 returns-2 : tie.Need-returns-2
 returns-2 c =
     let at-word = c .before in
     let start = at-word .before .before .before in
     words-three (start .args .s) _ (now (start .args .w)) (start .args .p + 1) (c .if2 .taken) (omega arith) (at-word .word .ensures)
-
-add-word-2 : tie.Need-add-word-2
-add-word-2 c = search needs
-
-word-requires-2 : tie.Need-word-requires-2
-word-requires-2 c κs = search needs
 
 returns-3 : tie.Need-returns-3
 returns-3 c =
@@ -38,5 +23,4 @@ returns-3 c =
 
 pub words-behind-spec : {M : Type 1} → statement M
 words-behind-spec =
-    tie.close
-    (tie.spec returns add-word word-requires returns-2 add-word-2 word-requires-2 returns-3)
+    tie.close (tie.spec (λ c. search needs) (λ c. search needs) (λ c κs. search needs) returns-2 (λ c. search needs) (λ c κs. search needs) returns-3)

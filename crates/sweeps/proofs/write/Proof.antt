@@ -1,5 +1,6 @@
 use denote.Ref.{now}
 use mathlib.Core.Path.{_∙_}
+use Prim.Native.Nat.{_+_, _*_, _≤_}
 use lib.ListN.{length, length-set}
 use Rattle.sweeps.proofs.Storing.{all-met, finished}
 use native.Mathlib.Omega.{arith}
@@ -7,41 +8,13 @@ use borrow.Author.Needs.{needs}
 use Rattle.sweeps.proofs.write.Statement.{statement}
 use Rattle.sweeps.proofs.write.Tie as tie
 
-sweep-requires : tie.Need-sweep-requires
-sweep-requires c κs = search needs
-
-narrow-requires : tie.Need-narrow-requires
-narrow-requires c κs = search needs
-
-slice-write-o : tie.Need-slice-write-o
-slice-write-o c = search needs
-
-mul-clear : tie.Need-mul-clear
-mul-clear c =
-    let at-sweep = c .before .before .before .before .before in
-    let start = at-sweep .before .before .before .before .before .before in
-    record {
-      fits = omega (
-        arith,
-        all-met (start .args .plan .out) _ (at-sweep .sweep .result) (length (now (start .args .o))) (start .pre .1 .0 .two) (start .pre .1 .1)
-            (at-sweep .sweep .ensures .size),
-      );
-    }
-
-add-clear : tie.Need-add-clear
-add-clear c =
-    let at-sweep = c .before .before .before .before .before in
-    let start = at-sweep .before .before .before .before .before .before in
-    record {
-      fits = omega (
-        arith,
-        all-met (start .args .plan .out) _ (at-sweep .sweep .result) (length (now (start .args .o))) (start .pre .1 .0 .two) (start .pre .1 .1)
-            (at-sweep .sweep .ensures .size),
-      );
-    }
-
-clear-requires : tie.Need-clear-requires
-clear-requires c κs = search needs
+-- all that the sweep met is stored, and has its words
+stored : (c : tie.After-sweep) → let o = now (c .before .before .before .before .before .before .args .o) in
+    let s = c .before .before .before .before .before .before .args .plan .out in
+    1 + s * c .sweep .result ≤ length o
+stored c =
+    let p = c .before .before .before .before .before .before .pre in
+    (all-met _ _ _ _ (p .1 .0 .two) (p .1 .1) (c .sweep .ensures .size)) .1
 
 same-length : tie.Need-same-length
 same-length c =
@@ -65,13 +38,7 @@ returns c =
 
 pub write-spec : {M : Type 1} → statement M
 write-spec =
-    tie.close
-    (tie.spec
-    sweep-requires
-    narrow-requires
-    slice-write-o
-    mul-clear
-    add-clear
-    clear-requires
-    same-length
+    tie.close (tie.spec (λ c κs. search needs) (λ c κs. search needs) (λ c. search needs)
+    (λ c. record { fits = omega (arith, stored (c .before .before .before .before .before)) })
+    (λ c. record { fits = omega (arith, stored (c .before .before .before .before .before)) }) (λ c κs. search needs) same-length
     returns)

@@ -6,9 +6,6 @@ use Rattle.verdicts.proofs.judge_form.Tie as tie
 read-start-requires : tie.Need-read-start-requires
 read-start-requires c κs = c .before .pre .start
 
-enum-told : tie.Need-enum-told
-enum-told c = search needs
-
 returns : tie.Need-returns
 returns c =
     let k = c .before .before .before .before .before in
@@ -28,4 +25,4 @@ returns-2 c =
 
 pub judge-form-spec : {M : Type 1} → statement M
 judge-form-spec =
-    tie.close (tie.spec read-start-requires (λ c. search needs) enum-told (λ c κs. search needs) returns judge-runs-requires returns-2)
+    tie.close (tie.spec read-start-requires (λ c. search needs) (λ c. search needs) (λ c κs. search needs) returns judge-runs-requires returns-2)
