@@ -3,7 +3,7 @@
     numbers.py NUMBERS WORDS
 
 NUMBERS and WORDS are files with what the two programs wrote. Limits and capacity are compared with the definitions of `blocks`, the
-sizes of records with the kinds of `records`, the sizes of forms with the proved laws of `demands`; the names of the refusals with the
+sizes of records with the kinds of `records`, the sizes of forms with the proved statements of `demands`; the names of the refusals with the
 numbers that `answers` gives them and with the header's constants; the version with CHANGELOG.md. The exit status is 1 if one differs.
 """
 
@@ -42,15 +42,15 @@ def only(pattern, text):
 def sizes_due():
     """Each number that numbers.c writes, from the definitions and laws."""
     blocks, records = text_of("crates/blocks/specs/*.antt"), text_of("crates/records/specs/*.antt")
-    laws = text_of("crates/demands/proofs/*.antt")
+    laws = text_of("crates/demands/specs/Bytes.antt")
     (range_words, ranges), (entry_words, entries) = only(r"^setLayout = layout (\d+) (\d+)$", blocks), only(r"^mapLayout = layout (\d+) (\d+)$", blocks)
     if "\ncapacity l L = min ((L - 1) / l .width) (l .limit)\n" not in blocks:
         sys.exit("numbers.py: capacity is no longer defined as the header says")
     body = {int(kind, 16): int(size) for kind, size in re.findall(r"\(eqb kind (0x\w\w)\) \(some (\d+)\)", records)}
     record = {kind: 5 + size for kind, size in body.items()}  # the mark, the kind and the check are five bytes
-    set_form = only(r"^pub set-size :[^∷]*? length b ≡ (\d+) \+ (\d+) \* total \(", laws)
-    map_form = only(r"^pub map-size :[^∷]*? length b ≡ (\d+) \+ (\d+) \* total \(", laws)
-    bulletin = only(r"^pub bulletin-size :[^∷]*? length b ≡ (\d+) \+ (\d+) \* total \(", laws)
+    set_form = only(r"readSetCall b out ≡ leaves w → length b ≡ (\d+) \+ (\d+) \* getD w 0 0\)$", laws)
+    map_form = only(r"readMapCall b out ≡ leaves w → length b ≡ (\d+) \+ (\d+) \* getD w 0 0\)$", laws)
+    bulletin = only(r"readBulletinCall .* → length b ≡ (\d+) \+ (\d+) \* \(getD r 0 0 \+ getD w 0 0\)\)$", laws)
     expect("the records of the laws", [*set_form, *map_form, *bulletin], [record[k] for k in (0x01, 0x10, 0x02, 0x11, 0x03, 0x12)])
     expect("released and withdrawn ranges", record[0x12], record[0x13])
     return {
