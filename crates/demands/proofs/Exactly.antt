@@ -8,21 +8,23 @@ use lib.ListN.{length}
 use borrow.Author.Tests.{le-ltb, le-leb}
 use Rattle.entries.specs.Entries.{Value, Entry}
 use Rattle.entries.specs.Build.{pick}
+use Rattle.entries.specs.Sets.{member}
 use Rattle.answers.specs.declared.Finding.{Finding}
 use Rattle.answers.specs.Answers.{outcome, refuse, truth, Clear}
-use Rattle.answers.proofs.Turns.{clear-turn}
-use Rattle.blocks.specs.Blocks.{setLayout, mapLayout, capacity, entriesOf, blockOf, verdict}
+use Rattle.blocks.specs.Blocks.{setLayout, capacity, entriesOf, blockOf, verdict}
 use Rattle.blocks.specs.Calls.{input, output, backwards}
 use Rattle.blocks.proofs.Refusing.{some-words, in-order}
 use Rattle.edits.specs.Calls.{edited, editCall}
 use Rattle.operations.specs.Calls.{fromTwo, fromOne}
 use Rattle.sets.specs.Calls.{memberCall, insertCall, removeCall}
-use Rattle.maps.specs.Calls.{worth, lookUpCall}
+use Rattle.maps.specs.Calls.{worth}
 use Rattle.forms.proofs.Forms.{has-words}
 use Rattle.demands.specs.Plain.{Iff, In, ValueOf, between, leaves}
 use Rattle.demands.specs.Changes.{EditRoom, TwoRoom, OneRoom, ChangesKeep, InsertedMember, RemovedMember, OtherMember, AssignedValue, ErasedValue}
 use Rattle.demands.proofs.Sets.{edit-keeps, two-keeps, one-keeps, empty-keeps, insert-means, remove-means}
 use Rattle.demands.proofs.Maps.{assign-means, erase-means}
+use Rattle.demands.proofs.Questions.{asked-sound}
+use Rattle.demands.proofs.MapQuestions.{looked}
 use Rattle.demands.proofs.Changes.{edit-accepted}
 use Rattle.demands.proofs.Rooms.{input-not, range-not, output-not, refused-alone}
 
@@ -79,11 +81,7 @@ changes-keep = (edit-keeps, two-keeps, one-keeps, empty-keeps)
 -- FROM A CHANGE TO THE NEXT QUESTION
 asked : (w : List ℕ) (x : ℕ) → verdict setLayout w ≡ 0 → memberCall w x ≡ outcome (truth (In w x)) []
 unfolding memberCall
-asked w x s = clear-turn (input 0 setLayout w ∷ []) [] _ (s, tt)
-
-looked : (w : List ℕ) (x : ℕ) → verdict mapLayout w ≡ 0 → lookUpCall w x ≡ outcome (worth (ValueOf w x)) []
-unfolding lookUpCall
-looked w x s = clear-turn (input 0 mapLayout w ∷ []) [] _ (s, tt)
+asked w x s = asked-sound w (λ es. truth (member es x)) s
 
 in-between : (a b x : ℕ) → a ≤ x → x ≤ b → between a b x ≡ true
 in-between a b x h k = rw (le-leb a x h, le-leb x b k)

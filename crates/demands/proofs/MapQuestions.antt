@@ -75,6 +75,10 @@ worth-some : (o : Option Value) (v : ℕ) → outcome (worth o) [] ≡ answers (
 worth-some none v e = let z : _≡_ {A = ℕ} 0 1 = cc in absurd (omega arith)
 worth-some (some u) v e = let z : u ≡ v ∷ [] = cc in ap some z
 
+pub looked : (w : List ℕ) (x : ℕ) → SoundMap w → lookUpCall w x ≡ outcome (worth (ValueOf w x)) []
+unfolding lookUpCall
+looked w x s = clear-turn (input 0 mapLayout w ∷ []) [] _ (s, tt)
+
 pub look-up-means : LookUp
 unfolding lookUpCall
 look-up-means w x s = (
@@ -83,7 +87,7 @@ look-up-means w x s = (
 )
   where
     asked : lookUpCall w x ≡ outcome (worth (ValueOf w x)) []
-    asked = clear-turn (input 0 mapLayout w ∷ []) [] _ (s, tt)
+    asked = looked w x s
 
     found : (v : ℕ) → InEntry w x v → lookUpCall w x ≡ answers (v ∷ [])
     found v g = asked ∙ ap (λ (o : Option Value). outcome (worth o) []) (in-value w x v s g)

@@ -65,7 +65,7 @@ pub in-set : InSet
 in-set w x s = record { to = in-range w x s; from = range-in-set w x s }
 
 -- a question of a sound block is answered
-asked-sound : (w : List ℕ) (answer : List Entry → Answer) → SoundSet w → asked w answer ≡ outcome (answer (entriesOf 2 w)) []
+pub asked-sound : (w : List ℕ) (answer : List Entry → Answer) → SoundSet w → asked w answer ≡ outcome (answer (entriesOf 2 w)) []
 asked-sound w answer s = clear-turn (input 0 setLayout w ∷ []) [] _ (s, tt)
 
 -- a question that is true or not, where being true is P
