@@ -25,7 +25,14 @@ NEEDS = {
 # What one that differs from its kind needs: the program is run.
 OWN_NEEDS = {"H3": ["tests", "code"]}
 # Programs and tables of tests, where a line says in a comment which requirement it is about.
-TESTS = ["crates/demands/proofs/Table.antt", "crates/forms/proofs/Cases.antt", "crates/cases/src/main.rt", "crates/inputs/src/main.rt", "tests/c/member.c", "tests/differential/damage.py"]
+TESTS = [
+    "crates/demands/proofs/Table.antt",
+    "crates/forms/proofs/Cases.antt",
+    "crates/cases/src/main.rt",
+    "crates/inputs/src/main.rt",
+    "tests/c/member.c",
+    "tests/differential/damage.py",
+]
 
 
 class Trace:

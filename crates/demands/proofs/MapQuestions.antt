@@ -195,7 +195,8 @@ deciding-entry site factory x p q = (found, nothing)
         factory x x))
     words o e = site-over-factory-means site factory x p q ∙ rw e
 
-    found : (v : ℕ) → orElse (ValueOf site x) (ValueOf factory x) ≡ some (v ∷ []) → EntryWords x v (wordsOfTwo site factory (siteOverFactoryCall site factory x))
+    found : (v : ℕ) → orElse (ValueOf site x) (ValueOf factory x) ≡ some (v ∷ [])
+        → EntryWords x v (wordsOfTwo site factory (siteOverFactoryCall site factory x))
     found v k = go (ValueOf site x) refl k
       where
         go : (o : Option Value) → ValueOf site x ≡ o → orElse o (ValueOf factory x) ≡ some (v ∷ [])
@@ -231,7 +232,8 @@ which-map-means site factory x p q = (ap (λ (d : Deciding). d .position) here �
     here : siteOverFactoryCall site factory x ≡ deciding site factory x
     here = decided-here site factory x p q
 
-    position : (t : Bool) → (pick t (partIn 0 (windowPart (mapLayout .width) site x x)) (partIn 1 (windowPart (mapLayout .width) factory x x))) .position ≡ pick t 0 1
+    position : (t : Bool)
+        → (pick t (partIn 0 (windowPart (mapLayout .width) site x x)) (partIn 1 (windowPart (mapLayout .width) factory x x))) .position ≡ pick t 0 1
     position true = refl
     position false = refl
 

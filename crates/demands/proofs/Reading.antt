@@ -9,26 +9,26 @@ use native.Mathlib.Omega.{arith}
 use lib.Dec.{ltb, eqb}
 use lib.ListN.{length, take, drop, getD}
 use Rattle.entries.specs.Entries.{Entry}
-use Rattle.answers.specs.Answers.{outcome, given, refuse, applies, inTurn, Clear}
+use Rattle.answers.specs.Answers.{Outcome, outcome, given, refused, refuse, applies, inTurn, Keeps, Clear}
 use Rattle.answers.specs.declared.Finding.{Finding}
 use Rattle.answers.specs.Steps.{Named}
-use Rattle.answers.proofs.Turns.{refused-named}
-use Rattle.numbers.specs.Numbers.{num2}
+use Rattle.answers.proofs.Turns.{refused-named, turn-accepted, clear-split, clear-both}
+use Rattle.numbers.specs.Numbers.{Bytes, num2}
 use Rattle.numbers.specs.Check.{checkOf}
 use Rattle.records.specs.Records.{bodyLength, bodyVerdict, recordVerdict, inOrder, entryIn, allWithin}
 use Rattle.runs.specs.Runs.{lengths, runsIn, runRefusals, runsRefusals}
-use Rattle.answers.proofs.Turns.{clear-split, clear-both}
 use Rattle.runs.proofs.Several.{many-lengths}
 use Rattle.verdicts.specs.declared.Form.{Form}
-use Rattle.verdicts.specs.Forms.{kindsOf, startSize, formCounts, formEntries, sizeOf, sharing, trailing, overlap, formRefusals}
+use Rattle.verdicts.specs.Forms.{ofSet, kindsOf, startSize, formCounts, formEntries, sizeOf, sharing, trailing, overlap, formRefusals}
 use Rattle.verdicts.specs.Forms.{noBlocks, noRooms, outRefusals}
-use Rattle.forms.specs.Calls.{storedIn, readCall}
+use Rattle.verdicts.proofs.Whole.{set-kind}
+use Rattle.forms.specs.Calls.{storedIn, readCall, memberOfFormCall}
 use Rattle.forms.proofs.Forms.{accepted-formed, formed-accepted}
-use Rattle.demands.specs.Bytes.{OfThree, of-set, of-map, of-bulletin, lastOfBytes, IsForm, ReadRefusals, NoRoomFor, ReadRoom}
+use Rattle.demands.specs.Bytes.{OfThree, of-set, of-map, of-bulletin, lastOfBytes, IsForm, ReadRefusals, HostRefuses, NoRoomFor, ReadRoom}
 use Rattle.demands.specs.Plain.{Iff}
 use Rattle.demands.proofs.Findings.{Where, Numbered, chosen, not-any, applied, numbered-both, numbered-so, named-number, named-applies, named-split}
 use Rattle.demands.proofs.Rooms.{Not5, words-numbers, rooms-numbers, clear-words, words-clear, Lacks, refused-room}
-use Rattle.demands.proofs.Forms.{kind-of}
+use Rattle.demands.proofs.Forms.{kind-of, host-question, bytes-keep}
 
 -- the numbers that bytes are refused with, the highest being `last`
 abbrev From8 : ℕ → ℕ → Type 0
@@ -115,6 +115,31 @@ read-refusals f t b y outs after n p e =
           of-outputs (named-split (noBlocks 0 ls) (noRooms (f .layout) 0 ls counts) (m .1)),
           record { runs = formEntries f b; form = accepted-formed f (kind-of t) b y (m .0) },
         )
+
+-- with no outputs, what reading accepts is a form
+form-alone : (b : List ℕ) → Bytes b → (xs : List ℕ) (after : List (List ℕ)) → readCall ofSet b [] ≡ outcome (given xs) after → IsForm ofSet b
+unfolding readCall
+form-alone b y xs after e =
+    let rs = outRefusals (ofSet .layout) [] (lengths (formEntries ofSet b)) in
+    let t = turn-accepted (formRefusals ofSet b ++ rs) [] (outcome (given []) (storedIn [] (formEntries ofSet b))) xs after e in
+    record { runs = formEntries ofSet b; form = accepted-formed ofSet set-kind b y (clear-split (formRefusals ofSet b) rs (t .0) .0) }
+
+-- THE C HOST'S QUESTION of bytes that are no form
+pub host-refuses : HostRefuses
+host-refuses b x y not = go (readCall ofSet b []) refl
+  where
+    told : (n p : ℕ) → readCall ofSet b [] ≡ refuse n p []
+        → ((8 ≤ n) × (n ≤ lastOfBytes ofSet) × (IsForm ofSet b → ⊥)) ⊎ (((n ≡ 1) ⊎ (n ≡ 5)) × IsForm ofSet b)
+        → (16 + 8 ≤ memberOfFormCall b x) × (memberOfFormCall b x ≤ 16 + 13)
+    told n p e (inl m) = let k = host-question b x y .1 n p e in (omega (arith, k, m .0), omega (arith, k, m .1))
+    told n p e (inr m) = absurd (not (m .1))
+
+    go : (o : Outcome) → readCall ofSet b [] ≡ o → (16 + 8 ≤ memberOfFormCall b x) × (memberOfFormCall b x ≤ 16 + 13)
+    go (outcome (given xs) after) e = absurd (not (form-alone b y xs after e))
+    go (outcome (refused n p) after) e =
+        let k : after ≡ [] = subst (Keeps []) e (bytes-keep .0 ofSet b []) in
+        let d : readCall ofSet b [] ≡ refuse n p [] = e ∙ ap (outcome (refused n p)) k in
+        told n p d (read-refusals ofSet of-set b y [] [] n p d)
 
 -- the counts of what the bytes say are as many as the runs
 as-many : (f : Form) → OfThree f → (b : List ℕ) → length (lengths (formEntries f b)) ≡ f .runs

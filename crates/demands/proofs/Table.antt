@@ -87,10 +87,15 @@ I = 0xC5 ∷ 0x3A ∷ 0x01 ∷ 0x00 ∷ 0x00 ∷ 0x03 ∷ 0x01 ∷ []
 
 -- the bytes of the map {0..9 is 1}, and of the bulletin that releases 1..4 and withdraws 9..9
 abbrev oneEntry : List ℕ
-oneEntry = 0xC5 ∷ 0x3A ∷ 2 ∷ 0 ∷ 1 ∷ 7 ∷ 3 ∷ 0xC5 ∷ 0x3A ∷ 0x11 ∷ 0 ∷ 0 ∷ 0 ∷ 0 ∷ 0 ∷ 0 ∷ 0 ∷ 0 ∷ 0 ∷ 0 ∷ 0 ∷ 0 ∷ 0 ∷ 0 ∷ 0 ∷ 9 ∷ 0 ∷ 0 ∷ 0 ∷ 0 ∷ 0 ∷ 0 ∷ 0 ∷ 1 ∷ 0xFC ∷ 0x1B ∷ []
+oneEntry =
+    0xC5 ∷ 0x3A ∷ 2 ∷ 0 ∷ 1 ∷ 7 ∷ 3
+    ∷ 0xC5 ∷ 0x3A ∷ 0x11 ∷ 0 ∷ 0 ∷ 0 ∷ 0 ∷ 0 ∷ 0 ∷ 0 ∷ 0 ∷ 0 ∷ 0 ∷ 0 ∷ 0 ∷ 0 ∷ 0 ∷ 0 ∷ 9 ∷ 0 ∷ 0 ∷ 0 ∷ 0 ∷ 0 ∷ 0 ∷ 0 ∷ 1 ∷ 0xFC ∷ 0x1B ∷ []
 
 abbrev oneEach : List ℕ
-oneEach = 0xC5 ∷ 0x3A ∷ 3 ∷ 0 ∷ 1 ∷ 0 ∷ 1 ∷ 0x13 ∷ 5 ∷ 0xC5 ∷ 0x3A ∷ 0x12 ∷ 0 ∷ 0 ∷ 0 ∷ 0 ∷ 0 ∷ 0 ∷ 0 ∷ 1 ∷ 0 ∷ 0 ∷ 0 ∷ 0 ∷ 0 ∷ 0 ∷ 0 ∷ 4 ∷ 0x40 ∷ 0x17 ∷ 0xC5 ∷ 0x3A ∷ 0x13 ∷ 0 ∷ 0 ∷ 0 ∷ 0 ∷ 0 ∷ 0 ∷ 0 ∷ 9 ∷ 0 ∷ 0 ∷ 0 ∷ 0 ∷ 0 ∷ 0 ∷ 0 ∷ 9 ∷ 0x9E ∷ 0x25 ∷ []
+oneEach =
+    0xC5 ∷ 0x3A ∷ 3 ∷ 0 ∷ 1 ∷ 0 ∷ 1 ∷ 0x13 ∷ 5
+    ∷ 0xC5 ∷ 0x3A ∷ 0x12 ∷ 0 ∷ 0 ∷ 0 ∷ 0 ∷ 0 ∷ 0 ∷ 0 ∷ 1 ∷ 0 ∷ 0 ∷ 0 ∷ 0 ∷ 0 ∷ 0 ∷ 0 ∷ 4 ∷ 0x40 ∷ 0x17
+    ∷ 0xC5 ∷ 0x3A ∷ 0x13 ∷ 0 ∷ 0 ∷ 0 ∷ 0 ∷ 0 ∷ 0 ∷ 0 ∷ 9 ∷ 0 ∷ 0 ∷ 0 ∷ 0 ∷ 0 ∷ 0 ∷ 0 ∷ 9 ∷ 0x9E ∷ 0x25 ∷ []
 
 abbrev table : List Case
 table =

@@ -57,8 +57,8 @@ pub record IsForm (f : Form) (b : List ℕ) : Type 0 where
   pub runs : List (List Entry)
   pub form : Formed f b runs
 
--- [R8, R9, R10, R11, R12, R13, R14, R17, Y15] READING'S REFUSALS: bytes that are no form are refused with 8 to 13, a bulletin's also with 14; a form with 1 or 5, for its
--- outputs
+-- [R8, R9, R10, R11, R12, R13, R14, R17, Y15] READING'S REFUSALS: bytes that are no form are refused with 8 to 13, a bulletin's also with
+-- 14; a form with 1 or 5, for its outputs
 abbrev pub ReadRefusals : Type 0
 ReadRefusals = (f : Form) → OfThree f → (b : List ℕ) → Bytes b → (outs after : List (List ℕ)) (n p : ℕ) → readCall f b outs ≡ refuse n p after
     → ((8 ≤ n) × (n ≤ lastOfBytes f) × (IsForm f b → ⊥)) ⊎ (((n ≡ 1) ⊎ (n ≡ 5)) × IsForm f b)
@@ -141,3 +141,7 @@ abbrev pub HostQuestion : Type 0
 HostQuestion = (b : List ℕ) (x : ℕ) → Bytes b
     → ((out w : List ℕ) → readSetCall b out ≡ leaves w → memberOfFormCall b x ≡ pick (In w x) 1 0)
     × ((n p : ℕ) → readCall ofSet b [] ≡ refuse n p [] → memberOfFormCall b x ≡ 16 + n)
+
+-- [H1] and bytes that are no form of a set are answered by 16 plus a number from 8 to 13: never by 1 or 0
+abbrev pub HostRefuses : Type 0
+HostRefuses = (b : List ℕ) (x : ℕ) → Bytes b → (IsForm ofSet b → ⊥) → (16 + 8 ≤ memberOfFormCall b x) × (memberOfFormCall b x ≤ 16 + 13)
