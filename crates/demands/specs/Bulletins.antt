@@ -45,6 +45,18 @@ abbrev pub FoldApplies : Type 0
 FoldApplies = (list r₁ w₁ r₂ w₂ outR outW R W out₁ T out₂ U out : List ℕ) → foldCall r₁ w₁ r₂ w₂ outR outW ≡ folds R W
     → applyCall list r₁ w₁ out₁ ≡ leaves T → applyCall T r₂ w₂ out₂ ≡ leaves U → length out ≡ length out₂ → applyCall list R W out ≡ leaves U
 
+-- any number of bulletins, one after the other: applied to a list, each into a block of its own, they left T in a block of L words; folded,
+-- each into what the ones before it had folded to, they are the one bulletin R, W
+pub data Chain (list : List ℕ) : List ℕ → List ℕ → List ℕ → ℕ → Type 0 where
+  one : (r w out T : List ℕ) → applyCall list r w out ≡ leaves T → Chain list r w T (length out)
+  more : (R W T : List ℕ) (L : ℕ) → Chain list R W T L → (r w outR outW R′ W′ out T′ : List ℕ)
+      → foldCall R W r w outR outW ≡ folds R′ W′ → applyCall T r w out ≡ leaves T′ → Chain list R′ W′ T′ (length out)
+
+-- [D5] TWENTY AT ONCE: a cart that is sent the one folded bulletin, and applies it to the same list into a block as long as the last of its
+-- neighbour's, accepts it and holds the same words as the neighbour that took them one by one
+abbrev pub ChainApplies : Type 0
+ChainApplies = (list R W T : List ℕ) (L : ℕ) → Chain list R W T L → (out : List ℕ) → length out ≡ L → applyCall list R W out ≡ leaves T
+
 -- [D6] GROUPING: three bulletins fold to the same words under either grouping, wherever both are accepted into blocks of equal length
 abbrev pub FoldGroups : Type 0
 FoldGroups = (r₁ w₁ r₂ w₂ r₃ w₃ : List ℕ) (o₁ o₂ o₃ o₄ o₅ o₆ o₇ o₈ : List ℕ) (R₁₂ W₁₂ R W R₂₃ W₂₃ R′ W′ : List ℕ)
