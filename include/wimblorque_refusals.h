@@ -13,7 +13,7 @@ static inline unsigned wimblorque_refusal_index(uint64_t status) {
     return status >= WIMBLORQUE_NO_BLOCK && status <= WIMBLORQUE_NO_SPACE ? (unsigned)(status - 16) : 16;
 }
 
-/* The name of the refusal that a status tells, as the paper's table has it; "Accepted" for 0, "Unknown" for what is no status. */
+/* The name of the refusal that a status tells, as the table of refusals has it; "Accepted" for 0, "Unknown" for what is no status. */
 static inline const char *wimblorque_refusal_name(uint64_t status) {
     static const char *const names[17] = {
         "Accepted", "NoBlock", "Count", "Order", "Backwards", "Room", "ZeroRun", "NoGap", "Short",

@@ -49,8 +49,7 @@ class Item:
 
 
 def items(path):
-    """The public declarations of a file, in order. A comment belongs to the declaration right below it, and so does the comment that
-    opens the group of declarations, with no empty line between, that it stands in."""
+    """The public declarations of a file, in order. A comment belongs to the declaration right below it."""
     comment, lines, current, found = [], read(path).splitlines(), None, []
     for line in lines:
         text = line.strip()

@@ -37,12 +37,26 @@ PARTS = [
     ("Bytes", "forms, runs, records, numbers, the check", [(c, "specs") for c in ("verdicts", "runs", "records", "numbers")]),
     ("Lists of entries", "what a list names", [("entries", "specs")]),
 ]
-# What the code promises itself; no theorem and no contract of a user's call names it.
-INNER = {"Steps"}
-# Two laws that stand for a definition that need not be read.
-LAWS = [
-    ("entries", "Building", "built"),
-    ("entries", "Canon", "canonical"),
+# What the code promises itself, and fits for other starts than all; no theorem and no contract of a user's call names it.
+INNER = {"Steps", "Starts"}
+# Two laws that stand for a definition that need not be read, with what the first supposes; and the laws by which an outcome is the only
+# one: of each kind of answer, of a part, of what C is told.
+BUILD = [("entries", "Cuts", "NotIn"), ("entries", "Cuts", "Changes"), ("entries", "Building", "Ends"), ("entries", "Building", "built"), ("entries", "Canon", "canonical")]
+ONLY = [("answers", "Unique", kind + "-only") for kind in ("judged", "truth", "found", "ranged", "sized", "parted", "decided", "placed", "written")] + [
+    ("forms", "Unique", "form-read-only"),
+    ("searches", "Windows", "part-only"),
+    ("told", "Telling", "told-only"),
+    ("told", "Telling", "values-told"),
+]
+# The structs and enums of the code that definitions and contracts name.
+NAMED = [
+    ("answers", ("Reason", "Refusal", "Finding", "Judged", "Truth", "Found", "Ranged", "Sized", "Parted", "Decided", "Placed", "Written")),
+    ("blocks", ("Layout",)),
+    ("searches", ("Part",)),
+    ("maps", ("Deciding",)),
+    ("verdicts", ("Form",)),
+    ("forms", ("FormRead",)),
+    ("told", ("Told",)),
 ]
 
 
@@ -58,6 +72,21 @@ def contracts(crate):
 def entry(comment, lines):
     shown = [comment, ""] if comment else []
     return shown + ["```", *lines, "```", ""], len(lines)
+
+
+def structs(crate, names):
+    """The structs and enums of a crate's code by these names: comment and declaration."""
+    text = antt.read("crates", crate, "src", "lib.rt")
+    for name in names:
+        m = re.search(r"((?:^//[^\n]*\n)*)(?:^#\[[^\n]*\]\n)*^(pub (?:struct|enum) " + name + r" \{\n.*?^\})", text, re.M | re.S)
+        yield " ".join(line[2:].strip() for line in m.group(1).splitlines()), m.group(2).splitlines()
+
+
+def laws(wanted):
+    """The statements, without proofs, of laws by crate, file and name."""
+    for crate, module, name in wanted:
+        item = next(i for i in antt.items(os.path.join("crates", crate, "proofs", module + ".antt")) if i.name == name)
+        yield item.comment, item.lines if name[0].isupper() else item.statement()
 
 
 def files(crate, kind):
@@ -79,12 +108,17 @@ def page():
                     text, n = entry(item.comment, item.lines)
                     out += text
                     counts[heading] += n
-    out += ["### Two laws that stand for `build`", ""]
-    for crate, module, name in LAWS:
-        item = next(i for i in antt.items(os.path.join("crates", crate, "proofs", module + ".antt")) if i.name == name)
-        text, n = entry(item.comment, item.statement())
-        out += text
-        counts["Lists of entries"] += n
+    for heading, part, found in (
+        ("### Two laws that stand for `build`", "Lists of entries", laws(BUILD)),
+        ("## One outcome: no second one satisfies a contract", "One outcome", laws(ONLY)),
+        ("## Structs and enums that definitions and contracts name", "Structs and enums", (s for crate, names in NAMED for s in structs(crate, names))),
+    ):
+        out += [heading, ""]
+        counts.setdefault(part, 0)
+        for comment, lines in found:
+            text, n = entry(comment, lines)
+            out += text
+            counts[part] += n
     out += ["## The contracts: of the calls that users are given", ""]
     counts["The contracts"] = 0
     for crate in re.findall(r"^## `(\w+)`", antt.read("docs", "CALLS.md"), re.M):

@@ -19,6 +19,7 @@ COLUMNS = ["definitions", "theorems", "edits", "tests", "code"]
 NEEDS = {
     **{letter: ["definitions", "theorems", "edits", "tests"] for letter in "BRSFMUYH"},
     "D": ["theorems"],
+    "E": ["edits"],
     "N": ["tests"],
     "G": ["code"],
 }
@@ -94,7 +95,7 @@ def called(trace):
         call, _, outcome, _, edits, tests = cells
         name = re.match(r"`(\w+)\(", call).group(1)
         for test in re.findall(r"`([^`]+)`", tests):
-            if not mentions(test, name, outcome):
+            if not mentions(test, name, outcome.split(", ")[0]):
                 trace.faults.append(f"docs/CALLS.md: the test {test} of {name} does not contain it")
         for definition in re.findall(r"`[^`]+`", outcome):
             for n in stated.get(definition, []):

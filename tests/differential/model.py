@@ -1,4 +1,4 @@
-"""The library's calls in plain Python, written from the paper and its readings alone.
+"""The library's calls in plain Python, written from the requirements and their readings alone.
 
 A set is a sorted list of ranges (low, high), a map a sorted list of entries (low, high, value). Each call takes what is lent, blocks
 as lists of words and buffers as bytes, and the arguments, in the order of the header. `run` answers with the status, the other words
@@ -17,7 +17,7 @@ BODY = {START_OF_SET: 2, START_OF_MAP: 2, START_OF_BULLETIN: 4, RANGE: 16, ENTRY
 
 
 class Refused(Exception):
-    """A refusal: its number in the paper's table, and its place."""
+    """A refusal: its number in the table of refusals, and its place."""
 
     def __init__(self, number, place):
         super().__init__(number, place)

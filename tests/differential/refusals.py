@@ -1,4 +1,4 @@
-"""Which refusals each call can give, in the paper's order, and cases in which one of them, or two at once, apply.
+"""Which refusals each call can give, in the order of the requirements, and cases in which one of them, or two at once, apply.
 
 A refusal of a call is a pair (number, where): where is a block's position, for bytes the record ('start', 'item' or 'later', in the
 order in which they stand), or ''. `8<` is the refusal 8 of a record of which fewer than 3 bytes are left, `8` of one that is cut
@@ -43,7 +43,7 @@ def reads_bytes(name):
 
 
 def refusals_of(name):
-    """Every refusal that the call can give, in the paper's order."""
+    """Every refusal that the call can give, in the order of the requirements."""
     letters = [letter for letter in letters_of(name) if letter in "ico"]
     inputs = [i for i, letter in enumerate(letters) if letter in "ic"]
     outputs = [i for i, letter in enumerate(letters) if letter == "o"]
@@ -64,7 +64,7 @@ def refusals_of(name):
 
 
 def number_of(refusal):
-    """The paper's number."""
+    """The number in the table of refusals."""
     return 8 if refusal[0] == "8<" else refusal[0]
 
 
@@ -363,4 +363,4 @@ def case_for(name, pair, seed):
         built = [(*build(name, wants, pair, tried), first) for wants, first in steps]
         if all(case is not None and gives(case, first, places.get(first, 0)) for case, places, first in built):
             return built[-1][0]
-    raise SystemExit(f"differential: no case of {name} found to which {pair} apply; is the model's order the paper's?")
+    raise SystemExit(f"differential: no case of {name} found to which {pair} apply; is the model's order that of the requirements?")

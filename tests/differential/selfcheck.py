@@ -1,4 +1,4 @@
-"""Checks the model itself: against brute force on sets of a few cells, and against the paper's worked numbers.
+"""Checks the model itself: against brute force on sets of a few cells, and against the worked numbers of the requirements.
 
 The line 0..M is cut into 17 cells, all but one of them a single number: the single numbers stand at the line's low end, at its high
 end, or at both, and one wide cell is all the rest. A set is then a Python set of cells, a map a dict from cells to values, and every

@@ -31,7 +31,7 @@ each test (suc n) h k p = let a = and-true (test n) (below test n) h in go (a .0
     go e ih (yes q) = ih q
     go e ih (no q) = let i : k ≡ n = omega arith in ap test i ∙ e
 
--- [R1, R2, R3, R4, R5, R6, R7, R8, R9, R10, R11, R12, R13, R14, R15] each number of the table is that of its reason
+-- each number of the table is that of its reason
 pub reason-number : (k : ℕ) → 1 ≤ k → k ≤ lastNumber → numberOf (reasonOf k) ≡ k
 reason-number zero h l = absurd (omega arith)
 reason-number (suc k) h l =

@@ -27,7 +27,6 @@ use Rattle.answers.specs.declared.Written.{Written}
 use Rattle.answers.specs.declared.Written.the-variants as written
 use Rattle.answers.specs.Answers.{Answer, given, refused}
 
--- [R1, R2, R3, R4, R5, R6, R7, R8, R9, R10, R11, R12, R13, R14, R15]
 -- [G7] the table's number of each reason
 abbrev pub numberOf : Reason → ℕ
 numberOf NoBlock = 1

@@ -10,7 +10,8 @@ use Rattle.answers.specs.Answers.{refuse}
 use Rattle.blocks.specs.Blocks.{setLayout, entriesOf, SoundBlock}
 use Rattle.fits.specs.Calls.{fitCall, firstFitCall, bestFitCall}
 use Rattle.fits.specs.Fits.{gaps, fits, firstGap, shortestGap, startIn, placeIn, anywhere, firstFit, bestFit}
-use Rattle.fits.specs.Meaning.{FreeRun, IsGap, FirstOf, BestOf, LeastUp, FirstAt, Holds, BestAt}
+use Rattle.fits.specs.Meaning.{FreeRun, IsGap, FirstOf, BestOf}
+use Rattle.fits.specs.Starts.{LeastUp, FirstAt, Holds, BestAt}
 use Rattle.fits.proofs.Listed.{In, Around}
 use Rattle.fits.proofs.Runs.{all, run-around, listed-gap, gap-listed}
 use Rattle.fits.proofs.Asking.{atPlace, fit-asked}

@@ -1,9 +1,9 @@
--- Each refusal of reading and writing, by computing the definitions.
+-- Refusals of reading, and the question on bytes, by computing the definitions (check and writing: the table of demands).
 use Prim.Native.Nat.{ℕ}
 use mathlib.Core.List.{List, [], _∷_, _++_}
 use mathlib.Core.Path.{_≡_, refl}
 use lib.ListN.{take, drop, replicate}
-use Rattle.entries.specs.Entries.{entry}
+use Rattle.entries.specs.Entries.{Entry, entry}
 use Rattle.entries.specs.Sets.{intersection}
 use Rattle.entries.specs.Bulletins.{shareb}
 use Rattle.answers.specs.Answers.{outcome, given, refused, refuse}
@@ -11,8 +11,17 @@ use Rattle.blocks.specs.Blocks.{blockOf}
 use Rattle.numbers.specs.Check.{fletcher, checkOf}
 use Rattle.records.specs.Records.{bodyLength, said, saying, recordVerdict}
 use Rattle.runs.specs.Runs.{runOf, entriesIn, runRefusals, runsOf, runsIn, runsRefusals}
-use Rattle.verdicts.specs.Forms.{formOf, setForm, mapForm, bulletinForm, formEntries, formRefusals}
+use Rattle.verdicts.specs.Forms.{ofSet, ofMap, ofBulletin, formOf, formEntries, formRefusals}
 use Rattle.forms.specs.Calls.{readCall, readSetCall, readMapCall, readBulletinCall, judgeCall, judgeSetCall, memberOfFormCall}
+
+abbrev setForm : List Entry → List ℕ
+setForm es = formOf ofSet (es ∷ [])
+
+abbrev mapForm : List Entry → List ℕ
+mapForm es = formOf ofMap (es ∷ [])
+
+abbrev bulletinForm : List Entry → List Entry → List ℕ
+bulletinForm released withdrawn = formOf ofBulletin (released ∷ withdrawn ∷ [])
 
 abbrev caseH : List ℕ
 caseH = 0xC5 ∷ 0x3A ∷ 0x01 ∷ 0x00 ∷ 0x01 ∷ 0x04 ∷ 0x02 ∷ 0xC5 ∷ 0x3A ∷ 0x10 ∷ 0 ∷ 0 ∷ 0 ∷ 0 ∷ 0 ∷ 0 ∷ 0 ∷ 5 ∷ 0 ∷ 0 ∷ 0 ∷ 0 ∷ 0 ∷ 0 ∷ 0 ∷ 9 ∷ 0x47 ∷ 0x1E ∷ []

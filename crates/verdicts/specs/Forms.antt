@@ -42,15 +42,6 @@ kindsOf f = take (f .runs) (f .first ∷ f .second ∷ [])
 unfoldable pub formOf : Form → List (List Entry) → List ℕ
 formOf f runs = startRecord (f .mark) (f .start) (lengths runs) ++ runsOf (f .mark) (kindsOf f) runs
 
-abbrev pub setForm : List Entry → List ℕ
-setForm es = formOf ofSet (es ∷ [])
-
-abbrev pub mapForm : List Entry → List ℕ
-mapForm es = formOf ofMap (es ∷ [])
-
-abbrev pub bulletinForm : List Entry → List Entry → List ℕ
-bulletinForm released withdrawn = formOf ofBulletin (released ∷ withdrawn ∷ [])
-
 -- [Y10] the length of a start record, and of a form with these counts: «Sizes: set 7+21n, map 7+29n, bulletin 9+21(r+w).»
 abbrev pub startSize : Form → ℕ
 startSize f = 2 * f .runs + 5
