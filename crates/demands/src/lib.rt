@@ -1,1 +1,1 @@
-// The demands of the product, the uniqueness of outcomes and the worked numbers, as theorems in proofs/. It has no code.
+// The demands of the product as theorems, their statements in specs/, and the worked numbers in proofs/Table. It has no code.

@@ -1,5 +1,5 @@
 // Every call of the library for a C host. A slice is passed as a pointer and then a length; include/wimblorque.h has the conventions.
-// Each contract is the outcome of the call's own definition, told in C by one definition, `inC` of specs/Told.
+// Each contract is the outcome of the call's own definition, as C is told it: `Tells`, of crate told.
 ghost use mathlib.Core.Path.{_≡_};
 ghost use mathlib.Core.List.{[], _∷_};
 ghost use Rattle.sets.specs.Calls.{makeEmptyCall, memberCall, rangeAtCall, sizeCall, leastMemberCall, leastNonMemberCall, setWindowAtCall, insertCall};
