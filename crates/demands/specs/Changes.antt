@@ -104,19 +104,29 @@ ChangesKeep = ((l : Layout) (w : List ℕ) (a b : ℕ) (o : Option Value) → Ke
     × ((first out : Layout) (make : List Entry → List Entry) (w o : List ℕ) → Keeps (o ∷ []) (fromOne first out make w o))
     × ((w : List ℕ) → Keeps (w ∷ []) (makeEmptyCall w))
 
--- [D2] FROM A CHANGE TO THE NEXT QUESTION, as a user's proof cites it
+-- [S9, S1, D2] FROM A CHANGE TO THE NEXT QUESTION, as a user's proof cites it: a number that was inserted is a member,
 abbrev pub InsertedMember : Type 0
 InsertedMember = (w : List ℕ) (a b : ℕ) (after : List ℕ) → insertCall w a b ≡ leaves after → (x : ℕ) → a ≤ x → x ≤ b → memberCall after x ≡ yes
 
+-- [S10, S1, D2] one that was removed is not,
 abbrev pub RemovedMember : Type 0
 RemovedMember = (w : List ℕ) (a b : ℕ) (after : List ℕ) → removeCall w a b ≡ leaves after → (x : ℕ) → a ≤ x → x ≤ b → memberCall after x ≡ no
 
+-- [S9, S10, S1, D2] and of every other number the answer is what it was.
 abbrev pub OtherMember : Type 0
 OtherMember = (w : List ℕ) (a b : ℕ) (after : List ℕ) → (x : ℕ) → between a b x ≡ false
     → (insertCall w a b ≡ leaves after → memberCall after x ≡ memberCall w x) × (removeCall w a b ≡ leaves after → memberCall after x ≡ memberCall w x)
 
+-- [M2, M1, D2] A number that was assigned v has the value v,
 abbrev pub AssignedValue : Type 0
 AssignedValue = (w : List ℕ) (a b v : ℕ) (after : List ℕ) → assignCall w a b v ≡ leaves after → (x : ℕ) → a ≤ x → x ≤ b → lookUpCall after x ≡ answers (v ∷ [])
 
+-- [M3, M1, D2] one that was erased has none,
 abbrev pub ErasedValue : Type 0
 ErasedValue = (w : List ℕ) (a b : ℕ) (after : List ℕ) → eraseCall w a b ≡ leaves after → (x : ℕ) → a ≤ x → x ≤ b → lookUpCall after x ≡ answers []
+
+-- [M2, M3, M1, D2] and of every other number the answer is what it was
+abbrev pub OtherValue : Type 0
+OtherValue = (w : List ℕ) (a b : ℕ) (after : List ℕ) → (x : ℕ) → between a b x ≡ false
+    → ((v : ℕ) → assignCall w a b v ≡ leaves after → lookUpCall after x ≡ lookUpCall w x)
+    × (eraseCall w a b ≡ leaves after → lookUpCall after x ≡ lookUpCall w x)
