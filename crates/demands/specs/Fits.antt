@@ -37,7 +37,7 @@ pub record NoRoomAt (fit : ℕ → ℕ → ℕ → List Entry → Option ℕ) (w
   pub answered : fitCall fit w a b k ≡ answers (place ∷ [])
   pub short : capacity setLayout (length w) < length (reservedAt w place k)
 
--- [R5, F5] and it is refused for want of room exactly there
+-- [R5, F5] a reservation is refused for want of room exactly there
 abbrev pub ReserveRoom : Type 0
 ReserveRoom = (fit : ℕ → ℕ → ℕ → List Entry → Option ℕ) (w : List ℕ) (a b k : ℕ)
     → Iff (reserveCall fit w a b k ≡ refuse 5 0 (w ∷ [])) (NoRoomAt fit w a b k)
