@@ -11,16 +11,17 @@ use Rattle.entries.specs.Build.{pick}
 use Rattle.entries.specs.Sets.{member}
 use Rattle.answers.specs.declared.Finding.{Finding}
 use Rattle.answers.specs.Answers.{outcome, refuse, truth, Clear}
-use Rattle.blocks.specs.Blocks.{setLayout, capacity, entriesOf, blockOf, verdict}
+use Rattle.blocks.specs.Blocks.{setLayout, mapLayout, capacity, entriesOf, blockOf, verdict}
 use Rattle.blocks.specs.Calls.{input, output, backwards}
 use Rattle.blocks.proofs.Refusing.{some-words, in-order}
 use Rattle.edits.specs.Calls.{edited, editCall}
 use Rattle.operations.specs.Calls.{fromTwo, fromOne}
 use Rattle.sets.specs.Calls.{memberCall, insertCall, removeCall}
-use Rattle.maps.specs.Calls.{worth}
+use Rattle.maps.specs.Calls.{worth, lookUpCall}
 use Rattle.forms.proofs.Forms.{has-words}
-use Rattle.demands.specs.Plain.{Iff, In, ValueOf, between, leaves}
-use Rattle.demands.specs.Changes.{EditRoom, TwoRoom, OneRoom, ChangesKeep, InsertedMember, RemovedMember, OtherMember, AssignedValue, ErasedValue}
+use Rattle.demands.specs.Plain.{Iff, In, ValueOf, between, leaves, Left}
+use Rattle.demands.specs.Changes.{EditRoom, TwoRoom, OneRoom, ChangesKeep}
+use Rattle.demands.specs.Changes.{InsertedMember, RemovedMember, OtherMember, AssignedValue, ErasedValue, OtherValue}
 use Rattle.demands.proofs.Sets.{edit-keeps, two-keeps, one-keeps, empty-keeps, insert-means, remove-means}
 use Rattle.demands.proofs.Maps.{assign-means, erase-means}
 use Rattle.demands.proofs.Questions.{asked-sound}
@@ -124,3 +125,14 @@ erased-value w a b after e x h k =
     let l = erase-means w a b [] after e in
     looked after x (l .sound) ∙ ap (λ (o : Option Value). outcome (worth o) [])
     (l .names x ∙ ap (λ (t : Bool). pick t none (ValueOf w x)) (in-between a b x h k))
+
+pub other-value : OtherValue
+other-value w a b after x out = (λ v e. kept (some (v ∷ [])) e (assign-means w a b v [] after e), λ e. kept none e (erase-means w a b [] after e))
+  where
+    -- whatever is put on a..b
+    kept : (o : Option Value) → editCall mapLayout w a b o ≡ leaves after → Left mapLayout (length w) (λ y. pick (between a b y) o (ValueOf w y)) after
+        → lookUpCall after x ≡ lookUpCall w x
+    kept o e l =
+        looked after x (l .sound)
+        ∙ ap (λ (u : Option Value). outcome (worth u) []) (l .names x ∙ ap (λ (t : Bool). pick t o (ValueOf w x)) out)
+        ∙ sym (looked w x (edit-accepted mapLayout w a b o after e .sound))

@@ -15,11 +15,11 @@ use Rattle.searches.specs.Calls.{overlap}
 use Rattle.bulletins.specs.Calls.{amendedWith, applyCall, foldCall}
 use Rattle.forms.proofs.Forms.{has-words}
 use Rattle.demands.specs.Plain.{Iff}
-use Rattle.demands.specs.Bulletins.{Apply, Fold, FoldIsOne, FoldApplies, FoldGroups, EitherOrder, ApplyRoom, Foldable, FoldRoom}
+use Rattle.demands.specs.Bulletins.{Apply, Fold, FoldIsOne, FoldApplies, FoldGroups, EitherOrder, BulletinsKeep, ApplyRoom, Foldable, FoldRoom}
 use Rattle.demands.proofs.Findings.{Numbered}
 use Rattle.demands.proofs.Rooms.{Not5, input-not, output-not, overlap-not, Lacks, refused-room, refused-alone}
 use Rattle.demands.proofs.Bulletins.{apply-means, fold-released, fold-withdrawn, fold-bulletin, fold-applies, fold-groups, fold-either-order}
-use Rattle.demands.proofs.Bulletins.{overlap-apart, apart-overlap}
+use Rattle.demands.proofs.Bulletins.{apply-keeps, fold-keeps, overlap-apart, apart-overlap}
 
 pub apply-leaves : Apply
 apply-leaves = apply-means
@@ -38,6 +38,9 @@ fold-grouping = fold-groups
 
 pub fold-order : EitherOrder
 fold-order = fold-either-order
+
+pub bulletins-keep : BulletinsKeep
+bulletins-keep = (apply-keeps, fold-keeps)
 
 -- ROOM exactly: what is tried before it is clear, and of the outputs the one is the first without room
 pub apply-room : ApplyRoom

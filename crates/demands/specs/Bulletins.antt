@@ -6,7 +6,7 @@ use Prim.Native.Nat.{ℕ, _≤_, _<_}
 use lib.ListN.{length}
 use Rattle.entries.specs.Sets.{M}
 use Rattle.entries.specs.Bulletins.{amend, Apart}
-use Rattle.answers.specs.Answers.{Outcome, outcome, given, refuse}
+use Rattle.answers.specs.Answers.{Outcome, outcome, given, refuse, Keeps}
 use Rattle.blocks.specs.Blocks.{setLayout, capacity, entriesOf, Lent}
 use Rattle.bulletins.specs.Calls.{amendedWith, applyCall, foldCall}
 use Rattle.demands.specs.Plain.{Iff, SoundSet, In, leaves, SetLeft}
@@ -89,6 +89,11 @@ SameEffect = (r w r′ w′ : List ℕ) → Bulletin r w → Bulletin r′ w′ 
 abbrev pub SameApplied : Type 0
 SameApplied = (r w r′ w′ : List ℕ) → Bulletin r w → Bulletin r′ w′ → Lent r → Lent w → Lent r′ → Lent w′
     → ((list out : List ℕ) → Lent list → Lent out → applyCall list r w out ≡ applyCall list r′ w′ out) → SameRanges r w r′ w′
+
+-- [R0] REFUSED, neither changes anything lent: the one output of apply, or the two of fold
+abbrev pub BulletinsKeep : Type 0
+BulletinsKeep = ((list released withdrawn out : List ℕ) → Keeps (out ∷ []) (applyCall list released withdrawn out))
+    × ((r₁ w₁ r₂ w₂ outR outW : List ℕ) → Keeps (outR ∷ outW ∷ []) (foldCall r₁ w₁ r₂ w₂ outR outW))
 
 -- [R5, R17] ROOM exactly: nothing earlier applies, and the list that results does not fit the output
 abbrev pub ApplyRoom : Type 0

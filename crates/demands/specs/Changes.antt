@@ -33,21 +33,23 @@ abbrev pub Remove : Type 0
 Remove = (w : List ℕ) (a b : ℕ) (after : List ℕ) → removeCall w a b ≡ leaves after
     → SetLeft (length w) (λ x. pick (between a b x) false (In w x)) after × (getD after 0 0 ≤ getD w 0 0 + 1)
 
--- [S11, S13, S14, D2] the numbers of either set, of both, of the first alone, of just one; at most n+m ranges, of both at most n+m-1,
--- and none if n or m is 0
+-- [S11, S13, S14, D2] union: the numbers of either set; at most n+m ranges
 abbrev pub Union : Type 0
 Union = (w v o after : List ℕ) → unionCall w v o ≡ leaves after
     → SetLeft (length o) (λ x. orb (In w x) (In v x)) after × (getD after 0 0 ≤ getD w 0 0 + getD v 0 0)
 
+-- [S11, S13, S14, D2] intersection: the numbers of both; at most n+m-1 ranges, and none if n or m is 0
 abbrev pub Intersection : Type 0
 Intersection = (w v o after : List ℕ) → intersectionCall w v o ≡ leaves after
     → SetLeft (length o) (λ x. andb (In w x) (In v x)) after × (getD after 0 0 ≤ getD w 0 0 + getD v 0 0 - 1)
     × (getD w 0 0 ≡ 0 → getD after 0 0 ≡ 0) × (getD v 0 0 ≡ 0 → getD after 0 0 ≡ 0)
 
+-- [S11, S13, S14, D2] difference: the numbers of the first alone; at most n+m ranges
 abbrev pub Difference : Type 0
 Difference = (w v o after : List ℕ) → differenceCall w v o ≡ leaves after
     → SetLeft (length o) (λ x. lessb (In w x) (In v x)) after × (getD after 0 0 ≤ getD w 0 0 + getD v 0 0)
 
+-- [S11, S13, S14, D2] symmetric difference: the numbers of just one; at most n+m ranges
 abbrev pub SymmetricDifference : Type 0
 SymmetricDifference = (w v o after : List ℕ) → symmetricDifferenceCall w v o ≡ leaves after
     → SetLeft (length o) (λ x. xorb (In w x) (In v x)) after × (getD after 0 0 ≤ getD w 0 0 + getD v 0 0)
@@ -81,17 +83,20 @@ Restriction = (map set o after : List ℕ) → restrictionCall map set o ≡ lea
 abbrev pub Domain : Type 0
 Domain = (map o after : List ℕ) → domainCall map o ≡ leaves after → SetLeft (length o) (λ x. has (ValueOf map x)) after
 
--- [R5, R17, R19] ROOM exactly: nothing earlier applies, and the result has more items than the capacity of the block to be written
+-- [R5, R17, R19] ROOM exactly: nothing earlier applies, and the result has more items than the capacity of the block to be written.
+-- Of a change in place,
 abbrev pub EditRoom : Type 0
 EditRoom = (l : Layout) (w : List ℕ) (a b : ℕ) (o : Option Value)
     → Iff (editCall l w a b o ≡ refuse 5 0 (w ∷ [])) ((verdict l w ≡ 0) × (a ≤ b) × (capacity l (length w) < length (edited l w a b o)))
 
+-- [R5, R17] of a result from two blocks,
 abbrev pub TwoRoom : Type 0
 TwoRoom = (first second out : Layout) (make : List Entry → List Entry → List Entry) (w v o : List ℕ)
     → Iff (fromTwo first second out make w v o ≡ refuse 5 2 (o ∷ []))
     ((verdict first w ≡ 0) × (verdict second v ≡ 0) × (0 < length o)
     × (capacity out (length o) < length (make (entriesOf (first .width) w) (entriesOf (second .width) v))))
 
+-- [R5, R17] and of a result from one
 abbrev pub OneRoom : Type 0
 OneRoom = (first out : Layout) (make : List Entry → List Entry) (w o : List ℕ)
     → Iff (fromOne first out make w o ≡ refuse 5 1 (o ∷ []))
@@ -104,19 +109,29 @@ ChangesKeep = ((l : Layout) (w : List ℕ) (a b : ℕ) (o : Option Value) → Ke
     × ((first out : Layout) (make : List Entry → List Entry) (w o : List ℕ) → Keeps (o ∷ []) (fromOne first out make w o))
     × ((w : List ℕ) → Keeps (w ∷ []) (makeEmptyCall w))
 
--- [D2] FROM A CHANGE TO THE NEXT QUESTION, as a user's proof cites it
+-- [S9, S1, D2] FROM A CHANGE TO THE NEXT QUESTION, as a user's proof cites it: a number that was inserted is a member,
 abbrev pub InsertedMember : Type 0
 InsertedMember = (w : List ℕ) (a b : ℕ) (after : List ℕ) → insertCall w a b ≡ leaves after → (x : ℕ) → a ≤ x → x ≤ b → memberCall after x ≡ yes
 
+-- [S10, S1, D2] one that was removed is not,
 abbrev pub RemovedMember : Type 0
 RemovedMember = (w : List ℕ) (a b : ℕ) (after : List ℕ) → removeCall w a b ≡ leaves after → (x : ℕ) → a ≤ x → x ≤ b → memberCall after x ≡ no
 
+-- [S9, S10, S1, D2] and of every other number the answer is what it was.
 abbrev pub OtherMember : Type 0
 OtherMember = (w : List ℕ) (a b : ℕ) (after : List ℕ) → (x : ℕ) → between a b x ≡ false
     → (insertCall w a b ≡ leaves after → memberCall after x ≡ memberCall w x) × (removeCall w a b ≡ leaves after → memberCall after x ≡ memberCall w x)
 
+-- [M2, M1, D2] A number that was assigned v has the value v,
 abbrev pub AssignedValue : Type 0
 AssignedValue = (w : List ℕ) (a b v : ℕ) (after : List ℕ) → assignCall w a b v ≡ leaves after → (x : ℕ) → a ≤ x → x ≤ b → lookUpCall after x ≡ answers (v ∷ [])
 
+-- [M3, M1, D2] one that was erased has none,
 abbrev pub ErasedValue : Type 0
 ErasedValue = (w : List ℕ) (a b : ℕ) (after : List ℕ) → eraseCall w a b ≡ leaves after → (x : ℕ) → a ≤ x → x ≤ b → lookUpCall after x ≡ answers []
+
+-- [M2, M3, M1, D2] and of every other number the answer is what it was
+abbrev pub OtherValue : Type 0
+OtherValue = (w : List ℕ) (a b : ℕ) (after : List ℕ) → (x : ℕ) → between a b x ≡ false
+    → ((v : ℕ) → assignCall w a b v ≡ leaves after → lookUpCall after x ≡ lookUpCall w x)
+    × (eraseCall w a b ≡ leaves after → lookUpCall after x ≡ lookUpCall w x)

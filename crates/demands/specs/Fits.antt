@@ -31,7 +31,13 @@ Reserve = (fit : ℕ → ℕ → ℕ → List Entry → Option ℕ) (w : List �
     → reserveCall fit w a b k ≡ outcome (given (s ∷ [])) (after ∷ [])
     → (fitCall fit w a b k ≡ answers (s ∷ [])) × SetLeft (length w) (λ x. pick (between s (s + k - 1) x) true (In w x)) after
 
--- [R5, F5] and it is refused for want of room exactly where the question answers a place s at which the result does not fit
+-- the question answers a place, and the set that a reservation there would leave has more ranges than the block's capacity
+pub record NoRoomAt (fit : ℕ → ℕ → ℕ → List Entry → Option ℕ) (w : List ℕ) (a b k : ℕ) : Type 0 where
+  pub place : ℕ
+  pub answered : fitCall fit w a b k ≡ answers (place ∷ [])
+  pub short : capacity setLayout (length w) < length (reservedAt w place k)
+
+-- [R5, F5] a reservation is refused for want of room exactly there
 abbrev pub ReserveRoom : Type 0
-ReserveRoom = (fit : ℕ → ℕ → ℕ → List Entry → Option ℕ) (w : List ℕ) (a b k s : ℕ) → fitCall fit w a b k ≡ answers (s ∷ [])
-    → Iff (reserveCall fit w a b k ≡ refuse 5 0 (w ∷ [])) (capacity setLayout (length w) < length (reservedAt w s k))
+ReserveRoom = (fit : ℕ → ℕ → ℕ → List Entry → Option ℕ) (w : List ℕ) (a b k : ℕ)
+    → Iff (reserveCall fit w a b k ≡ refuse 5 0 (w ∷ [])) (NoRoomAt fit w a b k)

@@ -18,10 +18,11 @@ pub record Iff (P Q : Type 0) : Type 0 where
   pub to : P → Q
   pub from : Q → P
 
--- a block that a call does not refuse as an input [B4, B5]
+-- [B4] a set block that a call does not refuse as an input
 abbrev pub SoundSet : List ℕ → Type 0
 SoundSet w = verdict setLayout w ≡ 0
 
+-- [B5] a map block that a call does not refuse as an input
 abbrev pub SoundMap : List ℕ → Type 0
 SoundMap w = verdict mapLayout w ≡ 0
 

@@ -55,13 +55,15 @@ LeastNonMember = (w : List ℕ) (x : ℕ) → SoundSet w
     → ((y : ℕ) → leastNonMemberCall w x ≡ answers (y ∷ []) → (x ≤ y) × (y ≤ M) × (In w y ≡ false) × ((z : ℕ) → x ≤ z → z < y → In w z ≡ true))
     × Iff (leastNonMemberCall w x ≡ answers []) ((z : ℕ) → x ≤ z → z ≤ M → In w z ≡ true)
 
--- [S7, D2] of two sets: equal, the first within the second, no common number; looked at in 0 to M alone
+-- [S7, D2] of two sets, looked at in 0 to M alone: equal, yes exactly if they have the same members;
 abbrev pub Equal : Type 0
 Equal = (w v : List ℕ) → SoundSet w → SoundSet v → Lent w → Lent v → Answers (equalCall w v) ((x : ℕ) → x ≤ M → In w x ≡ In v x)
 
+-- [S7, D2] the first within the second, yes exactly if every member of the first is one of the second;
 abbrev pub Within : Type 0
 Within = (w v : List ℕ) → SoundSet w → SoundSet v → Lent w → Answers (withinCall w v) ((x : ℕ) → x ≤ M → In w x ≡ true → In v x ≡ true)
 
+-- [S7, D2] no common number, yes exactly if nothing is a member of both
 abbrev pub Disjoint : Type 0
 Disjoint = (w v : List ℕ) → SoundSet w → SoundSet v → Lent w → Answers (disjointCall w v) ((x : ℕ) → x ≤ M → In w x ≡ true → In v x ≡ true → ⊥)
 
@@ -70,10 +72,11 @@ abbrev pub LookUp : Type 0
 LookUp = (w : List ℕ) (x : ℕ) → SoundMap w
     → ((v : ℕ) → Iff (lookUpCall w x ≡ answers (v ∷ [])) (InEntry w x v)) × Iff (lookUpCall w x ≡ answers []) ((v : ℕ) → InEntry w x v → ⊥)
 
--- [S6, M7, G2] a window's words: those of all ranges, or entries, that share a number with a..b, in order
+-- [S6, G2] a window's words: those of all ranges that share a number with a..b, in order
 abbrev pub SetWindow : Type 0
 SetWindow = (w : List ℕ) (a b : ℕ) → SoundSet w → a ≤ b → wordsAt w (setWindowCall w a b) ≡ wordsOf (meeting a b (entriesOf (setLayout .width) w))
 
+-- [M7] and of a map: those of all entries that share a number with a..b, in order
 abbrev pub MapWindow : Type 0
 MapWindow = (w : List ℕ) (a b : ℕ) → SoundMap w → a ≤ b → wordsAt w (mapWindowCall w a b) ≡ wordsOf (meeting a b (entriesOf (mapLayout .width) w))
 
@@ -98,7 +101,7 @@ DecidingEntry = (site factory : List ℕ) (x : ℕ) → SoundMap site → SoundM
     → ((v : ℕ) → orElse (ValueOf site x) (ValueOf factory x) ≡ some (v ∷ []) → EntryWords x v (wordsOfTwo site factory (siteOverFactoryCall site factory x)))
     × (orElse (ValueOf site x) (ValueOf factory x) ≡ none → wordsOfTwo site factory (siteOverFactoryCall site factory x) ≡ [])
 
--- and it lies in the site map exactly if x has a value there
+-- [M8] these words lie in the site map exactly if x has a value there, and there are none exactly if x stands in no entry of either map
 abbrev pub WhichMap : Type 0
 WhichMap = (site factory : List ℕ) (x : ℕ) → SoundMap site → SoundMap factory
     → (siteOverFactoryCall site factory x .position ≡ pick (has (ValueOf site x)) 0 1)

@@ -38,20 +38,21 @@ pub data SameOutcome (lent lent′ : List (List ℕ)) : Outcome → Outcome → 
 abbrev pub LaterAsked : Type 0
 LaterAsked = (w v : List ℕ) → SameForm setLayout w v → (answer : List Entry → Answer) → asked w answer ≡ asked v answer
 
--- about two,
+-- [B7] of every question about two,
 abbrev pub LaterAskedTwo : Type 0
 LaterAskedTwo = (w v w′ v′ : List ℕ) → SameForm setLayout w w′ → SameForm setLayout v v′ → (answer : List Entry → List Entry → Answer)
     → askedTwo w v answer ≡ askedTwo w′ v′ answer
 
--- of windows, as a part, as its place and its length, and their refusals,
+-- [B7] of windows, as a part, as its place and its length, and their refusals,
 abbrev pub LaterWindow : Type 0
 LaterWindow = (l : Layout) (w v : List ℕ) → 2 ≤ l .width → SameForm l w v → (a b : ℕ)
     → (windowCall l w a b ≡ windowCall l v a b) × (windowAtCall l w a b ≡ windowAtCall l v a b) × (windowRefusalCall l w a b ≡ windowRefusalCall l v a b)
 
--- of fits and of looking up,
+-- [B7] of fits,
 abbrev pub LaterFit : Type 0
 LaterFit = (w v : List ℕ) → SameForm setLayout w v → (fit : ℕ → ℕ → ℕ → List Entry → Option ℕ) (a b k : ℕ) → fitCall fit w a b k ≡ fitCall fit v a b k
 
+-- [B7] of looking up,
 abbrev pub LaterLookUp : Type 0
 LaterLookUp = (w v : List ℕ) → SameForm mapLayout w v → (x : ℕ) → lookUpCall w x ≡ lookUpCall v x
 
@@ -72,11 +73,12 @@ abbrev pub LaterReserve : Type 0
 LaterReserve = (w v : List ℕ) → SameForm setLayout w v → (fit : ℕ → ℕ → ℕ → List Entry → Option ℕ) (a b k : ℕ)
     → SameOutcome (w ∷ []) (v ∷ []) (reserveCall fit w a b k) (reserveCall fit v a b k)
 
--- [B7] of every result into an output,
+-- [B7] of every result from two blocks into an output,
 abbrev pub LaterTwo : Type 0
 LaterTwo = (first second out : Layout) → 2 ≤ first .width → 2 ≤ second .width → (make : List Entry → List Entry → List Entry)
     (w v w′ v′ o : List ℕ) → SameForm first w w′ → SameForm second v v′ → fromTwo first second out make w v o ≡ fromTwo first second out make w′ v′ o
 
+-- [B7] of every result from one block,
 abbrev pub LaterOne : Type 0
 LaterOne = (first out : Layout) → 2 ≤ first .width → (make : List Entry → List Entry) (w w′ o : List ℕ) → SameForm first w w′
     → fromOne first out make w o ≡ fromOne first out make w′ o
@@ -112,11 +114,12 @@ OldWords = ((first second out : Layout) (make : List Entry → List Entry → Li
     × ((f : Form) (b : List ℕ) (outs outs′ : List (List ℕ)) → lengths outs ≡ lengths outs′ → SameOutcome outs outs′ (readCall f b outs) (readCall f b outs′))
     × ((w v : List ℕ) → length w ≡ length v → SameOutcome (w ∷ []) (v ∷ []) (makeEmptyCall w) (makeEmptyCall v))
 
--- [D3] ONE STORED FORM: sound blocks, of any lengths and with any later words, that name the same numbers of 0 to M say the same entries
+-- [D3] ONE STORED FORM: sound set blocks, of any lengths and with any later words, that name the same numbers of 0 to M say the same entries
 abbrev pub OneSet : Type 0
 OneSet = (w v : List ℕ) → SoundSet w → SoundSet v → Lent w → Lent v → ((x : ℕ) → x ≤ M → In w x ≡ In v x)
     → entriesOf (setLayout .width) w ≡ entriesOf (setLayout .width) v
 
+-- [D3] and so do map blocks that give the same values to the numbers of 0 to M
 abbrev pub OneMap : Type 0
 OneMap = (w v : List ℕ) → SoundMap w → SoundMap v → Lent w → Lent v → ((x : ℕ) → x ≤ M → ValueOf w x ≡ ValueOf v x)
     → entriesOf (mapLayout .width) w ≡ entriesOf (mapLayout .width) v

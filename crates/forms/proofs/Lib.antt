@@ -2,3 +2,4 @@ pub mod Forms
 pub mod Reading
 pub mod Writing
 pub mod Cases
+pub mod Unique

@@ -23,7 +23,7 @@ pub record IsPart (w r : RefT (List ℕ)) (p : Part) : Type 0 where
   pub offset : r .ptr .1 ≡ p .place * 8 + w .ptr .1
   pub words : now r ≡ wordsAt (now w) p
 
--- [R20] refused, and where nothing is found: no words, at the block's front
+-- [R20] what is handed back where the call is refused: no words, at the block's front
 abbrev pub noPart : Part
 noPart = part 0 0
 
