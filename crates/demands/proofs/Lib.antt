@@ -17,4 +17,5 @@ pub mod Reading
 pub mod OneForm
 pub mod Folding
 pub mod Effects
+pub mod Outcomes
 pub mod Table
