@@ -2,15 +2,25 @@
 -- The outcome of a call is `inTurn fs lent (outcome (given xs) after)`: fs are the refusals that it tries, in their order, each with number 0
 -- where it does not apply; lent are the blocks and the buffers that it may write; xs is its answer, and after is what it leaves in them.
 use mathlib.Core.Path.{_≡_}
+use mathlib.Core.Option.{Option}
 use mathlib.Core.List.{List, [], _∷_, _++_}
-use Prim.Native.Nat.{ℕ}
+use Prim.Native.Nat.{ℕ, _+_, _-_, _*_, _≤_, _<_}
+use lib.ListN.{length, getD}
+use Rattle.entries.specs.Entries.{Value, Entry}
 use Rattle.answers.specs.declared.Finding.{Finding}
 use Rattle.answers.specs.Answers.{given, Outcome, outcome, refuse, inTurn, Clear, Keeps}
 use Rattle.blocks.specs.declared.Layout.{Layout}
+use Rattle.blocks.specs.Blocks.{setLayout, entriesOf, verdict}
+use Rattle.edits.specs.Calls.{editCall}
+use Rattle.fits.specs.Meaning.{FreeRun}
+use Rattle.fits.specs.Calls.{fitCall, firstFitCall, bestFitCall, reserveCall, reserveFirstCall, reserveBestCall}
+use Rattle.bulletins.specs.Calls.{applyCall, foldCall}
+use Rattle.forms.specs.Calls.{writeSetCall, writeMapCall, writeBulletinCall}
 use Rattle.searches.specs.Parts.{noPart, partSays}
 use Rattle.searches.specs.Calls.{windowPart, windowCall, windowAtCall, windowRefusalCall}
 use Rattle.maps.specs.Calls.{deciding, partIn, decidingSays, siteOverFactoryCall, siteOverFactoryAtCall, siteRefusalCall}
-use Rattle.demands.specs.Plain.{Iff}
+use Rattle.demands.specs.Plain.{Iff, SoundSet, SoundMap}
+use Rattle.demands.specs.Bulletins.{NoCommon, Bulletin}
 
 -- the call does its work: it answers values and leaves words, whatever these are
 pub record Accepts (o : Outcome) : Type 0 where
@@ -61,3 +71,66 @@ SiteCompanion = (site factory : List ℕ) (x : ℕ)
     × (siteOverFactoryAtCall site factory x ≡ outcome (decidingSays (deciding site factory x)) []))
     × ((n p : ℕ) → siteRefusalCall site factory x ≡ refuse n p []
     → (siteOverFactoryCall site factory x ≡ partIn 0 noPart) × (siteOverFactoryAtCall site factory x ≡ refuse n p []))
+
+-- GIVEN EXACTLY WHEN: the refusals one by one, each said of the calls that can give it. What is tried before it does not apply, and it does.
+
+-- [R4, R17] 4, of a change in place, of a window's companion, of a fit and of a reservation: the block is sound, and the range's low end is above
+-- its high end
+abbrev pub BackwardsExactly : Type 0
+BackwardsExactly = (w : List ℕ) (a b : ℕ)
+    → ((l : Layout) (o : Option Value) → Iff (editCall l w a b o ≡ refuse 4 0 (w ∷ [])) ((verdict l w ≡ 0) × (b < a)))
+    × ((l : Layout) → Iff (windowRefusalCall l w a b ≡ refuse 4 0 []) ((verdict l w ≡ 0) × (b < a)))
+    × ((fit : ℕ → ℕ → ℕ → List Entry → Option ℕ) (k : ℕ) → Iff (fitCall fit w a b k ≡ refuse 4 0 []) (SoundSet w × (b < a)))
+    × ((fit : ℕ → ℕ → ℕ → List Entry → Option ℕ) (k : ℕ) → Iff (reserveCall fit w a b k ≡ refuse 4 0 (w ∷ [])) (SoundSet w × (b < a)))
+
+-- [R6, R17] 6, of a fit and of a reservation: the block is sound, the window is in order, and a run of 0 numbers is asked for
+abbrev pub ZeroRunExactly : Type 0
+ZeroRunExactly = (fit : ℕ → ℕ → ℕ → List Entry → Option ℕ) (w : List ℕ) (a b k : ℕ)
+    → Iff (fitCall fit w a b k ≡ refuse 6 0 []) (SoundSet w × (a ≤ b) × (k ≡ 0))
+    × Iff (reserveCall fit w a b k ≡ refuse 6 0 (w ∷ [])) (SoundSet w × (a ≤ b) × (k ≡ 0))
+
+-- a run of at least one number is asked for, in a sound block and in a window that is in order
+pub record RunAsked (w : List ℕ) (a b k : ℕ) : Type 0 where
+  pub sound : SoundSet w
+  pub order : a ≤ b
+  pub some : k ≡ 0 → ⊥
+
+-- there is a place in the window a..b from which k numbers in a row are free: they all lie in the window, and none is a member
+pub record FreeSomewhere (w : List ℕ) (a b k : ℕ) : Type 0 where
+  pub start : ℕ
+  pub run : FreeRun a b (entriesOf (setLayout .width) w) start (start + k - 1)
+
+-- [R7, R17] 7, of both fits and of both reservations: the run is rightly asked for, and no such place exists
+abbrev pub NoGapExactly : Type 0
+NoGapExactly = (w : List ℕ) (a b k : ℕ)
+    → Iff (firstFitCall w a b k ≡ refuse 7 0 []) (RunAsked w a b k × (FreeSomewhere w a b k → ⊥))
+    × Iff (bestFitCall w a b k ≡ refuse 7 0 []) (RunAsked w a b k × (FreeSomewhere w a b k → ⊥))
+    × Iff (reserveFirstCall w a b k ≡ refuse 7 0 (w ∷ [])) (RunAsked w a b k × (FreeSomewhere w a b k → ⊥))
+    × Iff (reserveBestCall w a b k ≡ refuse 7 0 (w ∷ [])) (RunAsked w a b k × (FreeSomewhere w a b k → ⊥))
+
+-- [R14, R17] 14, of applying: the three inputs are sound, the output has words, and the bulletin's two sets share a number
+abbrev pub OverlapExactly : Type 0
+OverlapExactly = (list released withdrawn out : List ℕ)
+    → Iff (applyCall list released withdrawn out ≡ refuse 14 0 (out ∷ []))
+    (SoundSet list × SoundSet released × SoundSet withdrawn × (0 < length out) × (NoCommon released withdrawn → ⊥))
+
+-- [R14, R17] of folding: the four inputs are sound, both outputs have words, and it is not so that neither bulletin's two sets share a number
+abbrev pub FoldOverlapExactly : Type 0
+FoldOverlapExactly = (r₁ w₁ r₂ w₂ outR outW : List ℕ)
+    → Iff (foldCall r₁ w₁ r₂ w₂ outR outW ≡ refuse 14 0 (outR ∷ outW ∷ []))
+    (SoundSet r₁ × SoundSet w₁ × SoundSet r₂ × SoundSet w₂ × (0 < length outR) × (0 < length outW) × (NoCommon r₁ w₁ × NoCommon r₂ w₂ → ⊥))
+
+-- [R14, R17] and of writing a bulletin: its two sets are sound, and share a number
+abbrev pub WriteOverlapExactly : Type 0
+WriteOverlapExactly = (released withdrawn bytes : List ℕ) (p : ℕ)
+    → Iff (writeBulletinCall released withdrawn bytes p ≡ refuse 14 0 (bytes ∷ []))
+    (SoundSet released × SoundSet withdrawn × (NoCommon released withdrawn → ⊥))
+
+-- [R15, R17, Y10, Y16] 15, of the three calls that write bytes: what is to be written is sound, and the buffer ends before the form would. The
+-- form begins at p, and its size is 7+21n, 7+29n, 9+21(r+w), of word 0 of the blocks
+abbrev pub NoSpaceExactly : Type 0
+NoSpaceExactly = (bytes : List ℕ) (p : ℕ)
+    → ((w : List ℕ) → Iff (writeSetCall w bytes p ≡ refuse 15 0 (bytes ∷ [])) (SoundSet w × (length bytes < p + (7 + 21 * getD w 0 0))))
+    × ((w : List ℕ) → Iff (writeMapCall w bytes p ≡ refuse 15 0 (bytes ∷ [])) (SoundMap w × (length bytes < p + (7 + 29 * getD w 0 0))))
+    × ((r w : List ℕ) → Iff (writeBulletinCall r w bytes p ≡ refuse 15 0 (bytes ∷ []))
+    (Bulletin r w × (length bytes < p + (9 + 21 * (getD r 0 0 + getD w 0 0)))))
