@@ -1,49 +1,60 @@
 -- Every call: the statements of specs/Outcomes.
 use mathlib.Core.Path.{_≡_, refl, sym, _∙_, ap, subst}
+use mathlib.Core.Bool.{Bool, true, false}
 use mathlib.Core.Logic.{_⊎_, inl, inr}
 use mathlib.Core.Option.{Option, none, some}
 use mathlib.Core.List.{List, [], _∷_, _++_}
-use Prim.Native.Nat.{ℕ, zero, suc, _+_, _≤_, _<_}
+use Prim.Native.Nat.{ℕ, zero, suc, _+_, _-_, _≤_, _<_}
 use native.Mathlib.Omega.{arith}
 use native.Mathlib.Decide.{decLt}
 use lib.Dec.{ltb, eqb}
-use lib.ListN.{length, getD, drop}
+use lib.ListN.{length}
 use borrow.Author.Tests.{le-ltb, ne-eqb, eqb-false}
-use Rattle.entries.specs.Entries.{Entry, Each}
+use Rattle.entries.specs.Entries.{Value, Entry, Each}
+use Rattle.entries.specs.Build.{pick}
+use Rattle.entries.specs.Sets.{intersection, difference, symmetricDifference}
+use Rattle.entries.specs.Questions.{rangeAt, sizeOf, leastMember, isEmpty}
 use Rattle.answers.specs.declared.Finding.{Finding}
-use Rattle.answers.specs.Answers.{given, Outcome, outcome, refuse, judged, inTurn, handed, Clear, at, applies}
+use Rattle.answers.specs.Answers.{given, Outcome, outcome, refuse, judged, inTurn, handed, Clear, at, applies, truth, optional, lessOne}
 use Rattle.answers.specs.Steps.{Named}
-use Rattle.answers.proofs.Turns.{turn-keeps, turn-accepted, clear-turn, clear-split, applies-clear, refused≢given, refused-named}
+use Rattle.answers.proofs.Turns.{turn-keeps, turn-accepted, clear-turn, clear-at, clear-both, clear-split, applies-clear, refused≢given, refused-named}
 use Rattle.blocks.specs.declared.Layout.{Layout}
 use Rattle.blocks.specs.Blocks.{setLayout, mapLayout, entriesOf, verdict}
 use Rattle.blocks.specs.Calls.{input, noBlock, output, backwards, noRoom, room}
-use Rattle.blocks.proofs.Refusing.{some-words, in-order}
-use Rattle.blocks.proofs.Words.{items-length}
-use Rattle.edits.specs.Calls.{edited, editCall}
+use Rattle.blocks.proofs.Refusing.{some-words, in-order, room-fits}
+use Rattle.edits.specs.Calls.{edited, editRefusals, editCall}
+use Rattle.operations.specs.Calls.{twoRefusals, oneRefusals}
+use Rattle.sets.specs.Calls.{ends, nonMember, makeEmptyCall, memberCall, rangeAtCall, sizeCall, leastMemberCall, leastNonMemberCall}
+use Rattle.sets.specs.Calls.{equalCall, withinCall, disjointCall}
 use Rattle.fits.specs.Fits.{anywhere, firstFit, bestFit}
 use Rattle.fits.specs.Meaning.{FirstOf}
-use Rattle.fits.specs.Calls.{zeroRun, gapless, noGap, placeOf, askRefusals, fitRefusals, fitCall, reservedAt, reserveCall}
+use Rattle.fits.specs.Calls.{zeroRun, gapless, noGap, placeOf, askRefusals, fitRefusals, answered, fitCall, reservedAt, reserveRefusals, reserveCall}
 use Rattle.fits.proofs.Meaning.{first-fit, first-none, best-none}
-use Rattle.bulletins.specs.Calls.{amendedWith, applyCall, foldCall}
+use Rattle.fits.proofs.Reserving.{fit-chosen}
+use Rattle.bulletins.specs.Calls.{amendedWith, applyRefusals, applyCall, foldRefusals, foldCall}
 use Rattle.runs.specs.Runs.{lengths}
 use Rattle.runs.proofs.Several.{shapes}
 use Rattle.verdicts.specs.declared.Form.{Form}
 use Rattle.verdicts.specs.Steps.{FormKind}
-use Rattle.verdicts.specs.Forms.{ofSet, ofMap, ofBulletin, formOf, sharing, sizeOf}
+use Rattle.verdicts.specs.Forms.{ofSet, ofMap, ofBulletin, formOf, sharing, sizeOf as bytesIn}
 use Rattle.verdicts.proofs.Whole.{set-kind, map-kind, bulletin-kind, size}
 use Rattle.forms.specs.Calls.{heldIn, inputs, noSpace, blockRefusals, writeCall}
-use Rattle.forms.proofs.Forms.{has-words, held-fine, many-held, space-clear, space-there}
-use Rattle.searches.specs.Parts.{noPart}
+use Rattle.forms.proofs.Forms.{has-words, has-room, held-fine, many-held, space-clear, space-there}
+use Rattle.searches.specs.declared.Part.{Part}
+use Rattle.searches.specs.Parts.{noPart, partSays}
 use Rattle.entries.specs.Bulletins.{shareb}
 use Rattle.searches.specs.Calls.{overlapping, overlap, windowPart, windowRefusals, windowCall, windowAtCall, windowRefusalCall}
-use Rattle.maps.specs.Calls.{deciding, partIn, siteRefusals, siteOverFactoryCall, siteOverFactoryAtCall, siteRefusalCall}
-use Rattle.demands.specs.Plain.{Iff, SoundSet, SoundMap}
+use Rattle.maps.specs.declared.Deciding.{Deciding}
+use Rattle.maps.specs.Calls.{worth, lookUpCall, deciding, partIn, decidingSays, siteRefusals, siteOverFactoryCall, siteOverFactoryAtCall, siteRefusalCall}
+use Rattle.demands.specs.Plain.{Iff, SoundSet, SoundMap, In, ValueOf}
 use Rattle.demands.specs.Bulletins.{NoCommon, Bulletin}
 use Rattle.demands.specs.Outcomes.{Accepts, AcceptedExactly, FirstIs, RefusedExactly, RefusedKeeps, WindowCompanion, SiteCompanion}
 use Rattle.demands.specs.Outcomes.{BackwardsExactly, ZeroRunExactly, RunAsked, FreeSomewhere, NoGapExactly, OverlapExactly, FoldOverlapExactly}
-use Rattle.demands.specs.Outcomes.{WriteOverlapExactly, NoSpaceExactly}
+use Rattle.demands.specs.Outcomes.{WriteOverlapExactly, NoSpaceExactly, EditAccepted, TwoAccepted, OneAccepted, EmptyAccepted, ApplyAccepted}
+use Rattle.demands.specs.Outcomes.{FoldAccepted, AskedAccepted, AskedTwoAccepted, PartAccepted, FitAccepted, ReserveAccepted, WriteAccepted}
 use Rattle.demands.proofs.Findings.{Where, Numbered, applied, numbered-both, named-number, named-applies, named-split, named-refused}
 use Rattle.demands.proofs.Rooms.{Other, input-other, output-other, range-other, room-other, overlap-other}
+use Rattle.demands.proofs.Changes.{count-in}
 use Rattle.demands.proofs.Bulletins.{overlap-apart, apart-overlap}
 
 -- ACCEPTED EXACTLY, of any call whose work, where nothing refuses it, is an answer
@@ -455,7 +466,7 @@ module _ (p size len : ℕ) where
 
 -- writing blocks that are judged sound, where Q says so in plain terms, and whose form takes n bytes
 module _ (f : Form) (k : FormKind f) (ws : List (List ℕ)) (m : length ws ≡ f .runs) (Q : Type 0)
-    (to : Clear (blockRefusals f ws) → Q) (from : Q → Clear (blockRefusals f ws)) (n : ℕ) (e : sizeOf f (lengths (heldIn (f .layout) ws)) ≡ n) where
+    (to : Clear (blockRefusals f ws) → Q) (from : Q → Clear (blockRefusals f ws)) (n : ℕ) (e : bytesIn f (lengths (heldIn (f .layout) ws)) ≡ n) where
   abbrev bytesOf : ℕ
   bytesOf = length (formOf f (heldIn (f .layout) ws))
 
@@ -479,14 +490,203 @@ module _ (f : Form) (k : FormKind f) (ws : List (List ℕ)) (m : length ws ≡ f
       inputs-other q [] = tt
       inputs-other q (v ∷ vs) = (input-other 15 (omega arith) (f .layout) v, inputs-other (suc q) vs)
 
--- word 0 counts the entries
-counts : (s : ℕ) (w : List ℕ) → length (entriesOf s w) ≡ getD w 0 0
-counts s w = items-length s (getD w 0 0) (drop 1 w)
+  space-given : (bytes : List ℕ) (p : ℕ) → Iff (Accepts (writeCall f ws bytes p)) (Q × (p + n ≤ length bytes))
+  unfolding writeCall
+  space-given bytes p =
+      let last = at 0 (applies (noSpace p bytesOf (length bytes)) 15) ∷ [] in
+      iff-by (accepted-exactly (blockRefusals f ws ++ last) (bytes ∷ []) _ _)
+      (λ c. let s = clear-split (blockRefusals f ws) last c in
+      (to (s .0), omega (arith, form-size (s .0), space-fits p bytesOf (length bytes) (s .1 .0))))
+      (λ h. clear-both (blockRefusals f ws) last (from (h .0))
+      (fits-space p bytesOf (length bytes) (omega (arith, form-size (from (h .0)), h .1)), tt))
 
 pub no-space-exactly : NoSpaceExactly
 no-space-exactly bytes p = (
-  λ w. no-space-given ofSet set-kind (w ∷ []) refl (SoundSet w) (λ c. c .0) (λ h. (h, (refl, tt))) _ (omega (arith, counts 2 w)) bytes p,
-  λ w. no-space-given ofMap map-kind (w ∷ []) refl (SoundMap w) (λ c. c .0) (λ h. (h, (refl, tt))) _ (omega (arith, counts 3 w)) bytes p,
+  λ w. no-space-given ofSet set-kind (w ∷ []) refl (SoundSet w) (λ c. c .0) (λ h. (h, (refl, tt))) _ (omega (arith, count-in 2 w)) bytes p,
+  λ w. no-space-given ofMap map-kind (w ∷ []) refl (SoundMap w) (λ c. c .0) (λ h. (h, (refl, tt))) _ (omega (arith, count-in 3 w)) bytes p,
   λ r w. no-space-given ofBulletin bulletin-kind (r ∷ w ∷ []) refl (Bulletin r w) (clear-bulletin r w) (bulletin-clear r w) _
-      (omega (arith, counts 2 r, counts 2 w)) bytes p,
+      (omega (arith, count-in 2 r, count-in 2 w)) bytes p,
+)
+
+-- ACCEPTED EXACTLY
+
+-- a change in place
+pub edit-accepted-exactly : EditAccepted
+unfolding editCall
+edit-accepted-exactly l w a b o =
+    iff-by (accepted-exactly (editRefusals l w a b (edited l w a b o)) (w ∷ []) _ _)
+    (λ c. (c .0, in-order a b (c .1 .0), room-fits l (length w) (edited l w a b o) (c .1 .1 .0)))
+    (λ h. (h .0, (rw (le-ltb b a (h .1)), (has-room _ _ (h .2), tt))))
+
+pub two-accepted-exactly : TwoAccepted
+two-accepted-exactly first second out make w v o =
+    let es = make (entriesOf (first .width) w) (entriesOf (second .width) v) in
+    iff-by (accepted-exactly (twoRefusals first second out w v (length o) es) (o ∷ []) _ _)
+    (λ c. (c .0, c .1 .0, some-words (length o) (c .1 .1 .0), room-fits out (length o) es (c .1 .1 .1 .0)))
+    (λ h. (h .0, (h .1, (has-words (length o) (h .2), (has-room _ _ (h .3), tt)))))
+
+pub one-accepted-exactly : OneAccepted
+one-accepted-exactly first out make w o =
+    let es = make (entriesOf (first .width) w) in
+    iff-by (accepted-exactly (oneRefusals first out w (length o) es) (o ∷ []) _ _)
+    (λ c. (c .0, some-words (length o) (c .1 .0), room-fits out (length o) es (c .1 .1 .0)))
+    (λ h. (h .0, (has-words (length o) (h .1), (has-room _ _ (h .2), tt))))
+
+pub empty-accepted-exactly : EmptyAccepted
+unfolding makeEmptyCall
+empty-accepted-exactly w = (
+  iff-by (accepted-exactly fs (w ∷ []) _ _) (λ c. some-words (length w) (c .0)) (λ h. (has-words (length w) h, tt)),
+  λ n p e. named-number (λ m. m ≡ 1) fs (applied (λ m. m ≡ 1) (eqb (length w) 0) 1 refl, tt) (refused-named fs (w ∷ []) _ _ n p (w ∷ []) e),
+)
+  where
+    fs : List Finding
+    fs = output 0 (length w) ∷ []
+
+-- bulletins
+pub apply-accepted-exactly : ApplyAccepted
+unfolding applyCall
+apply-accepted-exactly list released withdrawn out =
+    iff-by (accepted-exactly (applyRefusals list released withdrawn (length out)) (out ∷ []) _ _)
+    (λ c. (
+      c .0,
+      clear-bulletin released withdrawn (c .1 .0, (c .1 .1 .0, (c .1 .1 .1 .1 .0, tt))),
+      some-words (length out) (c .1 .1 .1 .0),
+      room-fits setLayout (length out) (amendedWith list released withdrawn) (c .1 .1 .1 .1 .1 .0),
+    ))
+    (λ h. let b = bulletin-clear released withdrawn (h .1) in
+    (h .0, (b .0, (b .1 .0, (has-words (length out) (h .2), (b .1 .1 .0, (has-room _ _ (h .3), tt)))))))
+
+pub fold-accepted-exactly : FoldAccepted
+unfolding foldCall
+fold-accepted-exactly r₁ w₁ r₂ w₂ outR outW =
+    iff-by (accepted-exactly fs (outR ∷ outW ∷ []) _ _)
+    (λ c. let i = clear-at fs c in (
+      record {
+        earlier = clear-bulletin r₁ w₁ (i 0, (i 1, (i 6, tt)));
+        later = clear-bulletin r₂ w₂ (i 2, (i 3, (i 7, tt)));
+        words = (some-words (length outR) (i 4), some-words (length outW) (i 5));
+      },
+      room-fits setLayout (length outR) (amendedWith r₁ r₂ w₂) (i 8),
+      room-fits setLayout (length outW) (amendedWith w₁ w₂ r₂) (i 9),
+    ))
+    (λ h. let b = bulletin-clear r₁ w₁ (h .0 .earlier) in
+    let d = bulletin-clear r₂ w₂ (h .0 .later) in
+    let o = has-words (length outR) (h .0 .words .0) in
+    let q = has-words (length outW) (h .0 .words .1) in
+    (b .0, (b .1 .0, (d .0, (d .1 .0, (o, (q, (b .1 .1 .0, (d .1 .1 .0, (has-room _ _ (h .1), (has-room _ _ (h .2), tt)))))))))))
+  where
+    fs : List Finding
+    fs = foldRefusals r₁ w₁ r₂ w₂ (length outR) (length outW)
+
+-- questions: every answer that they can give is one
+gives : (xs : List ℕ) → Accepts (outcome (given xs) [])
+gives xs = record { values = xs; after = []; is = refl }
+
+truth-gives : (t : Bool) → Accepts (outcome (truth t) [])
+truth-gives true = gives (1 ∷ [])
+truth-gives false = gives (0 ∷ [])
+
+optional-gives : (o : Option ℕ) → Accepts (outcome (optional o) [])
+optional-gives (some n) = gives (n ∷ [])
+optional-gives none = gives []
+
+ends-gives : (o : Option Entry) → Accepts (outcome (ends o) [])
+ends-gives (some e) = gives (e .low ∷ e .high ∷ [])
+ends-gives none = gives []
+
+worth-gives : (o : Option Value) → Accepts (outcome (worth o) [])
+worth-gives (some v) = gives v
+worth-gives none = gives []
+
+picked-gives : (t : Bool) (xs ys : List ℕ) → Accepts (outcome (pick t (given xs) (given ys)) [])
+picked-gives true xs ys = gives xs
+picked-gives false xs ys = gives ys
+
+size-gives : (n : ℕ) → Accepts (outcome (lessOne n) [])
+size-gives n = picked-gives (eqb n 0) [] ((n - 1) ∷ [])
+
+part-gives : (p : Part) → Accepts (outcome (partSays p) [])
+part-gives p = picked-gives (eqb (p .length) 0) [] (p .place ∷ p .length ∷ [])
+
+deciding-gives : (d : Deciding) → Accepts (outcome (decidingSays d) [])
+deciding-gives d = picked-gives (eqb (d .length) 0) [] (d .place ∷ d .length ∷ d .position ∷ [])
+
+-- of one block of any layout, and of two
+sound-accepts : (l : Layout) (w : List ℕ) (o : Outcome) → Accepts o → Iff (Accepts (inTurn (input 0 l w ∷ []) [] o)) (verdict l w ≡ 0)
+sound-accepts l w o d = iff-by (accepts-clear (input 0 l w ∷ []) [] o d) (λ c. c .0) (λ h. (h, tt))
+
+both-accept : (l : Layout) (w v : List ℕ) (o : Outcome) → Accepts o
+    → Iff (Accepts (inTurn (input 0 l w ∷ input 1 l v ∷ []) [] o)) ((verdict l w ≡ 0) × (verdict l v ≡ 0))
+both-accept l w v o d = iff-by (accepts-clear (input 0 l w ∷ input 1 l v ∷ []) [] o d) (λ c. (c .0, c .1 .0)) (λ h. (h .0, (h .1, tt)))
+
+pub asked-accepted-exactly : AskedAccepted
+unfolding memberCall rangeAtCall sizeCall leastMemberCall leastNonMemberCall lookUpCall
+asked-accepted-exactly w x = (
+  sound-accepts setLayout w _ (truth-gives (In w x)),
+  sound-accepts setLayout w _ (ends-gives (rangeAt (entriesOf 2 w) x)),
+  sound-accepts setLayout w _ (size-gives (sizeOf (entriesOf 2 w))),
+  sound-accepts setLayout w _ (optional-gives (leastMember (entriesOf 2 w) x)),
+  sound-accepts setLayout w _ (optional-gives (nonMember (entriesOf 2 w) x)),
+  sound-accepts mapLayout w _ (worth-gives (ValueOf w x)),
+)
+
+pub asked-two-accepted-exactly : AskedTwoAccepted
+unfolding equalCall withinCall disjointCall
+asked-two-accepted-exactly w v = (
+  both-accept setLayout w v _ (truth-gives (isEmpty (symmetricDifference (entriesOf 2 w) (entriesOf 2 v)))),
+  both-accept setLayout w v _ (truth-gives (isEmpty (difference (entriesOf 2 w) (entriesOf 2 v)))),
+  both-accept setLayout w v _ (truth-gives (isEmpty (intersection (entriesOf 2 w) (entriesOf 2 v)))),
+)
+
+pub part-accepted-exactly : PartAccepted
+unfolding windowRefusalCall windowAtCall siteRefusalCall siteOverFactoryAtCall
+part-accepted-exactly = (
+  λ l w a b. (window l w a b _ (gives []), window l w a b _ (part-gives (windowPart (l .width) w a b))),
+  λ site factory x. (both-accept mapLayout site factory _ (gives []), both-accept mapLayout site factory _ (deciding-gives (deciding site factory x))),
+)
+  where
+    window : (l : Layout) (w : List ℕ) (a b : ℕ) (o : Outcome) → Accepts o
+        → Iff (Accepts (inTurn (windowRefusals l w a b) [] o)) ((verdict l w ≡ 0) × (a ≤ b))
+    window l w a b o d =
+        iff-by (accepts-clear (windowRefusals l w a b) [] o d) (λ c. (c .0, in-order a b (c .1 .0))) (λ h. (h .0, (rw (le-ltb b a (h .1)), tt)))
+
+-- fits and reservations
+fit-accepted : (fit : ℕ → ℕ → ℕ → List Entry → Option ℕ) → Alike fit → (w : List ℕ) (a b k : ℕ)
+    → Iff (Accepts (fitCall fit w a b k)) (RunAsked w a b k × FreeSomewhere w a b k)
+unfolding fitCall
+fit-accepted fit alike w a b k =
+    let last = noGap (fit a b k (entriesOf 2 w)) ∷ [] in
+    iff-by (accepted-exactly (fitRefusals w a b k (fit a b k (entriesOf 2 w))) [] _ _)
+    (λ c. let s = clear-split (askRefusals w a b k) last c in
+    let r = asked-clear fit alike w a b k (s .0) in (r, found-free fit alike w a b k (r .some) (s .1 .0)))
+    (λ h. clear-both (askRefusals w a b k) last (clear-asked fit alike w a b k (h .0)) (free-found fit alike w a b k (h .0 .some) (h .1), tt))
+
+pub fit-accepted-exactly : FitAccepted
+fit-accepted-exactly w a b k = (fit-accepted firstFit first-alike w a b k, fit-accepted bestFit best-alike w a b k)
+
+pub reserve-accepted-exactly : ReserveAccepted
+unfolding reserveCall fitCall
+reserve-accepted-exactly fit w a b k =
+    iff-by (accepted-exactly (reserveRefusals w a b k place) (w ∷ []) _ _)
+    (λ c. let s = clear-split (fitRefusals w a b k place) (room-at (placeOf place)) c in record {
+      place = placeOf place;
+      answer = clear-turn (fitRefusals w a b k place) [] (answered (placeOf place)) (s .0);
+      room = room-fits setLayout (length w) (reservedAt w (placeOf place) k) (s .1 .0);
+    })
+    (λ r. let h = fit-chosen fit w a b k (r .place) (sym (r .answer)) in
+    rw (h .place) (h .clear .0, (h .clear .1 .0, (h .clear .1 .1 .0, (refl, (has-room _ _ (r .room), tt))))))
+  where
+    place : Option ℕ
+    place = fit a b k (entriesOf 2 w)
+
+    room-at : ℕ → List Finding
+    room-at s = room 0 setLayout (length w) (reservedAt w s k) ∷ []
+
+-- writing
+pub write-accepted-exactly : WriteAccepted
+write-accepted-exactly bytes p = (
+  λ w. space-given ofSet set-kind (w ∷ []) refl (SoundSet w) (λ c. c .0) (λ h. (h, (refl, tt))) _ (omega (arith, count-in 2 w)) bytes p,
+  λ w. space-given ofMap map-kind (w ∷ []) refl (SoundMap w) (λ c. c .0) (λ h. (h, (refl, tt))) _ (omega (arith, count-in 3 w)) bytes p,
+  λ r w. space-given ofBulletin bulletin-kind (r ∷ w ∷ []) refl (Bulletin r w) (clear-bulletin r w) (bulletin-clear r w) _
+      (omega (arith, count-in 2 r, count-in 2 w)) bytes p,
 )

@@ -10,17 +10,19 @@ use Rattle.entries.specs.Entries.{Value, Entry}
 use Rattle.answers.specs.declared.Finding.{Finding}
 use Rattle.answers.specs.Answers.{given, Outcome, outcome, refuse, inTurn, Clear, Keeps}
 use Rattle.blocks.specs.declared.Layout.{Layout}
-use Rattle.blocks.specs.Blocks.{setLayout, entriesOf, verdict}
-use Rattle.edits.specs.Calls.{editCall}
+use Rattle.blocks.specs.Blocks.{setLayout, capacity, entriesOf, verdict}
+use Rattle.edits.specs.Calls.{edited, editCall}
+use Rattle.operations.specs.Calls.{fromTwo, fromOne}
+use Rattle.sets.specs.Calls.{makeEmptyCall, memberCall, rangeAtCall, sizeCall, leastMemberCall, leastNonMemberCall, equalCall, withinCall, disjointCall}
 use Rattle.fits.specs.Meaning.{FreeRun}
-use Rattle.fits.specs.Calls.{fitCall, firstFitCall, bestFitCall, reserveCall, reserveFirstCall, reserveBestCall}
-use Rattle.bulletins.specs.Calls.{applyCall, foldCall}
+use Rattle.fits.specs.Calls.{fitCall, firstFitCall, bestFitCall, reservedAt, reserveCall, reserveFirstCall, reserveBestCall}
+use Rattle.bulletins.specs.Calls.{amendedWith, applyCall, foldCall}
 use Rattle.forms.specs.Calls.{writeSetCall, writeMapCall, writeBulletinCall}
 use Rattle.searches.specs.Parts.{noPart, partSays}
 use Rattle.searches.specs.Calls.{windowPart, windowCall, windowAtCall, windowRefusalCall}
-use Rattle.maps.specs.Calls.{deciding, partIn, decidingSays, siteOverFactoryCall, siteOverFactoryAtCall, siteRefusalCall}
-use Rattle.demands.specs.Plain.{Iff, SoundSet, SoundMap}
-use Rattle.demands.specs.Bulletins.{NoCommon, Bulletin}
+use Rattle.maps.specs.Calls.{lookUpCall, deciding, partIn, decidingSays, siteOverFactoryCall, siteOverFactoryAtCall, siteRefusalCall}
+use Rattle.demands.specs.Plain.{Iff, SoundSet, SoundMap, answers}
+use Rattle.demands.specs.Bulletins.{NoCommon, Bulletin, Foldable}
 
 -- the call does its work: it answers values and leaves words, whatever these are
 pub record Accepts (o : Outcome) : Type 0 where
@@ -134,3 +136,90 @@ NoSpaceExactly = (bytes : List ℕ) (p : ℕ)
     × ((w : List ℕ) → Iff (writeMapCall w bytes p ≡ refuse 15 0 (bytes ∷ [])) (SoundMap w × (length bytes < p + (7 + 29 * getD w 0 0))))
     × ((r w : List ℕ) → Iff (writeBulletinCall r w bytes p ≡ refuse 15 0 (bytes ∷ []))
     (Bulletin r w × (length bytes < p + (9 + 21 * (getD r 0 0 + getD w 0 0)))))
+
+-- ACCEPTED EXACTLY, in plain terms, of the calls one by one. With these a user shows that a call is accepted.
+
+-- [S9, S10, M2, M3] a change in place, of sets and of maps: the block is sound, the range is in order, and the result fits the block
+abbrev pub EditAccepted : Type 0
+EditAccepted = (l : Layout) (w : List ℕ) (a b : ℕ) (o : Option Value)
+    → Iff (Accepts (editCall l w a b o)) ((verdict l w ≡ 0) × (a ≤ b) × (length (edited l w a b o) ≤ capacity l (length w)))
+
+-- [S11, M4, M5] a result made from two blocks: both are sound, the output has words, and the result fits it
+abbrev pub TwoAccepted : Type 0
+TwoAccepted = (first second out : Layout) (make : List Entry → List Entry → List Entry) (w v o : List ℕ)
+    → Iff (Accepts (fromTwo first second out make w v o))
+    ((verdict first w ≡ 0) × (verdict second v ≡ 0) × (0 < length o)
+    × (length (make (entriesOf (first .width) w) (entriesOf (second .width) v)) ≤ capacity out (length o)))
+
+-- [S12, M6] a result made from one block, in the same way
+abbrev pub OneAccepted : Type 0
+OneAccepted = (first out : Layout) (make : List Entry → List Entry) (w o : List ℕ)
+    → Iff (Accepts (fromOne first out make w o))
+    ((verdict first w ≡ 0) × (0 < length o) × (length (make (entriesOf (first .width) w)) ≤ capacity out (length o)))
+
+-- [S8, R18] make empty: the block has words; there is no other refusal than 1
+abbrev pub EmptyAccepted : Type 0
+EmptyAccepted = (w : List ℕ) → Iff (Accepts (makeEmptyCall w)) (0 < length w) × ((n p : ℕ) → makeEmptyCall w ≡ refuse n p (w ∷ []) → n ≡ 1)
+
+-- [U2] applying: the list is sound, the two sets are a bulletin, the output has words, and the result fits it
+abbrev pub ApplyAccepted : Type 0
+ApplyAccepted = (list released withdrawn out : List ℕ)
+    → Iff (Accepts (applyCall list released withdrawn out))
+    (SoundSet list × Bulletin released withdrawn × (0 < length out) × (length (amendedWith list released withdrawn) ≤ capacity setLayout (length out)))
+
+-- [U3] folding: two bulletins, two outputs with words, and both results fit theirs
+abbrev pub FoldAccepted : Type 0
+FoldAccepted = (r₁ w₁ r₂ w₂ outR outW : List ℕ)
+    → Iff (Accepts (foldCall r₁ w₁ r₂ w₂ outR outW))
+    (Foldable r₁ w₁ r₂ w₂ outR outW × (length (amendedWith r₁ r₂ w₂) ≤ capacity setLayout (length outR))
+    × (length (amendedWith w₁ w₂ r₂) ≤ capacity setLayout (length outW)))
+
+-- [S1, S2, S3, S4, S5, M1] the questions about one block: it is sound
+abbrev pub AskedAccepted : Type 0
+AskedAccepted = (w : List ℕ) (x : ℕ)
+    → Iff (Accepts (memberCall w x)) (SoundSet w)
+    × Iff (Accepts (rangeAtCall w x)) (SoundSet w)
+    × Iff (Accepts (sizeCall w)) (SoundSet w)
+    × Iff (Accepts (leastMemberCall w x)) (SoundSet w)
+    × Iff (Accepts (leastNonMemberCall w x)) (SoundSet w)
+    × Iff (Accepts (lookUpCall w x)) (SoundMap w)
+
+-- [S7] the questions about two sets: both are sound
+abbrev pub AskedTwoAccepted : Type 0
+AskedTwoAccepted = (w v : List ℕ)
+    → Iff (Accepts (equalCall w v)) (SoundSet w × SoundSet v)
+    × Iff (Accepts (withinCall w v)) (SoundSet w × SoundSet v)
+    × Iff (Accepts (disjointCall w v)) (SoundSet w × SoundSet v)
+
+-- [S6, M7, M8, R20] the questions that hand back a part, by their companions, which say that there is no refusal, and by what a host is told: of a
+-- window, the block is sound and the range is in order; of site over factory, both maps are sound
+abbrev pub PartAccepted : Type 0
+PartAccepted = ((l : Layout) (w : List ℕ) (a b : ℕ)
+    → Iff (Accepts (windowRefusalCall l w a b)) ((verdict l w ≡ 0) × (a ≤ b)) × Iff (Accepts (windowAtCall l w a b)) ((verdict l w ≡ 0) × (a ≤ b)))
+    × ((site factory : List ℕ) (x : ℕ)
+    → Iff (Accepts (siteRefusalCall site factory x)) (SoundMap site × SoundMap factory)
+    × Iff (Accepts (siteOverFactoryAtCall site factory x)) (SoundMap site × SoundMap factory))
+
+-- [F2, F3] both fits: the run is rightly asked for, and there is a place for it
+abbrev pub FitAccepted : Type 0
+FitAccepted = (w : List ℕ) (a b k : ℕ)
+    → Iff (Accepts (firstFitCall w a b k)) (RunAsked w a b k × FreeSomewhere w a b k)
+    × Iff (Accepts (bestFitCall w a b k)) (RunAsked w a b k × FreeSomewhere w a b k)
+
+-- the question answers a place, and the set with the run at that place fits the block
+pub record Reservable (fit : ℕ → ℕ → ℕ → List Entry → Option ℕ) (w : List ℕ) (a b k : ℕ) : Type 0 where
+  pub place : ℕ
+  pub answer : fitCall fit w a b k ≡ answers (place ∷ [])
+  pub room : length (reservedAt w place k) ≤ capacity setLayout (length w)
+
+-- [F4, F5] a reservation
+abbrev pub ReserveAccepted : Type 0
+ReserveAccepted = (fit : ℕ → ℕ → ℕ → List Entry → Option ℕ) (w : List ℕ) (a b k : ℕ) → Iff (Accepts (reserveCall fit w a b k)) (Reservable fit w a b k)
+
+-- [Y10, Y16] the three calls that write bytes: what is to be written is sound, and the form that begins at p ends within the buffer
+abbrev pub WriteAccepted : Type 0
+WriteAccepted = (bytes : List ℕ) (p : ℕ)
+    → ((w : List ℕ) → Iff (Accepts (writeSetCall w bytes p)) (SoundSet w × (p + (7 + 21 * getD w 0 0) ≤ length bytes)))
+    × ((w : List ℕ) → Iff (Accepts (writeMapCall w bytes p)) (SoundMap w × (p + (7 + 29 * getD w 0 0) ≤ length bytes)))
+    × ((r w : List ℕ) → Iff (Accepts (writeBulletinCall r w bytes p))
+    (Bulletin r w × (p + (9 + 21 * (getD r 0 0 + getD w 0 0)) ≤ length bytes)))
