@@ -26,7 +26,7 @@ use Rattle.demands.proofs.Sets.{insert-means}
 use Rattle.demands.proofs.Rooms.{refused-alone}
 
 -- a run of no numbers is not asked for
-some-run : (k : ℕ) → applies (eqb k 0) 6 ≡ 0 → 1 ≤ k
+pub some-run : (k : ℕ) → applies (eqb k 0) 6 ≡ 0 → 1 ≤ k
 some-run k e = let n : k ≡ 0 → ⊥ = eqb-false k 0 (applies-clear (eqb k 0) 5 e) in omega arith
 
 pub first-fit-answers : FirstFit

@@ -18,4 +18,6 @@ pub mod OneForm
 pub mod Folding
 pub mod Effects
 pub mod Outcomes
+pub mod FitOutcomes
+pub mod BulletinOutcomes
 pub mod Table

@@ -1,6 +1,5 @@
 -- EVERY CALL: when it is accepted, when it is refused with which number, and what its companion says.
--- The outcome of a call is `inTurn fs lent (outcome (given xs) after)`: fs are the refusals that it tries, in their order, each with number 0
--- where it does not apply; lent are the blocks and the buffers that it may write; xs is its answer, and after is what it leaves in them.
+-- First of all calls at once, then the companions, then the refusals one by one, then the calls one by one.
 use mathlib.Core.Path.{_≡_}
 use mathlib.Core.Option.{Option}
 use mathlib.Core.List.{List, [], _∷_, _++_}
@@ -30,7 +29,9 @@ pub record Accepts (o : Outcome) : Type 0 where
   pub after : List (List ℕ)
   pub is : o ≡ outcome (given values) after
 
--- [D1, R17] ACCEPTED EXACTLY: a call is accepted exactly if none of its refusals applies
+-- [D1, R17] ACCEPTED EXACTLY: a call is accepted exactly if none of its refusals applies. Of every call the outcome is said as here: fs are the
+-- refusals that it tries, in their order, each with the number 0 where it does not apply; lent are the blocks and the buffers that it may write;
+-- xs is its answer, and after is what it leaves in them
 abbrev pub AcceptedExactly : Type 0
 AcceptedExactly = (fs : List Finding) (lent : List (List ℕ)) (xs : List ℕ) (after : List (List ℕ))
     → Iff (Accepts (inTurn fs lent (outcome (given xs) after))) (Clear fs)
@@ -47,12 +48,12 @@ pub record FirstIs (fs : List Finding) (n p : ℕ) : Type 0 where
   pub place : here .place ≡ p
 
 -- [D1, R17] REFUSED EXACTLY: a call is refused with the number n and the place p exactly if these are those of the first of its refusals that
--- applies
+-- applies; so it gives this one refusal, and no other
 abbrev pub RefusedExactly : Type 0
 RefusedExactly = (fs : List Finding) (lent : List (List ℕ)) (xs : List ℕ) (after : List (List ℕ)) (n p : ℕ)
     → Iff (inTurn fs lent (outcome (given xs) after) ≡ refuse n p lent) (FirstIs fs n p)
 
--- [D1, R0] REFUSED, NOTHING IS CHANGED: everything lent is as it was
+-- [D1, R0] NOTHING IS CHANGED where a call is refused: everything lent to it is as it was
 abbrev pub RefusedKeeps : Type 0
 RefusedKeeps = (fs : List Finding) (lent : List (List ℕ)) (xs : List ℕ) (after : List (List ℕ)) → Keeps lent (inTurn fs lent (outcome (given xs) after))
 
@@ -74,10 +75,8 @@ SiteCompanion = (site factory : List ℕ) (x : ℕ)
     × ((n p : ℕ) → siteRefusalCall site factory x ≡ refuse n p []
     → (siteOverFactoryCall site factory x ≡ partIn 0 noPart) × (siteOverFactoryAtCall site factory x ≡ refuse n p []))
 
--- GIVEN EXACTLY WHEN: the refusals one by one, each said of the calls that can give it. What is tried before it does not apply, and it does.
-
--- [R4, R17] 4, of a change in place, of a window's companion, of a fit and of a reservation: the block is sound, and the range's low end is above
--- its high end
+-- [R4, R17] BACKWARDS EXACTLY: a change in place, a window's companion, a fit and a reservation are refused with 4 exactly if the block is sound and
+-- the range's low end is above its high end
 abbrev pub BackwardsExactly : Type 0
 BackwardsExactly = (w : List ℕ) (a b : ℕ)
     → ((l : Layout) (o : Option Value) → Iff (editCall l w a b o ≡ refuse 4 0 (w ∷ [])) ((verdict l w ≡ 0) × (b < a)))
@@ -85,13 +84,14 @@ BackwardsExactly = (w : List ℕ) (a b : ℕ)
     × ((fit : ℕ → ℕ → ℕ → List Entry → Option ℕ) (k : ℕ) → Iff (fitCall fit w a b k ≡ refuse 4 0 []) (SoundSet w × (b < a)))
     × ((fit : ℕ → ℕ → ℕ → List Entry → Option ℕ) (k : ℕ) → Iff (reserveCall fit w a b k ≡ refuse 4 0 (w ∷ [])) (SoundSet w × (b < a)))
 
--- [R6, R17] 6, of a fit and of a reservation: the block is sound, the window is in order, and a run of 0 numbers is asked for
+-- [R6, R17] ZERO RUN EXACTLY: a fit and a reservation are refused with 6 exactly if the block is sound, the window is in order, and a run of 0 numbers
+-- is asked for
 abbrev pub ZeroRunExactly : Type 0
 ZeroRunExactly = (fit : ℕ → ℕ → ℕ → List Entry → Option ℕ) (w : List ℕ) (a b k : ℕ)
     → Iff (fitCall fit w a b k ≡ refuse 6 0 []) (SoundSet w × (a ≤ b) × (k ≡ 0))
     × Iff (reserveCall fit w a b k ≡ refuse 6 0 (w ∷ [])) (SoundSet w × (a ≤ b) × (k ≡ 0))
 
--- a run of at least one number is asked for, in a sound block and in a window that is in order
+-- a run is rightly asked for: one of at least one number, in a sound block and in a window that is in order
 pub record RunAsked (w : List ℕ) (a b k : ℕ) : Type 0 where
   pub sound : SoundSet w
   pub order : a ≤ b
@@ -102,7 +102,7 @@ pub record FreeSomewhere (w : List ℕ) (a b k : ℕ) : Type 0 where
   pub start : ℕ
   pub run : FreeRun a b (entriesOf (setLayout .width) w) start (start + k - 1)
 
--- [R7, R17] 7, of both fits and of both reservations: the run is rightly asked for, and no such place exists
+-- [R7, R17] NO GAP EXACTLY: both fits and both reservations are refused with 7 exactly if the run is rightly asked for and there is no such place
 abbrev pub NoGapExactly : Type 0
 NoGapExactly = (w : List ℕ) (a b k : ℕ)
     → Iff (firstFitCall w a b k ≡ refuse 7 0 []) (RunAsked w a b k × (FreeSomewhere w a b k → ⊥))
@@ -110,26 +110,28 @@ NoGapExactly = (w : List ℕ) (a b k : ℕ)
     × Iff (reserveFirstCall w a b k ≡ refuse 7 0 (w ∷ [])) (RunAsked w a b k × (FreeSomewhere w a b k → ⊥))
     × Iff (reserveBestCall w a b k ≡ refuse 7 0 (w ∷ [])) (RunAsked w a b k × (FreeSomewhere w a b k → ⊥))
 
--- [R14, R17] 14, of applying: the three inputs are sound, the output has words, and the bulletin's two sets share a number
+-- [R14, R17] OVERLAP EXACTLY: applying is refused with 14 exactly if the three inputs are sound, the output has words, and the bulletin's two sets
+-- share a number
 abbrev pub OverlapExactly : Type 0
 OverlapExactly = (list released withdrawn out : List ℕ)
     → Iff (applyCall list released withdrawn out ≡ refuse 14 0 (out ∷ []))
     (SoundSet list × SoundSet released × SoundSet withdrawn × (0 < length out) × (NoCommon released withdrawn → ⊥))
 
--- [R14, R17] of folding: the four inputs are sound, both outputs have words, and it is not so that neither bulletin's two sets share a number
+-- [R14, R17] folding is refused with 14 exactly if the four inputs are sound, both outputs have words, and not both bulletins are without a number
+-- that their two sets share
 abbrev pub FoldOverlapExactly : Type 0
 FoldOverlapExactly = (r₁ w₁ r₂ w₂ outR outW : List ℕ)
     → Iff (foldCall r₁ w₁ r₂ w₂ outR outW ≡ refuse 14 0 (outR ∷ outW ∷ []))
     (SoundSet r₁ × SoundSet w₁ × SoundSet r₂ × SoundSet w₂ × (0 < length outR) × (0 < length outW) × (NoCommon r₁ w₁ × NoCommon r₂ w₂ → ⊥))
 
--- [R14, R17] and of writing a bulletin: its two sets are sound, and share a number
+-- [R14, R17] and writing a bulletin is refused with 14 exactly if its two sets are sound and share a number
 abbrev pub WriteOverlapExactly : Type 0
 WriteOverlapExactly = (released withdrawn bytes : List ℕ) (p : ℕ)
     → Iff (writeBulletinCall released withdrawn bytes p ≡ refuse 14 0 (bytes ∷ []))
     (SoundSet released × SoundSet withdrawn × (NoCommon released withdrawn → ⊥))
 
--- [R15, R17, Y10, Y16] 15, of the three calls that write bytes: what is to be written is sound, and the buffer ends before the form would. The
--- form begins at p, and its size is 7+21n, 7+29n, 9+21(r+w), of word 0 of the blocks
+-- [R15, R17, Y10, Y16] NO SPACE EXACTLY: writing a set, a map or a bulletin at the place p is refused with 15 exactly if it is sound, and the buffer
+-- ends before its form would, whose size is 7+21n, 7+29n, 9+21(r+w), of word 0 of the blocks
 abbrev pub NoSpaceExactly : Type 0
 NoSpaceExactly = (bytes : List ℕ) (p : ℕ)
     → ((w : List ℕ) → Iff (writeSetCall w bytes p ≡ refuse 15 0 (bytes ∷ [])) (SoundSet w × (length bytes < p + (7 + 21 * getD w 0 0))))
@@ -137,44 +139,44 @@ NoSpaceExactly = (bytes : List ℕ) (p : ℕ)
     × ((r w : List ℕ) → Iff (writeBulletinCall r w bytes p ≡ refuse 15 0 (bytes ∷ []))
     (Bulletin r w × (length bytes < p + (9 + 21 * (getD r 0 0 + getD w 0 0)))))
 
--- ACCEPTED EXACTLY, in plain terms, of the calls one by one. With these a user shows that a call is accepted.
-
--- [S9, S10, M2, M3] a change in place, of sets and of maps: the block is sound, the range is in order, and the result fits the block
+-- [S9, S10, M2, M3] ACCEPTED EXACTLY, in plain terms, as a user's proof cites it: a change in place, of a set or of a map, is accepted exactly if the
+-- block is sound, the range is in order, and the result is within the block's capacity
 abbrev pub EditAccepted : Type 0
 EditAccepted = (l : Layout) (w : List ℕ) (a b : ℕ) (o : Option Value)
     → Iff (Accepts (editCall l w a b o)) ((verdict l w ≡ 0) × (a ≤ b) × (length (edited l w a b o) ≤ capacity l (length w)))
 
--- [S11, M4, M5] a result made from two blocks: both are sound, the output has words, and the result fits it
+-- [S11, M4, M5] a call that makes a result from two blocks is accepted exactly if both are sound, the output has words, and the result is within its
+-- capacity
 abbrev pub TwoAccepted : Type 0
 TwoAccepted = (first second out : Layout) (make : List Entry → List Entry → List Entry) (w v o : List ℕ)
     → Iff (Accepts (fromTwo first second out make w v o))
     ((verdict first w ≡ 0) × (verdict second v ≡ 0) × (0 < length o)
     × (length (make (entriesOf (first .width) w) (entriesOf (second .width) v)) ≤ capacity out (length o)))
 
--- [S12, M6] a result made from one block, in the same way
+-- [S12, M6] a call that makes a result from one block is accepted exactly if it is sound, the output has words, and the result is within its capacity
 abbrev pub OneAccepted : Type 0
 OneAccepted = (first out : Layout) (make : List Entry → List Entry) (w o : List ℕ)
     → Iff (Accepts (fromOne first out make w o))
     ((verdict first w ≡ 0) × (0 < length o) × (length (make (entriesOf (first .width) w)) ≤ capacity out (length o)))
 
--- [S8, R18] make empty: the block has words; there is no other refusal than 1
+-- [S8, R18] make empty is accepted exactly if the block has words, and it refuses only with 1
 abbrev pub EmptyAccepted : Type 0
 EmptyAccepted = (w : List ℕ) → Iff (Accepts (makeEmptyCall w)) (0 < length w) × ((n p : ℕ) → makeEmptyCall w ≡ refuse n p (w ∷ []) → n ≡ 1)
 
--- [U2] applying: the list is sound, the two sets are a bulletin, the output has words, and the result fits it
+-- [U2] applying is accepted exactly if the list is sound, the two sets are a bulletin, the output has words, and the result is within its capacity
 abbrev pub ApplyAccepted : Type 0
 ApplyAccepted = (list released withdrawn out : List ℕ)
     → Iff (Accepts (applyCall list released withdrawn out))
     (SoundSet list × Bulletin released withdrawn × (0 < length out) × (length (amendedWith list released withdrawn) ≤ capacity setLayout (length out)))
 
--- [U3] folding: two bulletins, two outputs with words, and both results fit theirs
+-- [U3] folding is accepted exactly if there are two bulletins and two outputs with words, and both results are within the capacity of theirs
 abbrev pub FoldAccepted : Type 0
 FoldAccepted = (r₁ w₁ r₂ w₂ outR outW : List ℕ)
     → Iff (Accepts (foldCall r₁ w₁ r₂ w₂ outR outW))
     (Foldable r₁ w₁ r₂ w₂ outR outW × (length (amendedWith r₁ r₂ w₂) ≤ capacity setLayout (length outR))
     × (length (amendedWith w₁ w₂ r₂) ≤ capacity setLayout (length outW)))
 
--- [S1, S2, S3, S4, S5, M1] the questions about one block: it is sound
+-- [S1, S2, S3, S4, S5, M1] a question about one block is accepted exactly if the block is sound
 abbrev pub AskedAccepted : Type 0
 AskedAccepted = (w : List ℕ) (x : ℕ)
     → Iff (Accepts (memberCall w x)) (SoundSet w)
@@ -184,15 +186,15 @@ AskedAccepted = (w : List ℕ) (x : ℕ)
     × Iff (Accepts (leastNonMemberCall w x)) (SoundSet w)
     × Iff (Accepts (lookUpCall w x)) (SoundMap w)
 
--- [S7] the questions about two sets: both are sound
+-- [S7] a question about two sets is accepted exactly if both are sound
 abbrev pub AskedTwoAccepted : Type 0
 AskedTwoAccepted = (w v : List ℕ)
     → Iff (Accepts (equalCall w v)) (SoundSet w × SoundSet v)
     × Iff (Accepts (withinCall w v)) (SoundSet w × SoundSet v)
     × Iff (Accepts (disjointCall w v)) (SoundSet w × SoundSet v)
 
--- [S6, M7, M8, R20] the questions that hand back a part, by their companions, which say that there is no refusal, and by what a host is told: of a
--- window, the block is sound and the range is in order; of site over factory, both maps are sound
+-- [S6, M7, M8, R20] the companion of a window, and the window of a host, are accepted exactly if the block is sound and the range is in order; those
+-- of site over factory exactly if both maps are sound
 abbrev pub PartAccepted : Type 0
 PartAccepted = ((l : Layout) (w : List ℕ) (a b : ℕ)
     → Iff (Accepts (windowRefusalCall l w a b)) ((verdict l w ≡ 0) × (a ≤ b)) × Iff (Accepts (windowAtCall l w a b)) ((verdict l w ≡ 0) × (a ≤ b)))
@@ -200,23 +202,23 @@ PartAccepted = ((l : Layout) (w : List ℕ) (a b : ℕ)
     → Iff (Accepts (siteRefusalCall site factory x)) (SoundMap site × SoundMap factory)
     × Iff (Accepts (siteOverFactoryAtCall site factory x)) (SoundMap site × SoundMap factory))
 
--- [F2, F3] both fits: the run is rightly asked for, and there is a place for it
+-- [F2, F3] first fit and best fit are accepted exactly if the run is rightly asked for and there is a place for it
 abbrev pub FitAccepted : Type 0
 FitAccepted = (w : List ℕ) (a b k : ℕ)
     → Iff (Accepts (firstFitCall w a b k)) (RunAsked w a b k × FreeSomewhere w a b k)
     × Iff (Accepts (bestFitCall w a b k)) (RunAsked w a b k × FreeSomewhere w a b k)
 
--- the question answers a place, and the set with the run at that place fits the block
+-- the question answers a place, and the set with the run at that place is within the block's capacity
 pub record Reservable (fit : ℕ → ℕ → ℕ → List Entry → Option ℕ) (w : List ℕ) (a b k : ℕ) : Type 0 where
   pub place : ℕ
   pub answer : fitCall fit w a b k ≡ answers (place ∷ [])
   pub room : length (reservedAt w place k) ≤ capacity setLayout (length w)
 
--- [F4, F5] a reservation
+-- [F4, F5] a reservation is accepted exactly if that holds
 abbrev pub ReserveAccepted : Type 0
 ReserveAccepted = (fit : ℕ → ℕ → ℕ → List Entry → Option ℕ) (w : List ℕ) (a b k : ℕ) → Iff (Accepts (reserveCall fit w a b k)) (Reservable fit w a b k)
 
--- [Y10, Y16] the three calls that write bytes: what is to be written is sound, and the form that begins at p ends within the buffer
+-- [Y10, Y16] writing a set, a map or a bulletin at the place p is accepted exactly if it is sound, and its form ends within the buffer
 abbrev pub WriteAccepted : Type 0
 WriteAccepted = (bytes : List ℕ) (p : ℕ)
     → ((w : List ℕ) → Iff (Accepts (writeSetCall w bytes p)) (SoundSet w × (p + (7 + 21 * getD w 0 0) ≤ length bytes)))
