@@ -42,7 +42,7 @@ unfolding blockOf
 counted w es after e = let k : blockOf (length w) es ≡ after = cc in ap (λ (v : List ℕ). getD v 0 0) (sym k)
 
 -- and word 0 of an input those that it says
-count-in : (s : ℕ) (w : List ℕ) → length (entriesOf s w) ≡ getD w 0 0
+pub count-in : (s : ℕ) (w : List ℕ) → length (entriesOf s w) ≡ getD w 0 0
 count-in s w = items-length s (getD w 0 0) (drop 1 w)
 
 -- an accepted edit

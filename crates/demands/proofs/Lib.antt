@@ -18,4 +18,7 @@ pub mod OneForm
 pub mod Folding
 pub mod Effects
 pub mod Chains
+pub mod Outcomes
+pub mod FitOutcomes
+pub mod BulletinOutcomes
 pub mod Table

@@ -16,7 +16,7 @@ use Rattle.answers.specs.Steps.{numberAt, placeAt, Named}
 use Rattle.answers.proofs.Turns.{refused-named}
 use Rattle.blocks.specs.declared.Layout.{Layout}
 use Rattle.blocks.specs.Blocks.{capacity, verdict}
-use Rattle.blocks.specs.Calls.{noBlock, backwards, room}
+use Rattle.blocks.specs.Calls.{noBlock, backwards, noRoom, room}
 use Rattle.blocks.proofs.Judging.{verdict-most}
 use Rattle.blocks.proofs.Refusing.{some-words}
 use Rattle.runs.specs.Runs.{lengths}
@@ -36,21 +36,42 @@ rooms-numbers l q [] counts = tt
 rooms-numbers l q (k ∷ ls) [] = tt
 rooms-numbers l q (k ∷ ls) (n ∷ counts) = (applied (λ n. n ≡ 5) (ltb (capacity l k) n) 5 refl, rooms-numbers l (suc q) ls counts)
 
--- what is tried before room has other numbers than 5: an input, 1 to 3; a range, 4; an output without words, 1; two sets with a common number, 14
+-- Which numbers the refusals have, said as the numbers that they do not have: an input has 1 to 3; an output without words 1; a range 4; room 5; two
+-- sets with a common number 14.
+abbrev pub Other : ℕ → ℕ → Type 0
+Other n m = m ≡ n → ⊥
+
+module _ (n : ℕ) where
+  pub input-other : 3 < n → (l : Layout) (w : List ℕ) → Where (Other n) (verdict l w)
+  input-other h l w z e = omega (arith, verdict-most l w)
+
+  pub output-other : Other n 1 → (words : ℕ) → Where (Other n) (noBlock words)
+  output-other h words = applied (Other n) (eqb words 0) 1 h
+
+  pub range-other : Other n 4 → (a b : ℕ) → Where (Other n) (backwards a b .number)
+  range-other h a b = applied (Other n) (ltb b a) 4 h
+
+  pub room-other : Other n 5 → (l : Layout) (words : ℕ) (es : List Entry) → Where (Other n) (noRoom l words es)
+  room-other h l words es = applied (Other n) (ltb (capacity l words) (length es)) 5 h
+
+  pub overlap-other : Other n 14 → (r w : List Entry) → Where (Other n) (overlapping r w)
+  overlap-other h r w = applied (Other n) (shareb r w) 14 h
+
+-- what is tried before room has other numbers than 5
 abbrev pub Not5 : ℕ → Type 0
-Not5 n = n ≡ 5 → ⊥
+Not5 = Other 5
 
 pub input-not : (l : Layout) (w : List ℕ) → Where Not5 (verdict l w)
-input-not l w z e = omega (arith, verdict-most l w)
+input-not = input-other 5 (omega arith)
 
 pub range-not : (a b : ℕ) → Where Not5 (backwards a b .number)
-range-not a b = applied Not5 (ltb b a) 4 (λ e. omega arith)
+range-not = range-other 5 (λ e. omega arith)
 
 pub output-not : (words : ℕ) → Where Not5 (noBlock words)
-output-not words = applied Not5 (eqb words 0) 1 (λ e. omega arith)
+output-not = output-other 5 (λ e. omega arith)
 
 pub overlap-not : (r w : List Entry) → Where Not5 (overlapping r w)
-overlap-not r w = applied Not5 (shareb r w) 14 (λ e. omega arith)
+overlap-not = overlap-other 5 (λ e. omega arith)
 
 -- none has 1 exactly where every output has words
 pub clear-words : (q : ℕ) (outs : List (List ℕ)) → Clear (noBlocks q (lengths outs)) → Each (λ (out : List ℕ). 0 < length out) outs

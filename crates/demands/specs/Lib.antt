@@ -1,4 +1,5 @@
 pub mod Plain
+pub mod Outcomes
 pub mod Questions
 pub mod Changes
 pub mod Fits
