@@ -19,7 +19,7 @@ use Rattle.operations.specs.Calls.{fromTwo, fromOne}
 use Rattle.sets.specs.Calls.{memberCall, insertCall, removeCall}
 use Rattle.maps.specs.Calls.{worth, lookUpCall}
 use Rattle.forms.proofs.Forms.{has-words}
-use Rattle.demands.specs.Plain.{Iff, In, ValueOf, between, leaves, Left}
+use Rattle.demands.specs.Plain.{SetLeft, Iff, In, ValueOf, between, leaves, Left}
 use Rattle.demands.specs.Changes.{EditRoom, TwoRoom, OneRoom, ChangesKeep}
 use Rattle.demands.specs.Changes.{InsertedMember, RemovedMember, OtherMember, AssignedValue, ErasedValue, OtherValue}
 use Rattle.demands.proofs.Sets.{edit-keeps, two-keeps, one-keeps, empty-keeps, insert-means, remove-means}
@@ -100,19 +100,18 @@ removed-member w a b after e x h k =
 pub other-member : OtherMember
 other-member w a b after x out = (kept-in, kept-out)
   where
+    -- a change that leaves the value t on a..b, and elsewhere what was there
+    kept : (o : Option Value) (t : Bool) → editCall setLayout w a b o ≡ leaves after → SetLeft (length w) (λ y. pick (between a b y) t (In w y)) after
+        → memberCall after x ≡ memberCall w x
+    kept o t e l =
+        asked after x (l .sound) ∙ ap (λ (u : Bool). outcome (truth u) []) (l .members x ∙ ap (λ (u : Bool). pick u t (In w x)) out)
+        ∙ sym (asked w x (edit-accepted setLayout w a b o after e .sound))
+
     kept-in : insertCall w a b ≡ leaves after → memberCall after x ≡ memberCall w x
-    kept-in e =
-        let l = insert-means w a b [] after e in
-        let k = edit-accepted setLayout w a b (some []) after e in
-        asked after x (l .sound) ∙ ap (λ (t : Bool). outcome (truth t) []) (l .members x ∙ ap (λ (t : Bool). pick t true (In w x)) out)
-        ∙ sym (asked w x (k .sound))
+    kept-in e = kept (some []) true e (insert-means w a b [] after e)
 
     kept-out : removeCall w a b ≡ leaves after → memberCall after x ≡ memberCall w x
-    kept-out e =
-        let l = remove-means w a b [] after e in
-        let k = edit-accepted setLayout w a b none after e in
-        asked after x (l .sound) ∙ ap (λ (t : Bool). outcome (truth t) []) (l .members x ∙ ap (λ (t : Bool). pick t false (In w x)) out)
-        ∙ sym (asked w x (k .sound))
+    kept-out e = kept none false e (remove-means w a b [] after e)
 
 pub assigned-value : AssignedValue
 assigned-value w a b v after e x h k =

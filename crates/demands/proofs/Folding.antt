@@ -14,10 +14,10 @@ use Rattle.blocks.proofs.Refusing.{some-words}
 use Rattle.searches.specs.Calls.{overlap}
 use Rattle.bulletins.specs.Calls.{amendedWith, applyCall, foldCall}
 use Rattle.forms.proofs.Forms.{has-words}
-use Rattle.demands.specs.Plain.{Iff}
+use Rattle.demands.specs.Plain.{Iff, Lacks}
 use Rattle.demands.specs.Bulletins.{Apply, Fold, FoldIsOne, FoldApplies, FoldGroups, EitherOrder, BulletinsKeep, ApplyRoom, Foldable, FoldRoom}
 use Rattle.demands.proofs.Findings.{Numbered}
-use Rattle.demands.proofs.Rooms.{Not5, input-not, output-not, overlap-not, Lacks, refused-room, refused-alone}
+use Rattle.demands.proofs.Rooms.{Not5, input-not, output-not, overlap-not, refused-room, refused-alone}
 use Rattle.demands.proofs.Bulletins.{apply-means, fold-released, fold-withdrawn, fold-bulletin, fold-applies, fold-groups, fold-either-order}
 use Rattle.demands.proofs.Bulletins.{apply-keeps, fold-keeps, overlap-apart, apart-overlap}
 

@@ -25,9 +25,9 @@ use Rattle.verdicts.proofs.Whole.{set-kind}
 use Rattle.forms.specs.Calls.{storedIn, readCall, memberOfFormCall}
 use Rattle.forms.proofs.Forms.{accepted-formed, formed-accepted}
 use Rattle.demands.specs.Bytes.{OfThree, of-set, of-map, of-bulletin, lastOfBytes, IsForm, ReadRefusals, HostRefuses, NoRoomFor, ReadRoom}
-use Rattle.demands.specs.Plain.{Iff}
+use Rattle.demands.specs.Plain.{Iff, Lacks}
 use Rattle.demands.proofs.Findings.{Where, Numbered, chosen, not-any, applied, numbered-both, numbered-so, named-number, named-applies, named-split}
-use Rattle.demands.proofs.Rooms.{Not5, words-numbers, rooms-numbers, clear-words, words-clear, Lacks, refused-room}
+use Rattle.demands.proofs.Rooms.{Not5, words-numbers, rooms-numbers, clear-words, words-clear, refused-room}
 use Rattle.demands.proofs.Forms.{kind-of, host-question, bytes-keep}
 
 -- the numbers that bytes are refused with, the highest being `last`
@@ -189,8 +189,7 @@ read-room f t b y outs many i = record { to = to; from = from }
           runs = formEntries f b;
           form = accepted-formed f (kind-of t) b y (c .0);
           words = clear-words 0 outs (c .1);
-          before = h .1 .before;
-          here = h .1 .here;
+          short = h .1;
         }
 
     from : NoRoomFor f b outs i → readCall f b outs ≡ refuse 5 i outs
@@ -198,5 +197,5 @@ read-room f t b y outs many i = record { to = to; from = from }
         let a = formed-accepted f (kind-of t) b (h .runs) (h .form) in
         same ∙ exactly .from (
           clear-both (formRefusals f b) (noBlocks 0 ls) (a .0) (words-clear 0 outs (h .words)),
-          subst (λ (es : List (List Entry)). Lacks (f .layout) ls (lengths es) i) (sym (a .1)) (record { before = h .before; here = h .here }),
+          subst (λ (es : List (List Entry)). Lacks (f .layout) ls (lengths es) i) (sym (a .1)) (h .short),
         )

@@ -2,7 +2,7 @@
 use mathlib.Core.Path.{_≡_, refl, sym, _∙_, ap}
 use mathlib.Core.Logic.{_⊎_, inl, inr}
 use mathlib.Core.List.{List, [], _∷_, _++_}
-use Prim.Native.Nat.{ℕ, zero, suc, _+_, _≤_, _<_}
+use Prim.Native.Nat.{ℕ, zero, suc, _+_, _<_}
 use native.Mathlib.Omega.{arith}
 use native.Mathlib.Decide.{decLt}
 use lib.Dec.{ltb, eqb}
@@ -23,7 +23,7 @@ use Rattle.runs.specs.Runs.{lengths}
 use Rattle.searches.specs.Calls.{overlapping}
 use Rattle.verdicts.specs.Forms.{noBlocks, noRooms}
 use Rattle.forms.proofs.Forms.{has-words, has-room, room-held}
-use Rattle.demands.specs.Plain.{Iff}
+use Rattle.demands.specs.Plain.{Iff, Lacks}
 use Rattle.demands.proofs.Findings.{Where, Numbered, applied, named-number, named-split, named-join, named-refused}
 
 -- which numbers they have
@@ -89,11 +89,6 @@ room-missed c n h = go (decLt c n)
     go : Dec (c < n) → c < n
     go (yes p) = p
     go (no p) = absurd (h (has-room c n (omega arith)))
-
--- which is the first that has no room, where so many outputs are to hold so many runs: those before it have, and it has not
-pub record Lacks (l : Layout) (ls counts : List ℕ) (i : ℕ) : Type 0 where
-  pub before : (k : ℕ) → k < i → getD counts k 0 ≤ capacity l (getD ls k 0)
-  pub here : capacity l (getD ls i 0) < getD counts i 0
 
 module _ (l : Layout) where
   -- the number of each, and the place of one that applies: its output's

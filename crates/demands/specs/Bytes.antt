@@ -9,14 +9,14 @@ use Rattle.entries.specs.Entries.{Entry, Each}
 use Rattle.entries.specs.Build.{pick}
 use Rattle.entries.specs.Sets.{M}
 use Rattle.answers.specs.Answers.{given, outcome, refuse, Keeps, Clear}
-use Rattle.blocks.specs.Blocks.{setLayout, mapLayout, capacity, entriesOf, Lent}
+use Rattle.blocks.specs.Blocks.{setLayout, mapLayout, entriesOf, Lent}
 use Rattle.numbers.specs.Numbers.{Bytes, patch}
 use Rattle.runs.specs.Runs.{lengths}
 use Rattle.verdicts.specs.declared.Form.{Form}
 use Rattle.verdicts.specs.Forms.{ofSet, ofMap, ofBulletin, formOf, outRefusals, Formed}
 use Rattle.forms.specs.Calls.{storedIn, heldIn, readCall, readSetCall, readMapCall, readBulletinCall, memberOfFormCall}
 use Rattle.forms.specs.Calls.{writeCall, writeSetCall, writeMapCall, writeBulletinCall}
-use Rattle.demands.specs.Plain.{Iff, SoundSet, SoundMap, In, ValueOf, leaves}
+use Rattle.demands.specs.Plain.{Iff, SoundSet, SoundMap, In, ValueOf, leaves, Lacks}
 
 -- the form of a set, of a map, of a bulletin
 pub data OfThree : Form → Type 0 where
@@ -68,8 +68,7 @@ pub record NoRoomFor (f : Form) (b : List ℕ) (outs : List (List ℕ)) (i : ℕ
   pub runs : List (List Entry)
   pub form : Formed f b runs
   pub words : Each (λ (out : List ℕ). 0 < length out) outs
-  pub before : (k : ℕ) → k < i → getD (lengths runs) k 0 ≤ capacity (f .layout) (getD (lengths outs) k 0)
-  pub here : capacity (f .layout) (getD (lengths outs) i 0) < getD (lengths runs) i 0
+  pub short : Lacks (f .layout) (lengths outs) (lengths runs) i
 
 -- [R5, Y15] ROOM exactly: reading is refused with 5 for output i exactly there
 abbrev pub ReadRoom : Type 0

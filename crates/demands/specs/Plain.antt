@@ -11,7 +11,7 @@ use Rattle.entries.specs.Build.{andb}
 use Rattle.entries.specs.Sets.{member}
 use Rattle.answers.specs.Answers.{given, Outcome, outcome}
 use Rattle.blocks.specs.declared.Layout.{Layout}
-use Rattle.blocks.specs.Blocks.{setLayout, mapLayout, entriesOf, blockOf, verdict}
+use Rattle.blocks.specs.Blocks.{setLayout, mapLayout, capacity, entriesOf, blockOf, verdict}
 
 -- each follows from the other
 pub record Iff (P Q : Type 0) : Type 0 where
@@ -41,29 +41,32 @@ pub record InEntry (w : List ℕ) (x v : ℕ) : Type 0 where
   pub high : x ≤ getD w (2 + 3 * index) 0
   pub value : getD w (3 + 3 * index) 0 ≡ v
 
--- the plain set that a set block names, and the plain assignment that a map block names (`InSet`, `InMap` of specs/Questions: exactly
--- what its words say)
+-- [D2] the plain set that a set block names (`InSet` of specs/Questions: exactly what its words say)
 abbrev pub In : List ℕ → ℕ → Bool
 In w x = member (entriesOf (setLayout .width) w) x
 
+-- [D2] the plain assignment that a map block names (`InMap`)
 abbrev pub ValueOf : List ℕ → ℕ → Option Value
 ValueOf w x = valueAt (entriesOf (mapLayout .width) w) x
 
--- a question's answer, and an accepted change with what it leaves
+-- a question accepted, with its values: nothing is lent to be written
 abbrev pub answers : List ℕ → Outcome
 answers xs = outcome (given xs) []
 
+-- the answer of a question that is true or not: 1
 abbrev pub yes : Outcome
 yes = answers (1 ∷ [])
 
+-- and 0
 abbrev pub no : Outcome
 no = answers (0 ∷ [])
 
+-- a change accepted with no value, and the words that it leaves in the one block that it writes
 abbrev pub leaves : List ℕ → Outcome
 leaves after = outcome (given []) (after ∷ [])
 
--- [B8, D2, S13] what an accepted call leaves in a map block of L words: a sound block, as long as it was, that gives exactly the values of
--- F, with zeros behind its stored form
+-- [B8, D2, S13] what an accepted call leaves in a block of L words, of any layout: a sound block, as long as it was, that gives exactly
+-- the values of F, with zeros behind its stored form
 pub record Left (l : Layout) (L : ℕ) (F : ℕ → Option Value) (after : List ℕ) : Type 0 where
   pub sound : verdict l after ≡ 0
   pub long : length after ≡ L
@@ -86,3 +89,8 @@ pub record SameForm (l : Layout) (w v : List ℕ) : Type 0 where
   pub long : length w ≡ length v
   pub count : getD w 0 0 ≡ getD v 0 0
   pub items : take (l .width * getD w 0 0) (drop 1 w) ≡ take (l .width * getD w 0 0) (drop 1 v)
+
+-- [R5] of outputs with ls words each, which are to hold so many items each, output i is the first without room: those before it have it
+pub record Lacks (l : Layout) (ls counts : List ℕ) (i : ℕ) : Type 0 where
+  pub before : (k : ℕ) → k < i → getD counts k 0 ≤ capacity l (getD ls k 0)
+  pub here : capacity l (getD ls i 0) < getD counts i 0
