@@ -1,3 +1,4 @@
 pub mod Numbers
 pub mod Unique
+pub mod UniqueKeys
 pub mod Turns

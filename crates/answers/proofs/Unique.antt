@@ -34,14 +34,19 @@ answerOf (outcome a lent) = a
 abbrev lentOf : Outcome → List (List ℕ)
 lentOf (outcome a lent) = lent
 
--- [D8] for any kind of answer whose cases can be told apart by what they say
+-- [D8] two answers that can each be told back from what they say, and
+pub only-two : {A : Type 0} (says : A → Answer) (back : Answer → A) (due : Outcome) (r s : A) (k l : List (List ℕ)) → back (says r) ≡ r → back (says s) ≡ s
+    → outcome (says r) k ≡ due → outcome (says s) l ≡ due → (r ≡ s) × (k ≡ l)
+only-two says back due r s k l undo undo′ p q =
+    (sym undo ∙ ap (λ (o : Outcome). back (answerOf o)) (p ∙ sym q) ∙ undo′, ap lentOf (p ∙ sym q))
+
+-- [D8] any kind of answer whose cases can be told apart by what they say
 pub only : {A : Type 0} (says : A → Answer) (back : Answer → A) → ((r : A) → back (says r) ≡ r) → (due : Outcome) (r s : A) (k l : List (List ℕ))
     → outcome (says r) k ≡ due → outcome (says s) l ≡ due → (r ≡ s) × (k ≡ l)
-only says back undo due r s k l p q =
-    (sym (undo r) ∙ ap (λ (o : Outcome). back (answerOf o)) (p ∙ sym q) ∙ undo s, ap lentOf (p ∙ sym q))
+only says back undo due r s k l p q = only-two says back due r s k l (undo r) (undo s) p q
 
 -- a refusal is told by its number and its place
-refusal-back : (f : Refusal) → refusalOf (numberOf (f .reason)) (f .place) ≡ f
+pub refusal-back : (f : Refusal) → refusalOf (numberOf (f .reason)) (f .place) ≡ f
 refusal-back f = ap (λ (x : Reason). record { reason = x; place = f .place }) (number-reason (f .reason))
 
 abbrev judgedBack : Answer → Judged

@@ -2,6 +2,9 @@
 use mathlib.Core.List.{[], _∷_}
 use Prim.Native.Nat.{ℕ, zero, suc}
 use lib.Dec.{eqb}
+use Rattle.keys.specs.Keys.{IsKey, wordOf}
+use Rattle.keys.specs.declared.Apart.{Apart}
+use Rattle.keys.specs.declared.Apart.the-variants as apart
 use Rattle.entries.specs.Build.{pick}
 use Rattle.answers.specs.declared.Reason.{Reason}
 use Rattle.answers.specs.declared.Reason.the-variants.{NoBlock, Count, Order, Backwards, Room, ZeroRun, NoGap, Short, Mark, Kind, Check}
@@ -15,6 +18,10 @@ use Rattle.answers.specs.declared.Found.{Found}
 use Rattle.answers.specs.declared.Found.the-variants as found
 use Rattle.answers.specs.declared.Ranged.{Ranged}
 use Rattle.answers.specs.declared.Ranged.the-variants as ranged
+use Rattle.answers.specs.declared.FoundKey.{FoundKey}
+use Rattle.answers.specs.declared.FoundKey.the-variants as foundKey
+use Rattle.answers.specs.declared.RangedKeys.{RangedKeys}
+use Rattle.answers.specs.declared.RangedKeys.the-variants as rangedKeys
 use Rattle.answers.specs.declared.Sized.{Sized}
 use Rattle.answers.specs.declared.Sized.the-variants as sized
 use Rattle.answers.specs.declared.Parted.{Parted}
@@ -23,6 +30,8 @@ use Rattle.answers.specs.declared.Decided.{Decided}
 use Rattle.answers.specs.declared.Decided.the-variants as decided
 use Rattle.answers.specs.declared.Placed.{Placed}
 use Rattle.answers.specs.declared.Placed.the-variants as placed
+use Rattle.answers.specs.declared.PlacedKey.{PlacedKey}
+use Rattle.answers.specs.declared.PlacedKey.the-variants as placedKey
 use Rattle.answers.specs.declared.Written.{Written}
 use Rattle.answers.specs.declared.Written.the-variants as written
 use Rattle.answers.specs.Answers.{Answer, given, refused}
@@ -99,6 +108,48 @@ placedSays (placed.Refused f) = refusalSays f
 abbrev pub writtenSays : Written → Answer
 writtenSays (written.Length n) = given (n ∷ [])
 writtenSays (written.Refused f) = refusalSays f
+
+-- Answers with keys say the words of the keys, so that a call on keys and the call on their words have one outcome.
+-- [K3, G7] the word of the key, or no value
+abbrev pub foundKeySays : FoundKey → Answer
+foundKeySays (foundKey.Key k) = given (wordOf k ∷ [])
+foundKeySays foundKey.Nothing = given []
+foundKeySays (foundKey.Refused f) = refusalSays f
+
+-- [K3, G7] the words of the low and the high key, or no value
+abbrev pub rangedKeysSays : RangedKeys → Answer
+rangedKeysSays (rangedKeys.Range low high) = given (wordOf low ∷ wordOf high ∷ [])
+rangedKeysSays rangedKeys.Nothing = given []
+rangedKeysSays (rangedKeys.Refused f) = refusalSays f
+
+-- [K3, G7] the word of the key that a fit chose
+abbrev pub placedKeySays : PlacedKey → Answer
+placedKeySays (placedKey.At s) = given (wordOf s ∷ [])
+placedKeySays (placedKey.Refused f) = refusalSays f
+
+-- [K5, G7] the word of the difference of two keys; no value where they are too far apart
+abbrev pub apartSays : Apart → Answer
+apartSays (apart.By d) = given (wordOf d ∷ [])
+apartSays apart.TooFar = given []
+
+-- What an answer holds are keys, as they are wherever code made it, since an i64 is a key: then no second answer says the same
+-- (proofs/UniqueKeys).
+-- [K1] the key that was found
+abbrev pub FoundKeyHolds : FoundKey → Type 0
+FoundKeyHolds (foundKey.Key k) = IsKey k
+FoundKeyHolds foundKey.Nothing = Unit {0}
+FoundKeyHolds (foundKey.Refused f) = Unit {0}
+
+-- [K1] the two ends of the range that was found
+abbrev pub RangedKeysHold : RangedKeys → Type 0
+RangedKeysHold (rangedKeys.Range low high) = IsKey low × IsKey high
+RangedKeysHold rangedKeys.Nothing = Unit {0}
+RangedKeysHold (rangedKeys.Refused f) = Unit {0}
+
+-- [K1] the key that a fit chose
+abbrev pub PlacedKeyHolds : PlacedKey → Type 0
+PlacedKeyHolds (placedKey.At s) = IsKey s
+PlacedKeyHolds (placedKey.Refused f) = Unit {0}
 
 -- The other way, for code that has a number: the reason of a number of the table; of any other number, the table's last.
 abbrev pub reasonOf : ℕ → Reason

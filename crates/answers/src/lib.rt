@@ -1,6 +1,6 @@
 // What a call can answer: the fifteen refusals of the table, and the answers of the questions and the changes.
 ghost use mathlib.Core.Path.{_≡_};
-ghost use Rattle.answers.specs.Says.{numberOf, refusalOf, judgedOf};
+ghost use Rattle.answers.specs.Says.{numberOf, refusalOf, judgedOf, foundSays, rangedSays, placedSays, foundKeySays, rangedKeysSays, placedKeySays};
 
 // Why a call was refused. The table's number of each is `numberOf` in specs/Says.
 pub enum Reason {
@@ -60,6 +60,20 @@ pub enum Ranged {
     Refused(Refusal),
 }
 
+// The key that was asked for, or none.
+pub enum FoundKey {
+    Key(i64),
+    Nothing,
+    Refused(Refusal),
+}
+
+// The low and the high of the range of keys that was asked for, or none.
+pub enum RangedKeys {
+    Range(i64, i64),
+    Nothing,
+    Refused(Refusal),
+}
+
 // The size of a set: empty, or the size less one.
 pub enum Sized {
     Empty,
@@ -85,6 +99,12 @@ pub enum Decided {
 // The place that a fit chose.
 pub enum Placed {
     At(u64),
+    Refused(Refusal),
+}
+
+// The key that a fit chose.
+pub enum PlacedKey {
+    At(i64),
     Refused(Refusal),
 }
 
@@ -148,5 +168,37 @@ pub fn number_of(reason: Reason) -> u8
         Reason::Trailing => 13,
         Reason::Overlap => 14,
         Reason::NoSpace => 15,
+    }
+}
+
+// [K3] The answer with the key of the number that was found.
+pub fn as_key(a: Found) -> FoundKey
+    ensures { λ r. ⌜ foundKeySays r ≡ foundSays a ⌝ }
+{
+    match a {
+        Found::Number(x) => FoundKey::Key(keys::key_of(x)),
+        Found::Nothing => FoundKey::Nothing,
+        Found::Refused(f) => FoundKey::Refused(f),
+    }
+}
+
+// [K3] The answer with the keys of the two ends that were found.
+pub fn as_keys(a: Ranged) -> RangedKeys
+    ensures { λ r. ⌜ rangedKeysSays r ≡ rangedSays a ⌝ }
+{
+    match a {
+        Ranged::Range(low, high) => RangedKeys::Range(keys::key_of(low), keys::key_of(high)),
+        Ranged::Nothing => RangedKeys::Nothing,
+        Ranged::Refused(f) => RangedKeys::Refused(f),
+    }
+}
+
+// [K3] The answer with the key of the place that a fit chose.
+pub fn as_place(a: Placed) -> PlacedKey
+    ensures { λ r. ⌜ placedKeySays r ≡ placedSays a ⌝ }
+{
+    match a {
+        Placed::At(x) => PlacedKey::At(keys::key_of(x)),
+        Placed::Refused(f) => PlacedKey::Refused(f),
     }
 }

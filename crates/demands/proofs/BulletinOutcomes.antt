@@ -18,8 +18,8 @@ use Rattle.runs.specs.Runs.{lengths}
 use Rattle.runs.proofs.Several.{shapes}
 use Rattle.verdicts.specs.declared.Form.{Form}
 use Rattle.verdicts.specs.Steps.{FormKind}
-use Rattle.verdicts.specs.Forms.{ofSet, ofMap, ofBulletin, formOf, sharing, sizeOf as bytesIn}
-use Rattle.verdicts.proofs.Whole.{set-kind, map-kind, bulletin-kind, size}
+use Rattle.verdicts.specs.Forms.{ofSet, ofMap, ofBulletin, ofSigned, formOf, sharing, sizeOf as bytesIn}
+use Rattle.verdicts.proofs.Whole.{set-kind, map-kind, bulletin-kind, signed-kind, size}
 use Rattle.forms.specs.Calls.{heldIn, inputs, noSpace, blockRefusals, writeCall}
 use Rattle.forms.proofs.Forms.{has-words, has-room, held-fine, many-held, space-clear, space-there}
 use Rattle.searches.specs.Calls.{overlapping, overlap}
@@ -234,8 +234,21 @@ module _ (bytes : List ℕ) (p : ℕ) where
       writes ofBulletin bulletin-kind (r ∷ w ∷ []) refl (Bulletin r w) (clear-bulletin r w) (bulletin-clear r w) _
       (omega (arith, count-in 2 r, count-in 2 w)) bytes p
 
+  signed-writes : (w : List ℕ) → Writes ofSigned (w ∷ []) (SoundSet w) (7 + 21 * getD w 0 0) bytes p
+  signed-writes w = writes ofSigned signed-kind (w ∷ []) refl (SoundSet w) (λ c. c .0) (λ h. (h, (refl, tt))) _ (omega (arith, count-in 2 w)) bytes p
+
 pub write-accepted-exactly : WriteAccepted
-write-accepted-exactly bytes p = (λ w. set-writes bytes p w .0, λ w. map-writes bytes p w .0, λ r w. bulletin-writes bytes p r w .0)
+write-accepted-exactly bytes p = (
+  λ w. set-writes bytes p w .0,
+  λ w. map-writes bytes p w .0,
+  λ r w. bulletin-writes bytes p r w .0,
+  λ w. signed-writes bytes p w .0,
+)
 
 pub no-space-exactly : NoSpaceExactly
-no-space-exactly bytes p = (λ w. set-writes bytes p w .1, λ w. map-writes bytes p w .1, λ r w. bulletin-writes bytes p r w .1)
+no-space-exactly bytes p = (
+  λ w. set-writes bytes p w .1,
+  λ w. map-writes bytes p w .1,
+  λ r w. bulletin-writes bytes p r w .1,
+  λ w. signed-writes bytes p w .1,
+)

@@ -20,19 +20,20 @@ use Rattle.numbers.specs.Numbers.{Bytes, patch}
 use Rattle.runs.specs.Runs.{lengths, Fine}
 use Rattle.verdicts.specs.declared.Form.{Form}
 use Rattle.verdicts.specs.Steps.{FormKind}
-use Rattle.verdicts.specs.Forms.{formEntries, formRefusals, outRefusals, ofSet, ofMap, ofBulletin, formOf, overlap, sizeOf}
-use Rattle.verdicts.proofs.Whole.{set-kind, map-kind, bulletin-kind, size}
+use Rattle.verdicts.specs.Forms.{formEntries, formRefusals, outRefusals, ofSet, ofMap, ofBulletin, ofSigned, formOf, overlap, sizeOf}
+use Rattle.verdicts.proofs.Whole.{set-kind, map-kind, bulletin-kind, signed-kind, size}
 use Rattle.forms.specs.Calls.{storedIn, readCall, readSetCall, oneNumber, firstOf, memberOfFormCall, heldIn, inputs, blockRefusals, writeRefusals, writtenAt}
-use Rattle.forms.specs.Calls.{writeCall, writeSetCall, writeMapCall, writeBulletinCall}
+use Rattle.forms.specs.Calls.{writeCall, writeSetCall, writeMapCall, writeBulletinCall, writeSignedCall}
 use Rattle.forms.proofs.Forms.{accepted-formed, formed-accepted, read-written, written-read, held-fine, many-held}
-use Rattle.demands.specs.Bytes.{OfThree, of-set, of-map, of-bulletin, Read, ReadExactly, ReadWritten, WrittenRead, BytesKeep, HostQuestion}
+use Rattle.demands.specs.Bytes.{OfFour, of-set, of-map, of-bulletin, of-signed, Read, ReadExactly, ReadWritten, WrittenRead, BytesKeep, HostQuestion}
 use Rattle.demands.specs.Bytes.{WriteSizes}
 
--- the laws of every form hold of the three
-pub kind-of : {f : Form} → OfThree f → FormKind f
+-- the laws of every form hold of the four
+pub kind-of : {f : Form} → OfFour f → FormKind f
 kind-of of-set = set-kind
 kind-of of-map = map-kind
 kind-of of-bulletin = bulletin-kind
+kind-of of-signed = signed-kind
 
 module _ (f : Form) (k : FormKind f) (b : List ℕ) (y : Bytes b) (outs ws : List (List ℕ)) where
   was-read : readCall f b outs ≡ outcome (given []) ws → Read f b outs ws
@@ -152,7 +153,7 @@ module _ (f : Form) (k : FormKind f) (ws : List (List ℕ)) (bytes bytes′ : Li
       (sym x ∙ size f k es (many-held (f .layout) ws ∙ m) h, z)
 
 pub write-sizes : WriteSizes
-write-sizes p n bytes bytes′ = (of-sets, of-maps, of-bulletins)
+write-sizes p n bytes bytes′ = (of-sets, of-maps, of-bulletins, of-signeds)
   where
     of-sets : (w : List ℕ) → writeSetCall w bytes p ≡ outcome (given (n ∷ [])) (bytes′ ∷ [])
         → (n ≡ 7 + 21 * getD w 0 0) × (bytes′ ≡ patch p (formOf ofSet (entriesOf 2 w ∷ [])) bytes)
@@ -167,3 +168,8 @@ write-sizes p n bytes bytes′ = (of-sets, of-maps, of-bulletins)
     of-bulletins r w e =
         let k = written ofBulletin bulletin-kind (r ∷ w ∷ []) bytes bytes′ p n refl e in
         (omega (arith, k .0, items-length 2 (getD r 0 0) (drop 1 r), items-length 2 (getD w 0 0) (drop 1 w)), k .1)
+
+    of-signeds : (w : List ℕ) → writeSignedCall w bytes p ≡ outcome (given (n ∷ [])) (bytes′ ∷ [])
+        → (n ≡ 7 + 21 * getD w 0 0) × (bytes′ ≡ patch p (formOf ofSigned (entriesOf 2 w ∷ [])) bytes)
+    of-signeds w e =
+        let k = written ofSigned signed-kind (w ∷ []) bytes bytes′ p n refl e in (omega (arith, k .0, items-length 2 (getD w 0 0) (drop 1 w)), k .1)

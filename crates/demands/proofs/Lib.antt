@@ -10,6 +10,7 @@ pub mod MapQuestions
 pub mod Changes
 pub mod Exactly
 pub mod Fits
+pub mod Signed
 pub mod Stored
 pub mod Bulletins
 pub mod Forms

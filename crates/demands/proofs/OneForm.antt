@@ -17,12 +17,13 @@ use Rattle.runs.specs.Runs.{lengths, Fine}
 use Rattle.answers.proofs.Turns.{clear-split}
 use Rattle.runs.proofs.Several.{shapes}
 use Rattle.verdicts.specs.declared.Form.{Form}
-use Rattle.verdicts.specs.Forms.{ofSet, ofMap, ofBulletin, formOf, sizeOf, overlap, noBlocks, noRooms}
+use Rattle.verdicts.specs.Forms.{ofSet, ofMap, ofBulletin, ofSigned, formOf, sizeOf, overlap, noBlocks, noRooms}
 use Rattle.verdicts.proofs.Whole.{size}
-use Rattle.forms.specs.Calls.{storedIn, readCall, readSetCall, readMapCall, readBulletinCall, heldIn, inputs, noSpace, writtenAt, writeCall}
-use Rattle.demands.specs.Plain.{leaves}
-use Rattle.demands.specs.Bytes.{OfThree, of-set, of-map, of-bulletin, WholeForm, ReadSizes, OneSetForm, OneMapForm, OneBulletinForm}
-use Rattle.demands.specs.Bytes.{OneSetWritten, OneMapWritten, OneBulletinWritten}
+use Rattle.forms.specs.Calls.{storedIn, readCall, readSetCall, readMapCall, readBulletinCall, readSignedCall, heldIn, inputs, noSpace, writtenAt, writeCall}
+use Rattle.demands.specs.Plain.{In, leaves}
+use Rattle.demands.specs.Bytes.{OfFour, of-set, of-map, of-bulletin, of-signed, WholeForm, ReadSizes, OneSetForm, OneMapForm, OneBulletinForm}
+use Rattle.demands.specs.Bytes.{OneSignedForm, OneSetWritten, OneMapWritten, OneSignedWritten, OneBulletinWritten}
+use Rattle.demands.proofs.Signed.{all-keys}
 use Rattle.demands.proofs.Stored.{one-set, one-map}
 use Rattle.demands.proofs.Forms.{kind-of, read-exactly}
 
@@ -49,7 +50,7 @@ module _ (l : Layout) (two : 2 ≤ l .width) (small : l .limit < past2) where
       )
 
 -- READING leaves such blocks; the bytes are the form of what they say, and as many as its size
-module _ (f : Form) (t : OfThree f) where
+module _ (f : Form) (t : OfFour f) where
   read-blocks : (b : List ℕ) (outs ws : List (List ℕ)) → Bytes b → length outs ≡ f .runs → readCall f b outs ≡ outcome (given []) ws
       → Each (Good (f .layout)) ws × (b ≡ formOf f (heldIn (f .layout) ws)) × (length b ≡ sizeOf f (lengths (heldIn (f .layout) ws)))
   read-blocks b outs ws y many e =
@@ -79,7 +80,7 @@ pub whole-form : WholeForm
 whole-form f t b y outs ws many e = read-blocks f t b outs ws y many e .1
 
 pub read-sizes : ReadSizes
-read-sizes b y = (of-sets, of-maps, of-bulletins)
+read-sizes b y = (of-sets, of-maps, of-bulletins, of-signeds)
   where
     of-sets : (out w : List ℕ) → readSetCall b out ≡ leaves w → length b ≡ 7 + 21 * getD w 0 0
     of-sets out w e = omega (arith, read-blocks ofSet of-set b (out ∷ []) (w ∷ []) y refl e .2, items-length 2 (getD w 0 0) (drop 1 w))
@@ -96,6 +97,9 @@ read-sizes b y = (of-sets, of-maps, of-bulletins)
           items-length 2 (getD w 0 0) (drop 1 w),
         )
 
+    of-signeds : (out w : List ℕ) → readSignedCall b out ≡ leaves w → length b ≡ 7 + 21 * getD w 0 0
+    of-signeds out w e = omega (arith, read-blocks ofSigned of-signed b (out ∷ []) (w ∷ []) y refl e .2, items-length 2 (getD w 0 0) (drop 1 w))
+
 pub one-set-form : OneSetForm
 one-set-form b b′ out out′ w w′ y y′ e e′ h =
     one-form ofSet of-set b b′ (out ∷ []) (out′ ∷ []) (w ∷ []) (w′ ∷ []) y y′ refl refl e e′
@@ -111,6 +115,11 @@ one-bulletin-form b b′ outR outW outR′ outW′ r w r′ w′ y y′ e e′ h
     one-form ofBulletin of-bulletin b b′ (outR ∷ outW ∷ []) (outR′ ∷ outW′ ∷ []) (r ∷ w ∷ []) (r′ ∷ w′ ∷ []) y y′ refl refl e e′
     (λ p q. ap₂ (λ (es fs : List Entry). es ∷ fs ∷ []) (one-set r r′ (p .0 .0) (q .0 .0) (p .0 .1) (q .0 .1) h)
     (one-set w w′ (p .1 .0 .0) (q .1 .0 .0) (p .1 .0 .1) (q .1 .0 .1) g))
+
+pub one-signed-form : OneSignedForm
+one-signed-form b b′ out out′ w w′ y y′ e e′ h =
+    one-form ofSigned of-signed b b′ (out ∷ []) (out′ ∷ []) (w ∷ []) (w′ ∷ []) y y′ refl refl e e′
+    (λ p q. ap (λ (es : List Entry). es ∷ []) (one-set w w′ (p .0 .0) (q .0 .0) (p .0 .1) (q .0 .1) (all-keys (λ x. In w x ≡ In w′ x) .from h)))
 
 -- WRITING looks at the verdicts on the blocks, and at what they say
 one-written : (f : Form) (ws ws′ : List (List ℕ)) (bytes : List ℕ) (p : ℕ) → inputs (f .layout) 0 ws ≡ inputs (f .layout) 0 ws′
@@ -134,6 +143,11 @@ pub one-map-written : OneMapWritten
 one-map-written w w′ bytes p s s′ l l′ h =
     one-written ofMap (w ∷ []) (w′ ∷ []) bytes p (ap (λ (f : Finding). f ∷ []) (alike mapLayout 0 w w′ s s′))
     (ap (λ (es : List Entry). es ∷ []) (one-map w w′ s s′ l l′ h))
+
+pub one-signed-written : OneSignedWritten
+one-signed-written w w′ bytes p s s′ l l′ h =
+    one-written ofSigned (w ∷ []) (w′ ∷ []) bytes p (ap (λ (f : Finding). f ∷ []) (alike setLayout 0 w w′ s s′))
+    (ap (λ (es : List Entry). es ∷ []) (one-set w w′ s s′ l l′ (all-keys (λ x. In w x ≡ In w′ x) .from h)))
 
 pub one-bulletin-written : OneBulletinWritten
 one-bulletin-written r w r′ w′ bytes p a s a′ s′ k l k′ l′ h g =

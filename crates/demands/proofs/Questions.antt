@@ -250,7 +250,7 @@ pub set-window-means : SetWindow
 set-window-means w a b s order = window-means setLayout (omega arith) w a b s order
 
 -- OF TWO SETS, looked at in 0 to M alone: past M no lent block has a member
-past-M : (w : List ℕ) → Lent w → (x : ℕ) → pastM ≤ x → In w x ≡ false
+pub past-M : (w : List ℕ) → Lent w → (x : ℕ) → pastM ≤ x → In w x ≡ false
 past-M w lent x h = ap has (bounded 2 w lent x h)
 
 pub upto-M : (w v : List ℕ) → Lent w → Lent v → ((x : ℕ) → x ≤ M → In w x ≡ In v x) → (x : ℕ) → In w x ≡ In v x

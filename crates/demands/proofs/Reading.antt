@@ -1,30 +1,33 @@
 -- The refusals of reading: which numbers the bytes and the outputs are refused with, and when there is no room.
-use mathlib.Core.Path.{_≡_, refl, sym, _∙_, ap, subst}
+use mathlib.Core.Path.{_≡_, refl, sym, _∙_, ap, ap₂, subst}
 use mathlib.Core.Bool.{Bool}
 use mathlib.Core.Logic.{_⊎_, inl, inr}
 use mathlib.Core.Option.{Option, none, some}
 use mathlib.Core.List.{List, [], _∷_, _++_, append-assoc}
-use Prim.Native.Nat.{ℕ, zero, suc, _+_, _*_, _≤_}
+use Prim.Native.Nat.{ℕ, zero, suc, _+_, _*_, _≤_, _<_}
 use native.Mathlib.Omega.{arith}
 use lib.Dec.{ltb, eqb}
 use lib.ListN.{length, take, drop, getD}
+use borrow.Author.Tests.{le-ltb, eq-eqb, ne-eqb}
+use Rattle.keys.proofs.Shift.{turned-word}
 use Rattle.entries.specs.Entries.{Entry}
 use Rattle.answers.specs.Answers.{Outcome, outcome, given, refused, refuse, applies, inTurn, Keeps, Clear}
 use Rattle.answers.specs.declared.Finding.{Finding}
 use Rattle.answers.specs.Steps.{Named}
 use Rattle.answers.proofs.Turns.{refused-named, turn-accepted, clear-split, clear-both}
-use Rattle.numbers.specs.Numbers.{Bytes, num2}
+use Rattle.numbers.specs.Numbers.{Bytes, num2, be8}
 use Rattle.numbers.specs.Check.{checkOf}
-use Rattle.records.specs.Records.{bodyLength, bodyVerdict, recordVerdict, inOrder, entryIn, allWithin}
+use Rattle.records.specs.Records.{bodyLength, recordOf, saying, bodyVerdict, recordVerdict, inOrder, entryIn, allWithin}
 use Rattle.runs.specs.Runs.{lengths, runsIn, runRefusals, runsRefusals}
 use Rattle.runs.proofs.Several.{many-lengths}
 use Rattle.verdicts.specs.declared.Form.{Form}
-use Rattle.verdicts.specs.Forms.{ofSet, kindsOf, startSize, formCounts, formEntries, sizeOf, sharing, trailing, overlap, formRefusals}
+use Rattle.verdicts.specs.Forms.{formMark, ofSet, kindsOf, startSize, formCounts, formEntries, sizeOf, sharing, trailing, overlap, formRefusals}
 use Rattle.verdicts.specs.Forms.{noBlocks, noRooms, outRefusals}
 use Rattle.verdicts.proofs.Whole.{set-kind}
 use Rattle.forms.specs.Calls.{storedIn, readCall, memberOfFormCall}
 use Rattle.forms.proofs.Forms.{accepted-formed, formed-accepted}
-use Rattle.demands.specs.Bytes.{OfThree, of-set, of-map, of-bulletin, lastOfBytes, IsForm, ReadRefusals, HostRefuses, NoRoomFor, ReadRoom}
+use Rattle.demands.specs.Bytes.{OfFour, of-set, of-map, of-bulletin, of-signed, lastOfBytes, IsForm, ReadRefusals, HostRefuses, NoRoomFor, ReadRoom}
+use Rattle.demands.specs.Bytes.{OtherStart, OtherItem, KeyRecord}
 use Rattle.demands.specs.Plain.{Iff, Lacks}
 use Rattle.demands.proofs.Findings.{Where, Numbered, chosen, not-any, applied, numbered-both, numbered-so, named-number, named-applies, named-split}
 use Rattle.demands.proofs.Rooms.{Not5, words-numbers, rooms-numbers, clear-words, words-clear, refused-room}
@@ -81,12 +84,13 @@ module _ (last : ℕ) (high : 13 ≤ last) where
         (applied (From8 last) (ltb (sizeOf f (formCounts f b)) (length b)) 13 (omega arith, omega arith), (o, tt)),
   )
 
--- of each of the three: where there is one run, no two share a number
-bytes-numbers : (f : Form) → OfThree f → (b : List ℕ) → Numbered (From8 (lastOfBytes f)) (formRefusals f b)
+-- of each of the four: where there is one run, no two share a number
+bytes-numbers : (f : Form) → OfFour f → (b : List ℕ) → Numbered (From8 (lastOfBytes f)) (formRefusals f b)
 unfolding formEntries runsIn
 bytes-numbers f of-set b = form-numbers 13 (omega arith) f b (λ z. absurd (z refl))
 bytes-numbers f of-map b = form-numbers 13 (omega arith) f b (λ z. absurd (z refl))
 bytes-numbers f of-bulletin b = form-numbers 14 (omega arith) f b (applied (From8 14) (sharing (formEntries f b)) 14 (omega arith, omega arith))
+bytes-numbers f of-signed b = form-numbers 13 (omega arith) f b (λ z. absurd (z refl))
 
 -- THE NUMBERS with which reading refuses
 pub read-refusals : ReadRefusals
@@ -142,11 +146,12 @@ host-refuses b x y not = go (readCall ofSet b []) refl
         told n p d (read-refusals ofSet of-set b y [] [] n p d)
 
 -- the counts of what the bytes say are as many as the runs
-as-many : (f : Form) → OfThree f → (b : List ℕ) → length (lengths (formEntries f b)) ≡ f .runs
+as-many : (f : Form) → OfFour f → (b : List ℕ) → length (lengths (formEntries f b)) ≡ f .runs
 unfolding formEntries runsIn
 as-many f of-set b = refl
 as-many f of-map b = refl
 as-many f of-bulletin b = refl
+as-many f of-signed b = refl
 
 -- ROOM exactly
 pub read-room : ReadRoom
@@ -199,3 +204,31 @@ read-room f t b y outs many i = record { to = to; from = from }
           clear-both (formRefusals f b) (noBlocks 0 ls) (a .0) (words-clear 0 outs (h .words)),
           subst (λ (es : List (List Entry)). Lacks (f .layout) ls (lengths es) i) (sym (a .1)) (h .short),
         )
+
+-- THE KIND: a record whose kind is not the one that is due
+other-kind : (mark due : ℕ) (content : Bool) (b : List ℕ) → 3 ≤ length b → num2 b 0 ≡ mark → (getD b 2 0 ≡ due → ⊥) → recordVerdict mark due content b ≡ 10
+unfolding recordVerdict
+other-kind mark due content b h m n = rw (le-ltb (length b) 3 h, eq-eqb (num2 b 0) mark m, ne-eqb (getD b 2 0) due n)
+
+pub other-start : OtherStart
+unfolding readCall formRefusals
+other-start f t b outs h m n = rw (other-kind (f .mark) (f .start) (allWithin (f .layout .limit) (formCounts f b)) b h m n)
+
+-- the first item, where there is one
+first-item : (mark s p kind n : ℕ) (kinds counts b : List ℕ) (gs hs : List Finding) (lent : List (List ℕ)) (o : Outcome) → 0 < n → 3 ≤ length b
+    → num2 b 0 ≡ mark → (getD b 2 0 ≡ kind → ⊥) → inTurn ((runsRefusals mark s p (kind ∷ kinds) (n ∷ counts) b ++ gs) ++ hs) lent o ≡ refuse 10 p lent
+unfolding runsRefusals runRefusals
+first-item mark s p kind zero kinds counts b gs hs lent o z h m n = absurd (omega arith)
+first-item mark s p kind (suc k) kinds counts b gs hs lent o z h m n = rw (other-kind mark kind (inOrder none (entryIn kind s b)) b h m n)
+
+pub other-item : OtherItem
+unfolding readCall formRefusals
+other-item f of-set b outs v z h m n = rw v (first-item _ _ _ _ _ _ _ _ _ _ _ _ z h m n)
+other-item f of-map b outs v z h m n = rw v (first-item _ _ _ _ _ _ _ _ _ _ _ _ z h m n)
+other-item f of-bulletin b outs v z h m n = rw v (first-item _ _ _ _ _ _ _ _ _ _ _ _ z h m n)
+other-item f of-signed b outs v z h m n = rw v (first-item _ _ _ _ _ _ _ _ _ _ _ _ z h m n)
+
+-- THE BYTES OF KEYS
+pub key-record : KeyRecord
+unfolding saying
+key-record low high i j = ap₂ (λ (x y : ℕ). recordOf formMark 0x14 (be8 x ++ (be8 y ++ []))) (turned-word low i) (turned-word high j)

@@ -3,9 +3,11 @@
 use mathlib.Core.Path.{_≡_, refl}
 use mathlib.Core.Bool.{Bool, true, false}
 use mathlib.Core.List.{List, [], _∷_, _++_}
-use Prim.Native.Nat.{ℕ, suc, _-_}
+use Prim.Native.Nat.{ℕ, suc, _-_, _^_}
 use lib.Dec.{eqb}
+use lib.IntN.{ℤ, pos, negsuc}
 use lib.ListN.{take, drop, replicate}
+use Rattle.keys.specs.Keys.{wordOf, keyOf, apartOf, turned}
 use Rattle.entries.specs.Build.{pick, andb, sameWords, put}
 use Rattle.entries.specs.Sets.{M, union, intersection, difference, complement}
 use Rattle.entries.specs.Bulletins.{shareb}
@@ -19,7 +21,10 @@ use Rattle.maps.specs.Calls.{assignCall}
 use Rattle.entries.specs.Sets.{symmetricDifference}
 use Rattle.entries.specs.Maps.{overlay, restriction, domain}
 use Rattle.answers.specs.declared.Reason.the-variants.{Overlap}
-use Rattle.answers.specs.Says.{numberOf, refusalSays, judgedSays, refusalOf, judgedOf}
+use Rattle.answers.specs.declared.FoundKey.the-variants as foundKey
+use Rattle.answers.specs.declared.RangedKeys.the-variants as rangedKeys
+use Rattle.answers.specs.declared.PlacedKey.the-variants as placedKey
+use Rattle.answers.specs.Says.{numberOf, refusalSays, judgedSays, refusalOf, judgedOf, foundKeySays, rangedKeysSays, placedKeySays, apartSays}
 use Rattle.searches.specs.Parts.{partSays}
 use Rattle.searches.specs.Calls.{windowCall, windowAtCall, windowRefusalCall}
 use Rattle.sets.specs.Calls.{makeEmptyCall, rangeAtCall, leastMemberCall, setWindowCall, setWindowAtCall, setWindowRefusalCall}
@@ -32,6 +37,7 @@ use Rattle.records.specs.Records.{bodyLength, said, saying, recordVerdict}
 use Rattle.runs.specs.Runs.{runOf, entriesIn, runRefusals, runsOf, runsIn, runsRefusals}
 use Rattle.verdicts.specs.Forms.{formOf, formEntries, formRefusals}
 use Rattle.forms.specs.Calls.{readCall, writeCall, readSetCall, writeSetCall, readMapCall, writeMapCall, readBulletinCall, writeBulletinCall}
+use Rattle.forms.specs.Calls.{readSignedCall, writeSignedCall}
 
 pub record Case : Type 0 where
   pub got : Outcome
@@ -97,6 +103,45 @@ oneEach =
     ∷ 0xC5 ∷ 0x3A ∷ 0x12 ∷ 0 ∷ 0 ∷ 0 ∷ 0 ∷ 0 ∷ 0 ∷ 0 ∷ 1 ∷ 0 ∷ 0 ∷ 0 ∷ 0 ∷ 0 ∷ 0 ∷ 0 ∷ 4 ∷ 0x40 ∷ 0x17
     ∷ 0xC5 ∷ 0x3A ∷ 0x13 ∷ 0 ∷ 0 ∷ 0 ∷ 0 ∷ 0 ∷ 0 ∷ 0 ∷ 9 ∷ 0 ∷ 0 ∷ 0 ∷ 0 ∷ 0 ∷ 0 ∷ 0 ∷ 9 ∷ 0x9E ∷ 0x25 ∷ []
 
+-- keys below 0, from 1 on
+abbrev less : ℕ → ℤ
+less n = negsuc (n - 1)
+
+abbrev leastKey : ℤ
+leastKey = less (2 ^ 63)
+
+abbrev mostKey : ℤ
+mostKey = pos (2 ^ 63 - 1)
+
+-- the signed set {-5..3} in words, and its bytes, which tests/differential has from the model
+abbrev K : List ℕ
+K = 1 ∷ 9223372036854775803 ∷ 9223372036854775811 ∷ []
+
+abbrev keyBytes : List ℕ
+keyBytes =
+    0xC5 ∷ 0x3A ∷ 4 ∷ 0 ∷ 1 ∷ 0x0D ∷ 5
+    ∷ 0xC5 ∷ 0x3A ∷ 0x14 ∷ 0xFF ∷ 0xFF ∷ 0xFF ∷ 0xFF ∷ 0xFF ∷ 0xFF ∷ 0xFF ∷ 0xFB ∷ 0 ∷ 0 ∷ 0 ∷ 0 ∷ 0 ∷ 0 ∷ 0 ∷ 3 ∷ 0x34 ∷ 0x13 ∷ []
+
+-- the bytes of every key but -1
+abbrev allButOne : List ℕ
+allButOne =
+    0xC5 ∷ 0x3A ∷ 4 ∷ 0 ∷ 2 ∷ 0x0E ∷ 6
+    ∷ 0xC5 ∷ 0x3A ∷ 0x14 ∷ 0x80 ∷ 0 ∷ 0 ∷ 0 ∷ 0 ∷ 0 ∷ 0 ∷ 0 ∷ 0xFF ∷ 0xFF ∷ 0xFF ∷ 0xFF ∷ 0xFF ∷ 0xFF ∷ 0xFF ∷ 0xFE ∷ 0x5C ∷ 0x93
+    ∷ 0xC5 ∷ 0x3A ∷ 0x14 ∷ 0 ∷ 0 ∷ 0 ∷ 0 ∷ 0 ∷ 0 ∷ 0 ∷ 0 ∷ 0x7F ∷ 0xFF ∷ 0xFF ∷ 0xFF ∷ 0xFF ∷ 0xFF ∷ 0xFF ∷ 0xFF ∷ 0x51 ∷ 0x93 ∷ []
+
+-- bytes with 3..3 before -5..-1, and with -5..-1 before 0..3
+abbrev byTheirBytes : List ℕ
+byTheirBytes =
+    0xC5 ∷ 0x3A ∷ 4 ∷ 0 ∷ 2 ∷ 0x0E ∷ 6
+    ∷ 0xC5 ∷ 0x3A ∷ 0x14 ∷ 0 ∷ 0 ∷ 0 ∷ 0 ∷ 0 ∷ 0 ∷ 0 ∷ 3 ∷ 0 ∷ 0 ∷ 0 ∷ 0 ∷ 0 ∷ 0 ∷ 0 ∷ 3 ∷ 0x73 ∷ 0x1A
+    ∷ 0xC5 ∷ 0x3A ∷ 0x14 ∷ 0xFF ∷ 0xFF ∷ 0xFF ∷ 0xFF ∷ 0xFF ∷ 0xFF ∷ 0xFF ∷ 0xFB ∷ 0xFF ∷ 0xFF ∷ 0xFF ∷ 0xFF ∷ 0xFF ∷ 0xFF ∷ 0xFF ∷ 0xFF ∷ 0x31 ∷ 0x10 ∷ []
+
+abbrev touchingKeys : List ℕ
+touchingKeys =
+    0xC5 ∷ 0x3A ∷ 4 ∷ 0 ∷ 2 ∷ 0x0E ∷ 6
+    ∷ 0xC5 ∷ 0x3A ∷ 0x14 ∷ 0xFF ∷ 0xFF ∷ 0xFF ∷ 0xFF ∷ 0xFF ∷ 0xFF ∷ 0xFF ∷ 0xFB ∷ 0xFF ∷ 0xFF ∷ 0xFF ∷ 0xFF ∷ 0xFF ∷ 0xFF ∷ 0xFF ∷ 0xFF ∷ 0x31 ∷ 0x10
+    ∷ 0xC5 ∷ 0x3A ∷ 0x14 ∷ 0 ∷ 0 ∷ 0 ∷ 0 ∷ 0 ∷ 0 ∷ 0 ∷ 0 ∷ 0 ∷ 0 ∷ 0 ∷ 0 ∷ 0 ∷ 0 ∷ 0 ∷ 3 ∷ 0x58 ∷ 0x17 ∷ []
+
 abbrev table : List Case
 table =
     -- [N-A, B1, B2] empty, insert 5..9
@@ -144,7 +189,7 @@ table =
     ∷ case (writeBulletinCall (1 ∷ 1 ∷ 4 ∷ []) (1 ∷ 9 ∷ 9 ∷ []) (replicate 51 7) 1) (refusing 15 0 (replicate 51 7))
     -- [Y9, R10, Y12] kinds that there are not, and a map's bytes where a set is asked for: refused 10 at 0
     ∷ case (readSetCall (0xC5 ∷ 0x3A ∷ 0 ∷ drop 3 H) (7 ∷ [])) (refusing 10 0 (7 ∷ []))
-    ∷ case (readSetCall (0xC5 ∷ 0x3A ∷ 4 ∷ drop 3 H) (7 ∷ [])) (refusing 10 0 (7 ∷ []))
+    ∷ case (readSetCall (0xC5 ∷ 0x3A ∷ 5 ∷ drop 3 H) (7 ∷ [])) (refusing 10 0 (7 ∷ []))
     ∷ case (readSetCall (0xC5 ∷ 0x3A ∷ 0xFF ∷ drop 3 H) (7 ∷ [])) (refusing 10 0 (7 ∷ []))
     ∷ case (readSetCall oneEntry (7 ∷ [])) (refusing 10 0 (7 ∷ []))
     -- [N-J] earlier releases 1..4; later releases 9..9 and withdraws 3..3
@@ -245,6 +290,53 @@ table =
     (outcome (given []) ((2 ∷ 1 ∷ 2 ∷ 8 ∷ 9 ∷ []) ∷ (2 ∷ 5 ∷ 5 ∷ 12 ∷ 12 ∷ []) ∷ []))
     ∷ case (foldCall (1 ∷ 8 ∷ 9 ∷ []) (1 ∷ 12 ∷ 12 ∷ []) (1 ∷ 1 ∷ 2 ∷ []) (1 ∷ 5 ∷ 5 ∷ []) (7 ∷ 7 ∷ 7 ∷ 7 ∷ 7 ∷ []) (7 ∷ 7 ∷ 7 ∷ 7 ∷ 7 ∷ []))
     (outcome (given []) ((2 ∷ 1 ∷ 2 ∷ 8 ∷ 9 ∷ []) ∷ (2 ∷ 5 ∷ 5 ∷ 12 ∷ 12 ∷ []) ∷ []))
+    -- [K1, K2, K3] {-5..-1} insert 0..3 gives {-5..3}; every key, without -1; 4 is low above high as keys
+    ∷ case (insertCall (1 ∷ 9223372036854775803 ∷ 9223372036854775807 ∷ []) (wordOf (pos 0)) (wordOf (pos 3))) (accepted K)
+    ∷ case (removeCall (1 ∷ 0 ∷ M ∷ 0 ∷ 0 ∷ []) (wordOf (less 1)) (wordOf (less 1)))
+    (accepted (2 ∷ 0 ∷ 9223372036854775806 ∷ 9223372036854775808 ∷ M ∷ []))
+    ∷ case (insertCall K (wordOf (pos 0)) (wordOf (less 1))) (refusing 4 0 K)
+    ∷ case (outcome (foundKeySays (foundKey.Key (less 5))) []) (answer (9223372036854775803 ∷ []))
+    ∷ case (outcome (rangedKeysSays (rangedKeys.Range (less 5) (pos 3))) []) (rangeAtCall K 0)
+    ∷ case (outcome (placedKeySays (placedKey.At (pos 4))) []) (firstFitCall K (wordOf (less 5)) (wordOf mostKey) 2)
+    -- [K2] of {-5..3}: -1 and 0 are members, 4 is not; least members and non-members; the window -9..-5; fits, and their reservations
+    ∷ case (memberCall K (wordOf (less 1))) (answer (1 ∷ []))
+    ∷ case (memberCall K (wordOf (pos 0))) (answer (1 ∷ []))
+    ∷ case (memberCall K (wordOf (pos 4))) (answer (0 ∷ []))
+    ∷ case (leastMemberCall K (wordOf leastKey)) (answer (wordOf (less 5) ∷ []))
+    ∷ case (leastMemberCall K (wordOf (pos 4))) (answer [])
+    ∷ case (leastNonMemberCall K (wordOf (less 1))) (answer (wordOf (pos 4) ∷ []))
+    ∷ case (outcome (partSays (setWindowCall K (wordOf (less 9)) (wordOf (less 5)))) []) (answer (1 ∷ 2 ∷ []))
+    ∷ case (setWindowAtCall K (wordOf (pos 4)) (wordOf mostKey)) (answer [])
+    ∷ case (setWindowRefusalCall K (wordOf (pos 0)) (wordOf (less 1))) (outcome (refused 4 0) [])
+    ∷ case (bestFitCall K (wordOf (less 7)) (wordOf (pos 9)) 2) (answer (wordOf (less 7) ∷ []))
+    ∷ case (reserveFirstCall K (wordOf (less 1)) (wordOf mostKey) 2) (outcome (given (wordOf (pos 4) ∷ [])) ((1 ∷ wordOf (less 5) ∷ wordOf (pos 5) ∷ []) ∷ []))
+    ∷ case (reserveBestCall K (wordOf (less 7)) (wordOf (pos 9)) 2) (outcome (given (wordOf (less 7) ∷ [])) ((1 ∷ wordOf (less 7) ∷ wordOf (pos 3) ∷ []) ∷ []))
+    -- [K4] of the signed set {-5..3}: its size less one, its complement, what it has in common with {0..9}
+    ∷ case (sizeCall K) (answer (8 ∷ []))
+    ∷ case (complementCall K (7 ∷ 7 ∷ 7 ∷ 7 ∷ 7 ∷ [])) (accepted (2 ∷ wordOf leastKey ∷ wordOf (less 6) ∷ wordOf (pos 4) ∷ wordOf mostKey ∷ []))
+    ∷ case (intersectionCall K (1 ∷ wordOf (pos 0) ∷ wordOf (pos 9) ∷ []) (7 ∷ 7 ∷ 7 ∷ [])) (accepted (1 ∷ wordOf (pos 0) ∷ wordOf (pos 3) ∷ []))
+    -- [K5] differences: 0 less the least key and the greatest less -1 are too far; -1 less the greatest is the least, and so is the least less 0
+    ∷ case (outcome (apartSays (apartOf (pos 0) leastKey)) []) (answer [])
+    ∷ case (outcome (apartSays (apartOf mostKey (less 1))) []) (answer [])
+    ∷ case (outcome (apartSays (apartOf (less 1) mostKey)) []) (answer (wordOf leastKey ∷ []))
+    ∷ case (outcome (apartSays (apartOf leastKey (pos 0))) []) (answer (wordOf leastKey ∷ []))
+    ∷ case (outcome (apartSays (apartOf (pos 5) (less 3))) []) (answer (wordOf (pos 8) ∷ []))
+    -- [K1, K6] the key of a word, and turns between a word and its two's complement
+    ∷ case (answer (wordOf (keyOf 7) ∷ turned 0 ∷ turned M ∷ turned (2 ^ 63) ∷ [])) (answer (7 ∷ wordOf (pos 0) ∷ wordOf (less 1) ∷ wordOf leastKey ∷ []))
+    -- [K6] bytes of signed sets, read and written; order and touching are those of the keys
+    ∷ case (readSignedCall keyBytes (7 ∷ 7 ∷ 7 ∷ 7 ∷ [])) (accepted (K ++ (0 ∷ [])))
+    ∷ case (writeSignedCall K (replicate 30 7) 1) (outcome (given (28 ∷ [])) ((7 ∷ (keyBytes ++ (7 ∷ []))) ∷ []))
+    ∷ case (readSignedCall allButOne (7 ∷ 7 ∷ 7 ∷ 7 ∷ 7 ∷ [])) (accepted (2 ∷ 0 ∷ 9223372036854775806 ∷ 9223372036854775808 ∷ M ∷ []))
+    ∷ case (writeSignedCall (2 ∷ 0 ∷ 9223372036854775806 ∷ 9223372036854775808 ∷ M ∷ []) (replicate 49 7) 0) (outcome (given (49 ∷ [])) (allButOne ∷ []))
+    ∷ case (readSignedCall byTheirBytes (7 ∷ [])) (refusing 12 28 (7 ∷ []))
+    ∷ case (readSignedCall touchingKeys (7 ∷ [])) (refusing 12 28 (7 ∷ []))
+    -- [K7] the bytes of a signed set are none of a plain set, a map or a bulletin, and theirs are none of a signed set
+    ∷ case (readSetCall keyBytes (7 ∷ 7 ∷ 7 ∷ [])) (refusing 10 0 (7 ∷ 7 ∷ 7 ∷ []))
+    ∷ case (readMapCall keyBytes (7 ∷ [])) (refusing 10 0 (7 ∷ []))
+    ∷ case (readBulletinCall keyBytes (7 ∷ []) (8 ∷ [])) (outcome (refused 10 0) ((7 ∷ []) ∷ (8 ∷ []) ∷ []))
+    ∷ case (readSignedCall H (7 ∷ 7 ∷ 7 ∷ [])) (refusing 10 0 (7 ∷ 7 ∷ 7 ∷ []))
+    ∷ case (readSignedCall (take 7 keyBytes ++ drop 7 H) (7 ∷ [])) (refusing 10 7 (7 ∷ []))
+    ∷ case (readSetCall (take 7 H ++ drop 7 keyBytes) (7 ∷ [])) (refusing 10 7 (7 ∷ []))
     -- [G7] the refusal and the answer of a number, and the number of a reason
     ∷ case (outcome (refusalSays (refusalOf 11 7)) []) (outcome (refused 11 7) [])
     ∷ case (outcome (judgedSays (judgedOf 5 2)) []) (outcome (refused 5 2) [])

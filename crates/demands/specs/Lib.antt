@@ -4,5 +4,6 @@ pub mod Questions
 pub mod Changes
 pub mod Fits
 pub mod Stored
+pub mod Signed
 pub mod Bytes
 pub mod Bulletins

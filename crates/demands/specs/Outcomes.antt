@@ -16,7 +16,7 @@ use Rattle.sets.specs.Calls.{makeEmptyCall, memberCall, rangeAtCall, sizeCall, 
 use Rattle.fits.specs.Meaning.{FreeRun}
 use Rattle.fits.specs.Calls.{fitCall, firstFitCall, bestFitCall, reservedAt, reserveCall, reserveFirstCall, reserveBestCall}
 use Rattle.bulletins.specs.Calls.{amendedWith, applyCall, foldCall}
-use Rattle.forms.specs.Calls.{writeSetCall, writeMapCall, writeBulletinCall}
+use Rattle.forms.specs.Calls.{writeSetCall, writeMapCall, writeBulletinCall, writeSignedCall}
 use Rattle.searches.specs.Parts.{noPart, partSays}
 use Rattle.searches.specs.Calls.{windowPart, windowCall, windowAtCall, windowRefusalCall}
 use Rattle.maps.specs.Calls.{lookUpCall, deciding, partIn, decidingSays, siteOverFactoryCall, siteOverFactoryAtCall, siteRefusalCall}
@@ -130,14 +130,15 @@ WriteOverlapExactly = (released withdrawn bytes : List ℕ) (p : ℕ)
     → Iff (writeBulletinCall released withdrawn bytes p ≡ refuse 14 0 (bytes ∷ []))
     (SoundSet released × SoundSet withdrawn × (NoCommon released withdrawn → ⊥))
 
--- [R15, R17, Y10, Y16] NO SPACE EXACTLY: writing a set, a map or a bulletin at the place p is refused with 15 exactly if it is sound, and the buffer
--- ends before its form would, whose size is 7+21n, 7+29n, 9+21(r+w), of word 0 of the blocks
+-- [R15, R17, Y10, Y16, K6] NO SPACE EXACTLY: writing a set, a map, a bulletin or a signed set at the place p is refused with 15 exactly if it is
+-- sound, and the buffer ends before its form would, whose size is 7+21n, 7+29n, 9+21(r+w), 7+21n, of word 0 of the blocks
 abbrev pub NoSpaceExactly : Type 0
 NoSpaceExactly = (bytes : List ℕ) (p : ℕ)
     → ((w : List ℕ) → Iff (writeSetCall w bytes p ≡ refuse 15 0 (bytes ∷ [])) (SoundSet w × (length bytes < p + (7 + 21 * getD w 0 0))))
     × ((w : List ℕ) → Iff (writeMapCall w bytes p ≡ refuse 15 0 (bytes ∷ [])) (SoundMap w × (length bytes < p + (7 + 29 * getD w 0 0))))
     × ((r w : List ℕ) → Iff (writeBulletinCall r w bytes p ≡ refuse 15 0 (bytes ∷ []))
     (Bulletin r w × (length bytes < p + (9 + 21 * (getD r 0 0 + getD w 0 0)))))
+    × ((w : List ℕ) → Iff (writeSignedCall w bytes p ≡ refuse 15 0 (bytes ∷ [])) (SoundSet w × (length bytes < p + (7 + 21 * getD w 0 0))))
 
 -- [S9, S10, M2, M3] ACCEPTED EXACTLY, in plain terms, as a user's proof cites it: a change in place, of a set or of a map, is accepted exactly if the
 -- block is sound, the range is in order, and the result is within the block's capacity
@@ -218,10 +219,11 @@ pub record Reservable (fit : ℕ → ℕ → ℕ → List Entry → Option ℕ) 
 abbrev pub ReserveAccepted : Type 0
 ReserveAccepted = (fit : ℕ → ℕ → ℕ → List Entry → Option ℕ) (w : List ℕ) (a b k : ℕ) → Iff (Accepts (reserveCall fit w a b k)) (Reservable fit w a b k)
 
--- [Y10, Y16] writing a set, a map or a bulletin at the place p is accepted exactly if it is sound, and its form ends within the buffer
+-- [Y10, Y16, K6] writing a set, a map, a bulletin or a signed set at the place p is accepted exactly if it is sound, and its form ends within the buffer
 abbrev pub WriteAccepted : Type 0
 WriteAccepted = (bytes : List ℕ) (p : ℕ)
     → ((w : List ℕ) → Iff (Accepts (writeSetCall w bytes p)) (SoundSet w × (p + (7 + 21 * getD w 0 0) ≤ length bytes)))
     × ((w : List ℕ) → Iff (Accepts (writeMapCall w bytes p)) (SoundMap w × (p + (7 + 29 * getD w 0 0) ≤ length bytes)))
     × ((r w : List ℕ) → Iff (Accepts (writeBulletinCall r w bytes p))
     (Bulletin r w × (p + (9 + 21 * (getD r 0 0 + getD w 0 0)) ≤ length bytes)))
+    × ((w : List ℕ) → Iff (Accepts (writeSignedCall w bytes p)) (SoundSet w × (p + (7 + 21 * getD w 0 0) ≤ length bytes)))

@@ -17,7 +17,7 @@ use Rattle.verdicts.specs.declared.Form.{Form}
 use Rattle.forms.specs.declared.FormRead.{FormRead}
 use Rattle.forms.specs.declared.FormRead.the-variants as read
 use Rattle.runs.specs.Runs.{lengths}
-use Rattle.verdicts.specs.Forms.{ofSet, ofMap, ofBulletin, formOf, formCounts, formEntries, overlap, formRefusals, outRefusals}
+use Rattle.verdicts.specs.Forms.{ofSet, ofMap, ofBulletin, ofSigned, formOf, formCounts, formEntries, overlap, formRefusals, outRefusals}
 
 -- each output as it is when it holds its run
 abbrev pub storedIn : List (List ℕ) → List (List Entry) → List (List ℕ)
@@ -36,6 +36,10 @@ readSetCall b out = readCall ofSet b (out ∷ [])
 
 abbrev pub readMapCall : List ℕ → List ℕ → Outcome
 readMapCall b out = readCall ofMap b (out ∷ [])
+
+-- [K6] a signed set is read into a set block, as the words of its keys
+abbrev pub readSignedCall : List ℕ → List ℕ → Outcome
+readSignedCall b out = readCall ofSigned b (out ∷ [])
 
 abbrev pub readBulletinCall : List ℕ → List ℕ → List ℕ → Outcome
 readBulletinCall b released withdrawn = readCall ofBulletin b (released ∷ withdrawn ∷ [])
@@ -76,6 +80,10 @@ writeSetCall w bytes p = writeCall ofSet (w ∷ []) bytes p
 
 abbrev pub writeMapCall : List ℕ → List ℕ → ℕ → Outcome
 writeMapCall w bytes p = writeCall ofMap (w ∷ []) bytes p
+
+-- [K6] a signed set is written from a set block with the words of its keys
+abbrev pub writeSignedCall : List ℕ → List ℕ → ℕ → Outcome
+writeSignedCall w bytes p = writeCall ofSigned (w ∷ []) bytes p
 
 abbrev pub writeBulletinCall : List ℕ → List ℕ → List ℕ → ℕ → Outcome
 writeBulletinCall released withdrawn bytes p = writeCall ofBulletin (released ∷ withdrawn ∷ []) bytes p

@@ -1,4 +1,4 @@
-// The byte form of sets, maps and bulletins: a form is a value, and one code reads and writes them all, run by run.
+// The byte form of sets, maps, bulletins and signed sets: a form is a value, and one code reads and writes them all, run by run.
 ghost use mathlib.Core.Path.{_≡_};
 ghost use mathlib.Core.List.{[], _∷_, _++_};
 ghost use Prim.Native.Nat.{_+_, _*_, _≤_, _<_};
@@ -11,6 +11,7 @@ ghost use Rattle.numbers.specs.Numbers.{over};
 ghost use Rattle.verdicts.specs.Forms.{formOf};
 ghost use Rattle.forms.specs.Calls.{storedIn, readCall, readSetCall, readMapCall, readBulletinCall};
 ghost use Rattle.forms.specs.Calls.{blockRefusals, noSpace, writeCall, writeSetCall, writeMapCall, writeBulletinCall};
+ghost use Rattle.forms.specs.Calls.{readSignedCall, writeSignedCall};
 ghost use Rattle.forms.specs.Calls.{judgeSetCall, formSays, memberOfFormCall};
 ghost use Rattle.verdicts.specs.Steps.{FormKind, eachOf, runsHere};
 ghost use Rattle.forms.specs.Steps.{Stores, Puts, countHeld};
@@ -75,6 +76,14 @@ pub fn read_map(bytes: &[u8], out: &mut [u64]) -> Judged
 {
     let mut none = [0u64; 1];
     read_form(bytes, out, &mut none, verdicts::MAP_FORM)
+}
+
+// Reads the byte form of a signed set into a set block, as the words of its keys. A refused call changes nothing.
+pub fn read_signed(bytes: &[u8], out: &mut [u64]) -> Judged
+    ensures { λ r. ⌜ outcome (judgedSays r) (now (out .exit) ∷ []) ≡ readSignedCall (now (bytes .entry)) (now (out .entry)) ⌝ }
+{
+    let mut none = [0u64; 1];
+    read_form(bytes, out, &mut none, verdicts::SIGNED_FORM)
 }
 
 // Reads the byte form of a bulletin into a block of released ranges and one of withdrawn ranges. A refused call changes neither.
@@ -199,6 +208,14 @@ pub fn write_map(block: &[u64], bytes: &mut [u8], p: usize) -> Written
     ensures { λ r. ⌜ outcome (writtenSays r) (now (bytes .exit) ∷ []) ≡ writeMapCall (now (block .entry)) (now (bytes .entry)) p ⌝ }
 {
     write_form(block, block, bytes, p, verdicts::MAP_FORM)
+}
+
+// Writes the byte form of a signed set, from a set block with the words of its keys, into the bytes from place p on, and answers its
+// length. A refused call changes nothing.
+pub fn write_signed(block: &[u64], bytes: &mut [u8], p: usize) -> Written
+    ensures { λ r. ⌜ outcome (writtenSays r) (now (bytes .exit) ∷ []) ≡ writeSignedCall (now (block .entry)) (now (bytes .entry)) p ⌝ }
+{
+    write_form(block, block, bytes, p, verdicts::SIGNED_FORM)
 }
 
 // Writes the byte form of a bulletin into the bytes from place p on, and answers its length. A refused call changes nothing.

@@ -10,7 +10,11 @@ ghost use Rattle.maps.specs.Calls.{lookUpCall, assignCall, eraseCall, mapWindow
 ghost use Rattle.bulletins.specs.Calls.{applyCall, foldCall};
 ghost use Rattle.forms.specs.Calls.{readSetCall, readMapCall, readBulletinCall, judgeSetCall, memberOfFormCall};
 ghost use Rattle.forms.specs.Calls.{writeSetCall, writeMapCall, writeBulletinCall};
-ghost use Rattle.told.specs.Told.{told, reply, inC, Tells};
+ghost use Rattle.forms.specs.Calls.{readSignedCall, writeSignedCall};
+ghost use Rattle.answers.specs.Answers.{outcome};
+ghost use Rattle.answers.specs.Says.{apartSays};
+ghost use Rattle.keys.specs.Keys.{wordOf, keyOf, apartOf};
+ghost use Rattle.told.specs.Told.{told, reply, inC, Tells, TellsKeys};
 use forms::FormRead;
 use told::Told;
 
@@ -186,6 +190,118 @@ pub extern "C" fn wimblorque_set_reserve_best(block: &mut [u64], a: u64, b: u64,
     told::tell_placed(fits::reserve_best(block, a, b, k))
 }
 
+// Is the key x a member? One value, 1 or 0.
+#[no_mangle]
+pub extern "C" fn wimblorque_signed_member(block: &[u64], x: i64) -> Told
+    ensures { λ r. ⌜ Tells r [] (memberCall (now (block .entry)) (wordOf x)) ⌝ }
+{
+    told::tell_truth(signed::member(block, x))
+}
+
+// The low and the high key of the range at index i, or no values.
+#[no_mangle]
+pub extern "C" fn wimblorque_signed_range_at(block: &[u64], i: u64) -> Told
+    ensures { λ r. ⌜ TellsKeys r [] (rangeAtCall (now (block .entry)) i) ⌝ }
+{
+    told::tell_ranged_keys(signed::range_at(block, i))
+}
+
+// The least member at or above the key x, or no value.
+#[no_mangle]
+pub extern "C" fn wimblorque_signed_least_member(block: &[u64], x: i64) -> Told
+    ensures { λ r. ⌜ TellsKeys r [] (leastMemberCall (now (block .entry)) (wordOf x)) ⌝ }
+{
+    told::tell_found_key(signed::least_member(block, x))
+}
+
+// The least key at or above x that is not a member, or no value.
+#[no_mangle]
+pub extern "C" fn wimblorque_signed_least_non_member(block: &[u64], x: i64) -> Told
+    ensures { λ r. ⌜ TellsKeys r [] (leastNonMemberCall (now (block .entry)) (wordOf x)) ⌝ }
+{
+    told::tell_found_key(signed::least_non_member(block, x))
+}
+
+// The part of the block with the ranges that share a key with a..b: its offset and its length, or no values where there are none.
+#[no_mangle]
+pub extern "C" fn wimblorque_signed_window(block: &[u64], a: i64, b: i64) -> Told
+    ensures { λ r. ⌜ Tells r [] (setWindowAtCall (now (block .entry)) (wordOf a) (wordOf b)) ⌝ }
+{
+    told::tell_parted(signed::window_at(block, a, b))
+}
+
+// Makes every key of a..b a member.
+#[no_mangle]
+pub extern "C" fn wimblorque_signed_insert(block: &mut [u64], a: i64, b: i64) -> Told
+    ensures { λ r. ⌜ Tells r (now (block .exit) ∷ []) (insertCall (now (block .entry)) (wordOf a) (wordOf b)) ⌝ }
+{
+    told::tell_judged(signed::insert(block, a, b))
+}
+
+// Makes no key of a..b a member.
+#[no_mangle]
+pub extern "C" fn wimblorque_signed_remove(block: &mut [u64], a: i64, b: i64) -> Told
+    ensures { λ r. ⌜ Tells r (now (block .exit) ∷ []) (removeCall (now (block .entry)) (wordOf a) (wordOf b)) ⌝ }
+{
+    told::tell_judged(signed::remove(block, a, b))
+}
+
+// The least start of k keys of the window a..b that are all free.
+#[no_mangle]
+pub extern "C" fn wimblorque_signed_first_fit(block: &[u64], a: i64, b: i64, k: u64) -> Told
+    ensures { λ r. ⌜ TellsKeys r [] (firstFitCall (now (block .entry)) (wordOf a) (wordOf b) k) ⌝ }
+{
+    told::tell_placed_key(signed::first_fit(block, a, b, k))
+}
+
+// The low end of the shortest gap of the window a..b with at least k keys, the lowest such gap on a tie.
+#[no_mangle]
+pub extern "C" fn wimblorque_signed_best_fit(block: &[u64], a: i64, b: i64, k: u64) -> Told
+    ensures { λ r. ⌜ TellsKeys r [] (bestFitCall (now (block .entry)) (wordOf a) (wordOf b) k) ⌝ }
+{
+    told::tell_placed_key(signed::best_fit(block, a, b, k))
+}
+
+// Makes the k keys from the first fit on members, and answers it.
+#[no_mangle]
+pub extern "C" fn wimblorque_signed_reserve_first(block: &mut [u64], a: i64, b: i64, k: u64) -> Told
+    ensures { λ r. ⌜ TellsKeys r (now (block .exit) ∷ []) (reserveFirstCall (now (block .entry)) (wordOf a) (wordOf b) k) ⌝ }
+{
+    told::tell_placed_key(signed::reserve_first(block, a, b, k))
+}
+
+// Makes the k keys from the best fit on members, and answers it.
+#[no_mangle]
+pub extern "C" fn wimblorque_signed_reserve_best(block: &mut [u64], a: i64, b: i64, k: u64) -> Told
+    ensures { λ r. ⌜ TellsKeys r (now (block .exit) ∷ []) (reserveBestCall (now (block .entry)) (wordOf a) (wordOf b) k) ⌝ }
+{
+    told::tell_placed_key(signed::reserve_best(block, a, b, k))
+}
+
+// The first key less the second, or no value where that is no key.
+#[no_mangle]
+pub extern "C" fn wimblorque_key_difference(a: i64, b: i64) -> Told
+    ensures { λ r. ⌜ TellsKeys r [] (outcome (apartSays (apartOf a b)) []) ⌝ }
+{
+    told::tell_apart(keys::difference(a, b))
+}
+
+// The key that a word of a signed set's block stands for.
+#[no_mangle]
+pub extern "C" fn wimblorque_key_of_word(word: u64) -> i64
+    ensures { λ r. ⌜ r ≡ keyOf word ⌝ }
+{
+    keys::key_of(word)
+}
+
+// The word that stands for a key in a signed set's block.
+#[no_mangle]
+pub extern "C" fn wimblorque_word_of_key(key: i64) -> u64
+    ensures { λ r. ⌜ r ≡ wordOf key ⌝ }
+{
+    keys::word_of(key)
+}
+
 // The value of x, any word at all, or no value.
 #[no_mangle]
 pub extern "C" fn wimblorque_map_look_up(block: &[u64], x: u64) -> Told
@@ -296,6 +412,14 @@ pub extern "C" fn wimblorque_set_read(bytes: &[u8], out: &mut [u64]) -> Told
     told::tell_judged(forms::read_set(bytes, out))
 }
 
+// Reads the byte form of a signed set into out.
+#[no_mangle]
+pub extern "C" fn wimblorque_signed_read(bytes: &[u8], out: &mut [u64]) -> Told
+    ensures { λ r. ⌜ Tells r (now (out .exit) ∷ []) (readSignedCall (now (bytes .entry)) (now (out .entry))) ⌝ }
+{
+    told::tell_judged(forms::read_signed(bytes, out))
+}
+
 // Reads the byte form of a map into out.
 #[no_mangle]
 pub extern "C" fn wimblorque_map_read(bytes: &[u8], out: &mut [u64]) -> Told
@@ -334,6 +458,14 @@ pub extern "C" fn wimblorque_set_write(block: &[u64], bytes: &mut [u8], p: usize
     ensures { λ r. ⌜ Tells r (now (bytes .exit) ∷ []) (writeSetCall (now (block .entry)) (now (bytes .entry)) p) ⌝ }
 {
     told::tell_written(forms::write_set(block, bytes, p))
+}
+
+// Writes the byte form of a signed set from place p on, and answers its length.
+#[no_mangle]
+pub extern "C" fn wimblorque_signed_write(block: &[u64], bytes: &mut [u8], p: usize) -> Told
+    ensures { λ r. ⌜ Tells r (now (bytes .exit) ∷ []) (writeSignedCall (now (block .entry)) (now (bytes .entry)) p) ⌝ }
+{
+    told::tell_written(forms::write_signed(block, bytes, p))
 }
 
 // Writes the byte form of a map from place p on, and answers its length.

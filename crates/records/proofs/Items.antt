@@ -14,15 +14,15 @@ use Rattle.entries.specs.Entries.{Entry}
 use Rattle.blocks.specs.Blocks.{itemOf, afterb}
 use borrow.Rule.Slice.PartMut.{putMid}
 use Rattle.numbers.specs.Numbers.{Bytes, num2, num8, be2, wordsIn, wordBytes, countsIn, countBytes, over}
+use Rattle.keys.specs.Keys.{turned}
 use Rattle.numbers.proofs.Patch.{mid-over}
 use Rattle.numbers.proofs.Numbers.{words-bytes, counts-bytes, length-words}
-use Rattle.records.specs.Records.{allWithin, entryWords, entryIn, inOrder}
-use Rattle.records.specs.Reads.{countsOf, secondCount, startRead, itemHere, entryOf, itemRead}
+use Rattle.records.specs.Records.{allWithin, said, entryWords, entryIn, inOrder}
+use Rattle.records.specs.Reads.{countsOf, secondCount, startRead, itemHere, itemSaid, entryOf, itemRead}
 use Rattle.records.specs.Steps.{itemBytes}
 use Rattle.records.specs.declared.Item.{Item}
 use Rattle.records.specs.declared.ItemRead.the-variants as item
 use Rattle.records.specs.declared.StartRead.the-variants as start
-use Rattle.records.proofs.Said.{said-plain}
 
 -- the counts of a start, of which there are one or two
 pub counts-two : (k : ℕ) → 1 ≤ k → k ≤ 2 → (b : List ℕ) → countsOf k (num2 b 3) (secondCount k b) ≡ countsIn k b 3
@@ -82,21 +82,30 @@ here-item (suc (suc (suc zero))) b h l = refl
 here-item (suc (suc (suc (suc zero)))) b h l = refl
 here-item (suc (suc (suc (suc (suc s))))) b h l = absurd (omega arith)
 
-pub here-entry : (kind s : ℕ) (b : List ℕ) → 2 ≤ s → s ≤ 4 → entryOf s (itemHere s b) ≡ entryIn kind s b
-here-entry kind s b h l = here-item s b h l ∙ sym (said-plain kind (itemOf s (wordsIn s b 3)))
+pub here-entry : (kind s : ℕ) (b : List ℕ) → 2 ≤ s → s ≤ 4 → entryOf s (itemSaid kind (itemHere s b)) ≡ entryIn kind s b
+unfolding said
+here-entry kind s b h l = ap (said kind) (here-item s b h l)
 
 pub item-body : (s : ℕ) (b : List ℕ) (i : Item) → 2 ≤ s → s ≤ 4 → i ≡ itemHere s b → Bytes b → 8 * s + 5 ≤ length b → itemBytes s i ≡ take (8 * s) (drop 3 b)
 item-body s b i two four e y l =
     ap (λ (v : Entry). wordBytes (entryWords v)) (ap (entryOf s) e ∙ here-item s b two four)
     ∙ ap wordBytes (item-words s (wordsIn s b 3) two (length-words s b 3)) ∙ words-bytes b y s 3 (omega arith)
 
-pub item-content : (kind s : ℕ) (before : Option Entry) (b : List ℕ) (i : Item) → 2 ≤ s → s ≤ 4 → i ≡ itemHere s b
+pub item-content : (kind s : ℕ) (before : Option Entry) (b : List ℕ) (i : Item) → 2 ≤ s → s ≤ 4 → i ≡ itemSaid kind (itemHere s b)
     → inOrder before (entryOf s i) ≡ inOrder before (entryIn kind s b)
 item-content kind s before b i two four e = ap (inOrder before) (ap (entryOf s) e ∙ here-entry kind s b two four)
 
 pub item-made : (s : ℕ) (b : List ℕ) (l h v w : ℕ) → l ≡ num8 b 3 → h ≡ num8 b 11 → v ≡ pick (ltb 2 s) (num8 b 19) 0 → w ≡ pick (ltb 3 s) (num8 b 27) 0
     → _≡_ {A = Item} (record { low = l; high = h; value = v; second = w }) (itemHere s b)
 item-made s b l h v w p q r t = rw (p, q, r, t)
+
+-- the item that a record says: its words as they are, or with the ends turned
+pub said-as-it-is : (kind : ℕ) (i : Item) → (kind ≡ 0x14 → ⊥) → i ≡ itemSaid kind i
+said-as-it-is kind i n = rw (ne-eqb kind 0x14 n)
+
+pub said-turned : (kind : ℕ) (i : Item) → kind ≡ 0x14 → (l h : ℕ) → l ≡ turned (i .low) → h ≡ turned (i .high)
+    → _≡_ {A = Item} (record { low = l; high = h; value = i .value; second = i .second }) (itemSaid kind i)
+said-turned kind i k l h p q = rw (p, q, eq-eqb kind 0x14 k)
 
 -- a record's answer by its verdict
 pub start-bad : (w v n m : ℕ) → w ≡ v → (w ≡ 0 → ⊥) → start.Bad w ≡ startRead v n m

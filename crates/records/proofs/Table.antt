@@ -26,16 +26,36 @@ pub kind-1-2 : (k : ℕ) → 1 ≤ k → k ≤ 2 → bodyLength k ≡ some 2
 unfolding bodyLength
 kind-1-2 k l h = pair-or k 1 l h refl
 
-pub kind-18-19 : (k : ℕ) → 18 ≤ k → k ≤ 19 → bodyLength k ≡ some 16
+kind-18-19 : (k : ℕ) → 18 ≤ k → k ≤ 19 → bodyLength k ≡ some 16
 unfolding bodyLength
 kind-18-19 k l h = pair-or k 18 l h refl
 
+pub kind-18-20 : (k : ℕ) → 18 ≤ k → k ≤ 20 → bodyLength k ≡ some 16
+unfolding bodyLength
+kind-18-20 k l h = go (eqb k 20) refl
+  where
+    go : (t : Bool) → eqb k 20 ≡ t → bodyLength k ≡ some 16
+    go true q = ap bodyLength (eqb-true k 20 q)
+    go false q = let n = eqb-false k 20 q in kind-18-19 k l (omega arith)
+
 abbrev pub Outside : ℕ → Type 0
-Outside k = (k ≡ 1 → ⊥) × (k ≡ 2 → ⊥) × (k ≡ 3 → ⊥) × (k ≡ 16 → ⊥) × (k ≡ 17 → ⊥) × (k ≡ 18 → ⊥) × (k ≡ 19 → ⊥)
+Outside k =
+    (k ≡ 1 → ⊥) × (k ≡ 2 → ⊥) × (k ≡ 3 → ⊥) × (k ≡ 4 → ⊥) × (k ≡ 16 → ⊥) × (k ≡ 17 → ⊥) × (k ≡ 18 → ⊥) × (k ≡ 19 → ⊥) × (k ≡ 20 → ⊥)
 
 pub kind-none : (k : ℕ) → Outside k → bodyLength k ≡ none
 unfolding bodyLength
-kind-none k o = simp (ne-eqb _ _ (o .0), ne-eqb _ _ (o .1), ne-eqb _ _ (o .2), ne-eqb _ _ (o .3), ne-eqb _ _ (o .4), ne-eqb _ _ (o .5), ne-eqb _ _ (o .6))
+kind-none k o =
+    simp (
+      ne-eqb _ _ (o .0),
+      ne-eqb _ _ (o .1),
+      ne-eqb _ _ (o .2),
+      ne-eqb _ _ (o .3),
+      ne-eqb _ _ (o .4),
+      ne-eqb _ _ (o .5),
+      ne-eqb _ _ (o .6),
+      ne-eqb _ _ (o .7),
+      ne-eqb _ _ (o .8),
+    )
 
 -- a body has at most 32 bytes
 data Small : Option ℕ → Type 0 where
@@ -55,8 +75,10 @@ small k =
     small-pick (eqb k 1) (known (lit≤ tt))
     (small-pick (eqb k 2) (known (lit≤ tt))
     (small-pick (eqb k 3) (known (lit≤ tt))
+    (small-pick (eqb k 4) (known (lit≤ tt))
     (small-pick (eqb k 16) (known (lit≤ tt))
-    (small-pick (eqb k 17) (known (lit≤ tt)) (small-pick (eqb k 18) (known (lit≤ tt)) (small-pick (eqb k 19) (known (lit≤ tt)) unknown))))))
+    (small-pick (eqb k 17) (known (lit≤ tt)) (small-pick (eqb k 18) (known (lit≤ tt)) (small-pick (eqb k 19) (known (lit≤ tt))
+    (small-pick (eqb k 20) (known (lit≤ tt)) unknown))))))))
 
 pub body-small : (k n : ℕ) → bodyLength k ≡ some n → n ≤ 32
 body-small k n e = small-inv (rw e at (small k))

@@ -12,7 +12,7 @@ use Rattle.numbers.specs.Check.{checkOf}
 use Rattle.numbers.specs.Steps.{goOn, Begun, After}
 use Rattle.numbers.specs.declared.Sums.{Sums}
 use Rattle.records.specs.Records.{allWithin, startVerdict, entryIn, inOrder, itemVerdict}
-use Rattle.records.specs.Reads.{countsOf, secondCount, itemHere, entryOf}
+use Rattle.records.specs.Reads.{countsOf, secondCount, itemHere, itemSaid, entryOf}
 use Rattle.records.specs.Steps.{StartKind, ItemKind, Front, itemBytes}
 use Rattle.records.specs.declared.Item.{Item}
 use Rattle.records.proofs.Heads.{record-told}
@@ -52,8 +52,8 @@ module _ (mark due : ℕ) (b : List ℕ) (f : Front mark due b) (y : Bytes b) (x
       (start-body k (q .one) (q .two) b n m i j y (f .long (2 * k) (q .body))) s t c
 
   pub item-judged : (s : ℕ) (before : Option Entry) (i : Item) → ItemKind due s → i ≡ itemHere s b → x ≡ checkOf mark (due ∷ itemBytes s i)
-      → t ≡ eqb x (num2 b (8 * s + 3)) → u ≡ inOrder before (entryOf s i) → r ≡ itemVerdict mark due s before b
+      → t ≡ eqb x (num2 b (8 * s + 3)) → u ≡ inOrder before (entryOf s (itemSaid due i)) → r ≡ itemVerdict mark due s before b
   item-judged s before i q j c k w =
-      v ∙ ap (λ (a : Bool). pick t (pick a 0 12) 11) (w ∙ item-content due s before b i (q .two) (q .four) j)
+      v ∙ ap (λ (a : Bool). pick t (pick a 0 12) 11) (w ∙ item-content due s before b _ (q .two) (q .four) (ap (itemSaid due) j))
       ∙ record-told mark due b (inOrder before (entryIn due s b)) (8 * s) (q .body) f x (itemBytes s i)
       (item-body s b i (q .two) (q .four) j y (f .long (8 * s) (q .body))) c t k

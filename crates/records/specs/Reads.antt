@@ -8,6 +8,7 @@ use lib.ListN.{take}
 use Rattle.entries.specs.Entries.{Entry, entry}
 use Rattle.entries.specs.Build.{pick}
 use Rattle.numbers.specs.Numbers.{num2, num8}
+use Rattle.records.specs.Records.{endOf}
 use Rattle.records.specs.declared.Body.{Body}
 use Rattle.records.specs.declared.Body.the-variants as body
 use Rattle.records.specs.declared.Item.{Item}
@@ -43,6 +44,10 @@ itemHere s b = record { low = num8 b 3; high = num8 b 11; value = pick (ltb 2 s)
 
 abbrev pub entryOf : ℕ → Item → Entry
 entryOf s i = entry (i .low) (i .high) (take (s - 2) (i .value ∷ i .second ∷ []))
+
+-- the item that an item record of a kind says with these words
+abbrev pub itemSaid : ℕ → Item → Item
+itemSaid kind i = record { low = endOf kind (i .low); high = endOf kind (i .high); value = i .value; second = i .second }
 
 -- the entry before, where there is one
 abbrev pub previous : Bool → ℕ → Item → Option Entry

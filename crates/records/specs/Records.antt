@@ -6,22 +6,25 @@ use mathlib.Core.Option.{Option, none, some}
 use mathlib.Core.List.{List, [], _∷_, _++_}
 use lib.Dec.{leb, ltb, eqb}
 use lib.ListN.{length, getD, take, drop}
-use Rattle.entries.specs.Entries.{Entry}
+use Rattle.keys.specs.Keys.{turned}
+use Rattle.entries.specs.Entries.{Entry, entry}
 use Rattle.entries.specs.Build.{pick, andb}
 use Rattle.blocks.specs.Blocks.{itemOf, afterb}
 use Rattle.numbers.specs.Numbers.{num2, be2, wordsIn, wordBytes, countsIn, countBytes}
 use Rattle.numbers.specs.Check.{checkOf}
 
--- [Y3, Y4, Y5, Y6, Y7, Y8, Y9] «kind | body», the body's length; «0x00 and every other kind, from 0x04 to 0x0F and from 0x14 to 0xFF, is unknown»
+-- [Y3, Y4, Y5, Y6, Y7, Y8, Y9, K6] «kind | body», the body's length; 0x00 and every other kind, from 0x05 to 0x0F and from 0x15 to 0xFF, is unknown
 unfoldable pub bodyLength : ℕ → Option ℕ
 bodyLength kind =
     pick (eqb kind 0x01) (some 2)
     (pick (eqb kind 0x02) (some 2)
     (pick (eqb kind 0x03) (some 4)
+    (pick (eqb kind 0x04) (some 2)
     (pick (eqb kind 0x10) (some 16)
     (pick (eqb kind 0x11) (some 24)
     (pick (eqb kind 0x12) (some 16)
-    (pick (eqb kind 0x13) (some 16) none))))))
+    (pick (eqb kind 0x13) (some 16)
+    (pick (eqb kind 0x14) (some 16) none))))))))
 
 -- [Y2] «A record is the mark .., one kind byte, a body, two check bytes.»
 abbrev pub recordOf : ℕ → ℕ → List ℕ → List ℕ
@@ -31,15 +34,20 @@ recordOf mark kind body = be2 mark ++ ((kind ∷ body) ++ be2 (checkOf mark (kin
 abbrev pub startRecord : ℕ → ℕ → List ℕ → List ℕ
 startRecord mark kind counts = recordOf mark kind (countBytes counts)
 
--- What a record of a kind says with an item's words, and the item whose words say an entry: each kind says its words as they stand.
+-- [K6] an end of a range as it stands in a record of a kind, from the word that it has in a block, and back: a key in two's complement in
+-- 0x14, and the word itself in every other kind
+abbrev pub endOf : ℕ → ℕ → ℕ
+endOf kind x = pick (eqb kind 0x14) (turned x) x
+
+-- What a record of a kind says with an item's words, and the item whose words say an entry.
 -- What the laws of the byte form need of the two is `Saying` in proofs/Said.
 unfoldable pub said : ℕ → Entry → Entry
-said kind item = item
+said kind item = entry (endOf kind (item .low)) (endOf kind (item .high)) (item .value)
 
 unfoldable pub saying : ℕ → Entry → Entry
-saying kind e = e
+saying kind e = entry (endOf kind (e .low)) (endOf kind (e .high)) (e .value)
 
--- [Y6, Y7, Y8] «low, high, 8 bytes each»; «low, high, value, 8 bytes each»
+-- [Y6, Y7, Y8, K6] «low, high, 8 bytes each»; «low, high, value, 8 bytes each»
 abbrev pub entryWords : Entry → List ℕ
 entryWords e = e .low ∷ e .high ∷ e .value
 
@@ -53,7 +61,7 @@ bodyVerdict mark (some n) content b =
     pick (ltb (length b) (n + 5)) 8
     (pick (eqb (checkOf mark (take (n + 1) (drop 2 b))) (num2 b (n + 3))) (pick content 0 12) 11)
 
--- [R8, R9, R10, Y13] what is left of the bytes begins with a whole record of the kind that is due, whose content is right or not: «fewer than 3 bytes
+-- [R8, R9, R10, Y13, K7] what is left of the bytes begins with a whole record of the kind that is due, whose content is right or not: «fewer than 3 bytes
 -- left, 8; mark, 9; kind, 10»
 unfoldable pub recordVerdict : ℕ → ℕ → Bool → List ℕ → ℕ
 recordVerdict mark due content b =

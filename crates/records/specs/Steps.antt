@@ -4,9 +4,10 @@ use mathlib.Core.Path.{_≡_}
 use mathlib.Core.Bool.{Bool}
 use mathlib.Core.Option.{some}
 use mathlib.Core.List.{List}
+use lib.Dec.{eqb}
 use lib.ListN.{length, getD}
 use Rattle.numbers.specs.Numbers.{num2, wordBytes}
-use Rattle.records.specs.Records.{bodyLength, recordVerdict, entryWords}
+use Rattle.records.specs.Records.{bodyLength, endOf, recordVerdict, entryWords}
 use Rattle.records.specs.Reads.{entryOf}
 use Rattle.records.specs.declared.Item.{Item}
 
@@ -21,6 +22,14 @@ pub record ItemKind (kind s : ℕ) : Type 0 where
   pub two : 2 ≤ s
   pub four : s ≤ 4
   pub body : bodyLength kind ≡ some (8 * s)
+
+-- records of a kind hold the words of their items as they are
+abbrev pub AsTheyAre : ℕ → Type 0
+AsTheyAre kind = (x : ℕ) → endOf kind x ≡ x
+
+-- whether the ends in a record of a kind are turned, as code is told it
+abbrev pub Turns : ℕ → Bool → Type 0
+Turns kind turns = turns ≡ eqb kind 0x14
 
 -- the bytes of the words of an item
 abbrev pub itemBytes : ℕ → Item → List ℕ

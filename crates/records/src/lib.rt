@@ -5,13 +5,14 @@ ghost use Prim.Native.Nat.{_+_, _*_, _≤_, _<_};
 ghost use lib.Dec.{ltb, leb, eqb};
 ghost use lib.ListN.{length};
 ghost use Rattle.entries.specs.Build.{pick, andb, sameWords};
-ghost use Rattle.blocks.specs.Blocks.{afterb};
+ghost use Rattle.blocks.specs.Blocks.{afterb, itemOf};
 ghost use Rattle.numbers.specs.Numbers.{past2, num2, num8, be2, wordBytes, countBytes, over};
 ghost use Rattle.numbers.specs.Check.{checkOf};
-ghost use Rattle.numbers.specs.Steps.{goOn};
-ghost use Rattle.records.specs.Records.{bodyLength, recordOf, startRecord, startVerdict, inOrder, itemVerdict};
+ghost use Rattle.numbers.specs.Steps.{goOn, Laid};
+ghost use Rattle.records.specs.Records.{bodyLength, entryWords, entryIn, saying, itemRecord, startRecord, startVerdict, inOrder, itemVerdict};
 ghost use Rattle.records.specs.Reads.{bodyRead, startRead, itemRead, startNumber, itemNumber, countsOf, secondCount, itemHere, entryOf, previous};
-ghost use Rattle.records.specs.Steps.{StartKind, ItemKind, itemBytes, Fronted};
+ghost use Rattle.records.specs.Reads.{itemSaid};
+ghost use Rattle.records.specs.Steps.{StartKind, ItemKind, Turns, itemBytes, Fronted};
 use numbers::Sums;
 
 // The length of a kind's body.
@@ -40,16 +41,19 @@ pub enum ItemRead {
     Bad(u8),
 }
 
+// The kind of the items of a signed set, whose ends stand in two's complement.
+pub const SIGNED: u8 = 0x14;
+
 // [G5] The length of the body of each kind, or that the kind is unknown.
 pub fn body_length(kind: u8) -> Body
     ensures { λ r. ⌜ r ≡ bodyRead (bodyLength kind) ⌝ }
 {
     match kind {
-        0x01 | 0x02 => Body::Known(2),
+        0x01 | 0x02 | 0x04 => Body::Known(2),
         0x03 => Body::Known(4),
-        0x10 | 0x12 | 0x13 => Body::Known(16),
+        0x10 | 0x12 | 0x13 | 0x14 => Body::Known(16),
         0x11 => Body::Known(24),
-        0x00 | 0x04..=0x0F | 0x14..=0xFF => Body::Unknown,
+        0x00 | 0x05..=0x0F | 0x15..=0xFF => Body::Unknown,
     }
 }
 
@@ -182,6 +186,21 @@ fn item_here(bytes: &[u8], s: usize) -> Item
     }
 }
 
+// The item that an item record of a kind says with these words.
+fn item_said(kind: u8, item: Item) -> Item
+    ensures { λ r. ⌜ r ≡ itemSaid kind item ⌝ }
+{
+    if kind != SIGNED {
+        return item;
+    }
+    Item {
+        low: keys::turned(item.low),
+        high: keys::turned(item.high),
+        value: item.value,
+        second: item.second,
+    }
+}
+
 // The sums over the kind and the s words of an item.
 fn item_sums(kind: u8, mark: u16, item: Item, s: usize) -> Sums
     requires { ⌜ (2 ≤ s) × (s ≤ 4) ⌝ }
@@ -247,17 +266,19 @@ fn in_order(item: Item, first: bool, before: Item, s: usize) -> bool
     may_follow(before, item, s)
 }
 
-// The item record at the front of the bytes: its item, which is in order and may stand after the one before it.
+// The item record at the front of the bytes: its item, which is in order and may stand after the one before it. The check is over the
+// bytes as they stand; the order is that of what they say.
 pub fn read_item(bytes: &[u8], mark: u16, kind: u8, s: usize, first: bool, before: Item) -> ItemRead
     requires { ⌜ ItemKind kind s ⌝ }
-    ensures { λ r. ⌜ r ≡ itemRead (itemVerdict mark kind s (previous first s before) (now (bytes .entry))) (itemHere s (now (bytes .entry))) ⌝ }
+    ensures { λ r. ⌜ r ≡ itemRead (itemVerdict mark kind s (previous first s before) (now (bytes .entry))) (itemSaid kind (itemHere s (now (bytes .entry)))) ⌝ }
 {
     let h = read_front(bytes, mark, kind);
     if h != 0 {
         return ItemRead::Bad(h);
     }
-    let item = item_here(bytes, s);
-    if is_told(bytes, 8 * s + 3, item_sums(kind, mark, item, s), mark) {
+    let words = item_here(bytes, s);
+    if is_told(bytes, 8 * s + 3, item_sums(kind, mark, words, s), mark) {
+        let item = item_said(kind, words);
         if in_order(item, first, before, s) {
             return ItemRead::Good(item);
         }
@@ -319,13 +340,39 @@ pub fn write_start(bytes: &mut [u8], mark: u16, kind: u8, k: usize, n: u64, m: u
     numbers::put2(&mut bytes[q..], numbers::check_from(sums, mark));
 }
 
-// Writes an item record with these words.
-pub fn write_item(bytes: &mut [u8], mark: u16, kind: u8, words: &[u64])
-    requires { ⌜ (length (now words) ≤ 4) × (8 * length (now words) + 5 ≤ length (now bytes)) ⌝ }
-    ensures { λ _. ⌜ now (bytes .exit) ≡ over (recordOf mark kind (wordBytes (now (words .entry)))) (now (bytes .entry)) ⌝ }
+// Fills the front of out with the s words of the item that the record at the front of the bytes says; `turns` is whether its kind turns the
+// ends.
+pub fn fill_item(bytes: &[u8], kind: u8, turns: bool, s: usize, out: &mut [u64])
+    requires { ⌜ Turns kind turns × (2 ≤ s) × (8 * s + 3 ≤ length (now bytes)) × (s ≤ length (now out)) ⌝ }
+    ensures { λ _. ⌜ now (out .exit) ≡ over (entryWords (entryIn kind s (now (bytes .entry)))) (now (out .entry)) ⌝ }
+{
+    numbers::get_words(&bytes[3..], s, out);
+    if turns {
+        out[0] = keys::turned(out[0]);
+        out[1] = keys::turned(out[1]);
+    }
+}
+
+// Writes the body of an item record whose item has these words, and answers the sums over the kind and the body.
+fn put_item(bytes: &mut [u8], words: &[u64], kind: u8, turns: bool, mark: u16) -> Sums
+    requires { ⌜ Turns kind turns × ItemKind kind (length (now words)) × (8 * length (now words) ≤ length (now bytes)) ⌝ }
+    ensures { λ r. ⌜ Laid mark kind (wordBytes (entryWords (saying kind (itemOf (length (now (words .entry))) (now (words .entry))))))
+        (now (bytes .entry)) (now (bytes .exit)) r ⌝ }
+{
+    if turns {
+        let ends = [keys::turned(words[0]), keys::turned(words[1])];
+        return numbers::put_words(bytes, &ends, kind, mark);
+    }
+    numbers::put_words(bytes, words, kind, mark)
+}
+
+// Writes the record of the item that has these words; `turns` is whether its kind turns the ends.
+pub fn write_item(bytes: &mut [u8], mark: u16, kind: u8, turns: bool, words: &[u64])
+    requires { ⌜ Turns kind turns × ItemKind kind (length (now words)) × (8 * length (now words) + 5 ≤ length (now bytes)) ⌝ }
+    ensures { λ _. ⌜ now (bytes .exit) ≡ over (itemRecord mark kind (itemOf (length (now (words .entry))) (now (words .entry)))) (now (bytes .entry)) ⌝ }
 {
     put_head(bytes, mark, kind);
-    let sums = numbers::put_words(&mut bytes[3..], words, kind, mark);
+    let sums = put_item(&mut bytes[3..], words, kind, turns, mark);
     let q = 8 * words.len() + 3;
     numbers::put2(&mut bytes[q..], numbers::check_from(sums, mark));
 }

@@ -5,7 +5,7 @@ ghost use Prim.Native.Nat.{_+_, _*_, _≤_};
 ghost use lib.ListN.{length, drop};
 ghost use Rattle.blocks.specs.Blocks.{itemsOf, wordsOf, blockOf};
 ghost use Rattle.numbers.specs.Numbers.{over};
-ghost use Rattle.records.specs.Steps.{ItemKind};
+ghost use Rattle.records.specs.Steps.{ItemKind, Turns};
 ghost use Rattle.runs.specs.Runs.{runOf, entriesIn};
 ghost use Rattle.runs.specs.Steps.{RunJudged, Fills};
 use answers::Finding;
@@ -46,59 +46,76 @@ pub fn judge_run(bytes: &[u8], from: usize, mark: u16, kind: u8, s: usize, n: us
 }
 
 // Fills the front of out with the words of the n item records at the front of the bytes.
-fn fill_records(bytes: &[u8], kind: u8, s: usize, n: usize, out: &mut [u64])
-    requires { ⌜ Fills s n (now bytes) (now out) ⌝ }
+fn fill_records(bytes: &[u8], kind: u8, turns: bool, s: usize, n: usize, out: &mut [u64])
+    requires { ⌜ Turns kind turns × Fills s n (now bytes) (now out) ⌝ }
     ensures { λ _. ⌜ now (out .exit) ≡ over (wordsOf (entriesIn kind s n (now (bytes .entry)))) (now (out .entry)) ⌝ }
 {
     let mut left = n;
     let mut q: usize = 0;
     let mut w: usize = 0;
     while 0 < left {
-        numbers::get_words(&bytes[q + 3..], s, &mut out[w..]);
+        records::fill_item(&bytes[q..], kind, turns, s, &mut out[w..]);
         q += 8 * s + 5;
         w += s;
         left -= 1;
     }
 }
 
-// The same, with the words of a range told apart, as in `write_run`.
+// The same, with signed ranges and plain ones told apart, as in `write_run`.
 fn fill_run(bytes: &[u8], kind: u8, s: usize, n: usize, out: &mut [u64])
     requires { ⌜ Fills s n (now bytes) (now out) ⌝ }
     ensures { λ _. ⌜ now (out .exit) ≡ over (wordsOf (entriesIn kind s n (now (bytes .entry)))) (now (out .entry)) ⌝ }
 {
-    if s == 2 {
-        fill_records(bytes, kind, 2, n, out);
+    if kind == records::SIGNED {
+        fill_records(bytes, kind, true, s, n, out);
         return;
     }
-    fill_records(bytes, kind, s, n, out);
+    if s == 2 {
+        fill_records(bytes, kind, false, 2, n, out);
+        return;
+    }
+    fill_records(bytes, kind, false, s, n, out);
 }
 
 // [G4] Writes the n items whose words begin at the front of words as item records, at the front of the bytes.
-fn write_records(words: &[u64], s: usize, n: usize, mark: u16, kind: u8, bytes: &mut [u8])
-    requires { ⌜ Fills s n (now bytes) (now words) ⌝ }
+fn write_records(
+    words: &[u64],
+    s: usize,
+    n: usize,
+    mark: u16,
+    kind: u8,
+    turns: bool,
+    bytes: &mut [u8],
+)
+    requires { ⌜ Turns kind turns × ItemKind kind s × Fills s n (now bytes) (now words) ⌝ }
     ensures { λ _. ⌜ now (bytes .exit) ≡ over (runOf mark kind (itemsOf s n (now (words .entry)))) (now (bytes .entry)) ⌝ }
 {
     let mut left = n;
     let mut q: usize = 0;
     let mut w: usize = 0;
     while 0 < left {
-        records::write_item(&mut bytes[q..], mark, kind, &words[w..w + s]);
+        records::write_item(&mut bytes[q..], mark, kind, turns, &words[w..w + s]);
         q += 8 * s + 5;
         w += s;
         left -= 1;
     }
 }
 
-// The same, with the words of a range told apart: where every item has two, the compiler knows how many bytes a record has.
+// The same, with signed ranges told apart, whose ends are turned, and plain ones: where every item has two words, the compiler knows how
+// many bytes a record has.
 pub fn write_run(words: &[u64], s: usize, n: usize, mark: u16, kind: u8, bytes: &mut [u8])
-    requires { ⌜ Fills s n (now bytes) (now words) ⌝ }
+    requires { ⌜ ItemKind kind s × Fills s n (now bytes) (now words) ⌝ }
     ensures { λ _. ⌜ now (bytes .exit) ≡ over (runOf mark kind (itemsOf s n (now (words .entry)))) (now (bytes .entry)) ⌝ }
 {
-    if s == 2 {
-        write_records(words, 2, n, mark, kind, bytes);
+    if kind == records::SIGNED {
+        write_records(words, s, n, mark, kind, true, bytes);
         return;
     }
-    write_records(words, s, n, mark, kind, bytes);
+    if s == 2 {
+        write_records(words, 2, n, mark, kind, false, bytes);
+        return;
+    }
+    write_records(words, s, n, mark, kind, false, bytes);
 }
 
 // Writes word 0.

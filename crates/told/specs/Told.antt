@@ -1,8 +1,9 @@
 -- How an outcome is told to a C host: one answer of six numbers, and the words and bytes lent to be written.
 use mathlib.Core.Path.{_≡_}
-use mathlib.Core.List.{List, []}
+use mathlib.Core.List.{List, [], map}
 use Prim.Native.Nat.{ℕ, _+_}
 use lib.ListN.{length, getD}
+use Rattle.keys.specs.Keys.{turned}
 use Rattle.answers.specs.Answers.{Answer, given, refused, Outcome, outcome}
 use Rattle.told.specs.declared.Told.{Told}
 
@@ -30,4 +31,19 @@ inC (outcome a lent) = reply (told a) lent
 pub record Tells (r : Told) (lent : List (List ℕ)) (call : Outcome) : Type 0 where
   pub answer : Answer
   pub as-told : r ≡ told answer
+  pub as-called : outcome answer lent ≡ call
+
+-- [K3] An answer with keys, of which an outcome has the words, is told in two's complement: C casts the values to signed numbers.
+abbrev pub inTwos : Answer → Answer
+inTwos (given xs) = given (map turned xs)
+inTwos (refused number place) = refused number place
+
+-- [K3] the outcome of a call on keys, as C is told it
+abbrev pub inKeys : Outcome → Outcome
+inKeys (outcome a lent) = outcome (inTwos a) lent
+
+-- What an export that answers keys promises: the same of the answer in two's complement (`tells-keys` in proofs/Telling).
+pub record TellsKeys (r : Told) (lent : List (List ℕ)) (call : Outcome) : Type 0 where
+  pub answer : Answer
+  pub as-told : r ≡ told (inTwos answer)
   pub as-called : outcome answer lent ≡ call

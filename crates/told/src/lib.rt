@@ -3,17 +3,23 @@ ghost use mathlib.Core.Path.{_≡_};
 ghost use mathlib.Core.List.{[], _∷_};
 ghost use Rattle.answers.specs.Answers.{given, refused};
 ghost use Rattle.answers.specs.Says.{judgedSays, truthSays, foundSays, rangedSays, sizedSays, partedSays, decidedSays, placedSays, writtenSays, refusalSays};
-ghost use Rattle.told.specs.Told.{told};
+ghost use Rattle.answers.specs.Says.{foundKeySays, rangedKeysSays, placedKeySays, apartSays};
+ghost use Rattle.keys.specs.Keys.{wordOf, turned};
+ghost use Rattle.told.specs.Told.{told, inTwos};
 use answers::Decided;
 use answers::Found;
+use answers::FoundKey;
 use answers::Judged;
 use answers::Parted;
 use answers::Placed;
+use answers::PlacedKey;
 use answers::Ranged;
+use answers::RangedKeys;
 use answers::Refusal;
 use answers::Sized;
 use answers::Truth;
 use answers::Written;
+use keys::Apart;
 
 // What a call tells C: its status, the place of a refusal, how many values it answers, and the values.
 #[repr(C)]
@@ -199,5 +205,54 @@ pub fn tell_written(a: Written) -> Told
     match a {
         Written::Length(n) => one_value(n as u64),
         Written::Refused(f) => tell_refusal(f),
+    }
+}
+
+// A key in two's complement.
+pub fn twos_of(key: i64) -> u64
+    ensures { λ r. ⌜ r ≡ turned (wordOf key) ⌝ }
+{
+    keys::turned(keys::word_of(key))
+}
+
+// A key, or none.
+pub fn tell_found_key(a: FoundKey) -> Told
+    ensures { λ r. ⌜ r ≡ told (inTwos (foundKeySays a)) ⌝ }
+{
+    match a {
+        FoundKey::Key(k) => one_value(twos_of(k)),
+        FoundKey::Nothing => accepted(),
+        FoundKey::Refused(f) => tell_refusal(f),
+    }
+}
+
+// A range of keys, or none.
+pub fn tell_ranged_keys(a: RangedKeys) -> Told
+    ensures { λ r. ⌜ r ≡ told (inTwos (rangedKeysSays a)) ⌝ }
+{
+    match a {
+        RangedKeys::Range(low, high) => two_values(twos_of(low), twos_of(high)),
+        RangedKeys::Nothing => accepted(),
+        RangedKeys::Refused(f) => tell_refusal(f),
+    }
+}
+
+// The key that a fit chose.
+pub fn tell_placed_key(a: PlacedKey) -> Told
+    ensures { λ r. ⌜ r ≡ told (inTwos (placedKeySays a)) ⌝ }
+{
+    match a {
+        PlacedKey::At(s) => one_value(twos_of(s)),
+        PlacedKey::Refused(f) => tell_refusal(f),
+    }
+}
+
+// The difference of two keys, or no value where they are too far apart.
+pub fn tell_apart(a: Apart) -> Told
+    ensures { λ r. ⌜ r ≡ told (inTwos (apartSays a)) ⌝ }
+{
+    match a {
+        Apart::By(d) => one_value(twos_of(d)),
+        Apart::TooFar => accepted(),
     }
 }

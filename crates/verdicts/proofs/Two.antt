@@ -190,6 +190,8 @@ module _ (f : Form) (n m : ℕ) (b : List ℕ) (x : Finding) (fx : RunJudged (f 
             held-too = rw t at (subst (λ (i : ℕ). i ≤ length b) (fy .behind zy) (fy .within zy));
             sound = rw t at (sound-true (entriesIn (f .first) (f .layout .width) n (drop (startSize f) b)) (p .sound));
             sound-too = rw t at (sound-true (entriesIn (f .second) (f .layout .width) m (drop (x .place) b)) (q .sound));
+            plain = k .plain nz .0;
+            plain-too = k .plain nz .1;
           }
 
       pub shared-is : FormKind f → (f .runs ≡ 1 → ⊥) → (t : Bool)

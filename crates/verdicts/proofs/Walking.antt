@@ -11,20 +11,21 @@ use lib.Seq.{drop-drop}
 use Rattle.entries.specs.Entries.{Value, Entry, entry, orElse, both, valueAt}
 use Rattle.entries.specs.Build.{andb}
 use Rattle.entries.specs.Sets.{has, member}
-use Rattle.blocks.specs.Blocks.{itemOf}
-use Rattle.numbers.specs.Numbers.{num8, wordsIn}
+use Rattle.numbers.specs.Numbers.{num8}
 use Rattle.numbers.proofs.Numbers.{num8-drop}
-use Rattle.records.proofs.Said.{said-plain}
+use Rattle.records.specs.Records.{endOf, said}
+use Rattle.records.specs.Steps.{AsTheyAre}
 use Rattle.searches.proofs.Walking.{View}
 use Rattle.runs.specs.Runs.{entriesIn}
 
 -- ranges in bytes
-pub in-bytes : (kind : ℕ) (b : List ℕ) → View (λ n p. entriesIn kind 2 n (drop p b)) 21 (λ p. num8 b (p + 3)) (λ p. num8 b (p + 11))
-unfolding entriesIn
+pub in-bytes : (kind : ℕ) (b : List ℕ)
+    → View (λ n p. entriesIn kind 2 n (drop p b)) 21 (λ p. endOf kind (num8 b (p + 3))) (λ p. endOf kind (num8 b (p + 11)))
+unfolding entriesIn said
 in-bytes kind b = record {
   none = λ p. refl;
   more = λ n p. ap₂ _∷_
-      (said-plain kind (itemOf 2 (wordsIn 2 (drop p b) 3)) ∙ ap₂ (λ (x y : ℕ). entry x y []) (num8-drop b p 3) (num8-drop b p 11))
+      (ap₂ (λ (x y : ℕ). entry (endOf kind x) (endOf kind y) []) (num8-drop b p 3) (num8-drop b p 11))
       (ap (entriesIn kind 2 n) (drop-drop 21 p b));
 }
 
@@ -45,7 +46,7 @@ module _ (kind : ℕ) (b : List ℕ) (x p : ℕ) where
   none-left zero e = refl
   none-left (suc k) e = absurd (omega arith)
 
-  module _ (l h : ℕ) (el : l ≡ num8 b (p + 3)) (eh : h ≡ num8 b (p + 11)) (t : Bool) (et : t ≡ andb (leb l x) (leb x h)) where
+  module _ (plain : AsTheyAre kind) (l h : ℕ) (el : l ≡ num8 b (p + 3)) (eh : h ≡ num8 b (p + 11)) (t : Bool) (et : t ≡ andb (leb l x) (leb x h)) where
     abbrev rest : ℕ → List Entry
     rest k = entriesIn kind 2 k (drop (p + 21) b)
 
@@ -53,7 +54,9 @@ module _ (kind : ℕ) (b : List ℕ) (x p : ℕ) where
     test = sym (et ∙ ap₂ (λ (i j : ℕ). andb (leb i x) (leb x j)) el eh)
 
     seen : (k : ℕ) → member (entriesIn kind 2 (suc k) (drop p b)) x ≡ member (entry (num8 b (p + 3)) (num8 b (p + 11)) [] ∷ rest k) x
-    seen k = ap (λ (es : List Entry). member es x) (in-bytes kind b .more k p)
+    seen k =
+        ap (λ (es : List Entry). member es x)
+        (in-bytes kind b .more k p ∙ ap₂ (λ (i j : ℕ). entry i j [] ∷ rest k) (plain (num8 b (p + 3))) (plain (num8 b (p + 11))))
 
     pub found-here : (left : ℕ) → 0 < left → t ≡ true → true ≡ member (entriesIn kind 2 left (drop p b)) x
     found-here zero q z = absurd (omega arith)

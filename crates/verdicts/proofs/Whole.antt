@@ -1,7 +1,8 @@
 -- Whole forms: what an accepted form is made of, and the form of fine runs that share no number is accepted.
-use Prim.Native.Nat.{ℕ, zero, suc, _+_, _*_, _≤_}
+use Prim.Native.Nat.{ℕ, zero, suc, _+_, _*_, _≤_, _<_}
 use mathlib.Core.List.{List, [], _∷_, _++_, append-nil}
 use mathlib.Core.Bool.{true, false}
+use mathlib.Core.Option.{some}
 use mathlib.Core.Path.{_≡_, refl, sym, subst, ap, ap₂, _∙_}
 use native.Mathlib.Omega.{arith}
 use lib.Dec.{ltb, lit<, lit≤}
@@ -12,7 +13,7 @@ use Rattle.answers.specs.Answers.{applies, Clear}
 use Rattle.answers.proofs.Turns.{applies-clear, clear-both, clear-split}
 use Rattle.blocks.specs.Blocks.{Shaped}
 use Rattle.blocks.specs.declared.Layout.{Layout}
-use Rattle.numbers.specs.Numbers.{Bytes, countsIn, countBytes}
+use Rattle.numbers.specs.Numbers.{past2, Bytes, countsIn, countBytes}
 use Rattle.numbers.proofs.Numbers.{length-counts}
 use Rattle.records.specs.Records.{bodyLength, startRecord, allWithin}
 use Rattle.records.specs.Steps.{ItemKind}
@@ -23,31 +24,36 @@ use Rattle.runs.proofs.Turns.{length-record}
 use Rattle.runs.proofs.Running.{bytes-drop}
 use Rattle.runs.proofs.Several.{many-lengths, all-within, runs-inv, counts-in, runs-fine, runs-lent, runs-back, runs-accept, length-runs}
 use Rattle.verdicts.specs.declared.Form.{Form}
-use Rattle.verdicts.specs.Forms.{ofSet, ofMap, ofBulletin, kindsOf, formOf, startSize, sizeOf, formCounts, formEntries, sharing, trailing}
+use Rattle.verdicts.specs.Forms.{ofSet, ofMap, ofBulletin, ofSigned, kindsOf, formOf, startSize, sizeOf, formCounts, formEntries, sharing, trailing}
 use Rattle.verdicts.specs.Forms.{overlap, formRefusals, Formed}
 use Rattle.verdicts.specs.Steps.{Shape, lone, pair, FormKind}
 
--- the three forms of 01
+-- the kinds of a form of one run
+one-run : (mark start kind : ℕ) (l : Layout) → bodyLength start ≡ some 2 → bodyLength kind ≡ some (8 * l .width) → 2 ≤ l .width → l .width ≤ 4
+    → l .limit < past2 → FormKind (record { mark = mark; start = start; first = kind; second = kind; runs = 1; layout = l })
+one-run mark start kind l s i two four small = record {
+  start = record { one = lit≤ tt; two = lit≤ tt; body = s };
+  first = record { two = two; four = four; body = i };
+  second = record { two = two; four = four; body = i };
+  shape = lone;
+  small = small;
+  plain = λ n. absurd (n refl);
+}
+
 pub set-kind : FormKind ofSet
 unfolding bodyLength
-set-kind = record {
-  start = record { one = lit≤ tt; two = lit≤ tt; body = refl };
-  first = record { two = lit≤ tt; four = lit≤ tt; body = refl };
-  second = record { two = lit≤ tt; four = lit≤ tt; body = refl };
-  shape = lone;
-  small = lit< tt;
-}
+set-kind = one-run _ _ _ _ refl refl (lit≤ tt) (lit≤ tt) (lit< tt)
 
 pub map-kind : FormKind ofMap
 unfolding bodyLength
-map-kind = record {
-  start = record { one = lit≤ tt; two = lit≤ tt; body = refl };
-  first = record { two = lit≤ tt; four = lit≤ tt; body = refl };
-  second = record { two = lit≤ tt; four = lit≤ tt; body = refl };
-  shape = lone;
-  small = lit< tt;
-}
+map-kind = one-run _ _ _ _ refl refl (lit≤ tt) (lit≤ tt) (lit< tt)
 
+-- [K6] signed sets
+pub signed-kind : FormKind ofSigned
+unfolding bodyLength
+signed-kind = one-run _ _ _ _ refl refl (lit≤ tt) (lit≤ tt) (lit< tt)
+
+-- the kinds of a bulletin, which has two runs
 pub bulletin-kind : FormKind ofBulletin
 unfolding bodyLength
 bulletin-kind = record {
@@ -56,6 +62,7 @@ bulletin-kind = record {
   second = record { two = lit≤ tt; four = lit≤ tt; body = refl };
   shape = pair;
   small = lit< tt;
+  plain = λ n. (λ x. refl, λ x. refl);
 }
 
 kinds-are : (r : ℕ) (l : Layout) (a b : ℕ) → Shape r l → ItemKind a (l .width) → ItemKind b (l .width)

@@ -1,5 +1,5 @@
 -- A form is a value: the mark of its records, the kind of its start, the kind of the items of each run, and the layout of the blocks
--- that hold a run. Here are the three of 01, the bytes of a form, what bytes say that are one, and the refusals of reading them.
+-- that hold a run. Here are the four that there are, the bytes of a form, what bytes say that are one, and the refusals of reading them.
 use Prim.Native.Nat.{ℕ, suc, _+_, _*_}
 use mathlib.Core.Path.{_≡_}
 use mathlib.Core.Bool.{Bool, false}
@@ -33,6 +33,10 @@ ofMap = record { mark = formMark; start = 0x02; first = 0x11; second = 0x11; run
 -- [Y5, Y8] «0x03 | .. start of a bulletin», «0x12, 0x13 | released range, withdrawn range»
 abbrev pub ofBulletin : Form
 ofBulletin = record { mark = formMark; start = 0x03; first = 0x12; second = 0x13; runs = 2; layout = setLayout }
+
+-- [K6] the form of a signed set: start 0x04, ranges 0x14
+abbrev pub ofSigned : Form
+ofSigned = record { mark = formMark; start = 0x04; first = 0x14; second = 0x14; runs = 1; layout = setLayout }
 
 -- the kinds of the items, a run each
 abbrev pub kindsOf : Form → List ℕ

@@ -1,5 +1,6 @@
 -- What the steps of the code promise each other. No public promise names these.
 use Prim.Native.Nat.{ℕ, _+_, _*_, _<_, _≤_}
+use mathlib.Core.Path.{_≡_}
 use mathlib.Core.Option.{none}
 use mathlib.Core.List.{List, [], _∷_, _++_}
 use lib.ListN.{length, take, drop}
@@ -8,7 +9,7 @@ use Rattle.answers.specs.declared.Finding.{Finding}
 use Rattle.blocks.specs.Blocks.{setLayout}
 use Rattle.blocks.specs.declared.Layout.{Layout}
 use Rattle.numbers.specs.Numbers.{past2}
-use Rattle.records.specs.Steps.{StartKind, ItemKind}
+use Rattle.records.specs.Steps.{StartKind, ItemKind, AsTheyAre}
 use Rattle.verdicts.specs.declared.Form.{Form}
 use Rattle.runs.specs.Runs.{entriesIn, runRefusals}
 use Rattle.verdicts.specs.Forms.{startSize, trailing, overlap}
@@ -18,13 +19,14 @@ pub data Shape : ℕ → Layout → Type 0 where
   lone : {l : Layout} → Shape 1 l
   pair : Shape 2 setLayout
 
--- the kinds of a form, and its layout
+-- the kinds of a form, and its layout; two runs are of kinds that hold words as they are
 pub record FormKind (f : Form) : Type 0 where
   pub start : StartKind (f .start) (f .runs)
   pub first : ItemKind (f .first) (f .layout .width)
   pub second : ItemKind (f .second) (f .layout .width)
   pub shape : Shape (f .runs) (f .layout)
   pub small : f .layout .limit < past2
+  pub plain : (f .runs ≡ 1 → ⊥) → AsTheyAre (f .first) × AsTheyAre (f .second)
 
 -- what stands or is lent for the first and the second run, the second not where there is one run
 abbrev pub eachOf : {A : Type 0} → Form → A → A → List A
@@ -55,3 +57,5 @@ pub record TwoRuns (first p n second q m : ℕ) (b : List ℕ) : Type 0 where
   pub held-too : q + 21 * m ≤ length b
   pub sound : Sound (entriesIn first 2 n (drop p b))
   pub sound-too : Sound (entriesIn second 2 m (drop q b))
+  pub plain : AsTheyAre first
+  pub plain-too : AsTheyAre second

@@ -1,4 +1,4 @@
-// A form is a value: sets, maps and bulletins are three of them. Here are its verdicts: the bytes judged as a whole form, run by run, the
+// A form is a value: sets, maps, bulletins and signed sets are four of them. Here are its verdicts: the bytes judged as a whole form, run by run, the
 // outputs of a reading, and what can be asked of ranges in bytes.
 ghost use mathlib.Core.Path.{_≡_};
 ghost use Prim.Native.Nat.{_+_, _*_, _≤_, _<_};
@@ -10,6 +10,7 @@ ghost use Rattle.entries.specs.Bulletins.{shareb};
 ghost use Rattle.answers.specs.Answers.{applies};
 ghost use Rattle.answers.specs.Steps.{FirstOf};
 ghost use Rattle.blocks.specs.Blocks.{capacity};
+ghost use Rattle.records.specs.Steps.{AsTheyAre};
 ghost use Rattle.runs.specs.Runs.{entriesIn};
 ghost use Rattle.verdicts.specs.Forms.{startSize, formRefusals, outRefusals};
 ghost use Rattle.verdicts.specs.Steps.{FormKind, TwoRuns, eachOf, behindStart};
@@ -56,6 +57,16 @@ pub const BULLETIN_FORM: Form = Form {
     first: 0x12,
     second: 0x13,
     runs: 2,
+    layout: blocks::SET,
+};
+
+// A signed set: one run of ranges whose ends stand in two's complement.
+pub const SIGNED_FORM: Form = Form {
+    mark: MARK,
+    start: 0x04,
+    first: 0x14,
+    second: 0x14,
+    runs: 1,
     layout: blocks::SET,
 };
 
@@ -206,9 +217,9 @@ fn between(low: u64, x: u64, high: u64) -> bool
     false
 }
 
-// Whether x is in one of the n ranges whose records begin at place `from`.
+// Whether x is in one of the n ranges whose records begin at place `from`, of a kind that holds words as they are.
 pub fn holds(bytes: &[u8], kind: u8, from: usize, n: usize, x: u64) -> bool
-    requires { ⌜ from + 21 * n ≤ length (now bytes) ⌝ }
+    requires { ⌜ (from + 21 * n ≤ length (now bytes)) × AsTheyAre kind ⌝ }
     ensures { λ r. ⌜ r ≡ member (entriesIn kind 2 n (drop from (now (bytes .entry)))) x ⌝ }
 {
     let mut p = from;

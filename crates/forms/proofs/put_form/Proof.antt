@@ -13,13 +13,15 @@ write-start-requires c κs =
 write-run-requires : tie.Need-write-run-requires
 write-run-requires c κs =
     let k = c .before .before .before .before .before .before .before .before .before .before .before .before in
-    let p = k .pre in
-    record {
-      two = p .kind .first .two;
-      four = p .kind .first .four;
-      held = simp (length-take, length-drop) (omega (arith, p .held));
-      room = simp (length-take, length-drop) (omega (arith, p .room));
-    }
+    let p = k .pre in (
+      p .kind .first,
+      record {
+        two = p .kind .first .two;
+        four = p .kind .first .four;
+        held = simp (length-take, length-drop) (omega (arith, p .held));
+        room = simp (length-take, length-drop) (omega (arith, p .room));
+      },
+    )
 
 returns : tie.Need-returns
 returns c =
@@ -46,13 +48,15 @@ write-run-requires-2 : tie.Need-write-run-requires-2
 write-run-requires-2 c κs =
     let c10 = c .before .before .before .before .before .before .before .before .before .before in
     let k = c10 .before .before .before .before .before .before .before .before .before in
-    let p = k .pre in
-    record {
-      two = p .kind .first .two;
-      four = p .kind .first .four;
-      held = simp (length-take, length-drop) (omega (arith, p .held));
-      room = simp (length-take, length-drop) (omega (arith, p .room-too (c .before .before .if1 .left)));
-    }
+    let p = k .pre in (
+      p .kind .second,
+      record {
+        two = p .kind .first .two;
+        four = p .kind .first .four;
+        held = simp (length-take, length-drop) (omega (arith, p .held));
+        room = simp (length-take, length-drop) (omega (arith, p .room-too (c .before .before .if1 .left)));
+      },
+    )
 
 returns-2 : tie.Need-returns-2
 returns-2 c =

@@ -1,9 +1,10 @@
 use Prim.Native.Nat.{ℕ}
 use mathlib.Core.Bool.{Bool, true, false}
-use mathlib.Core.Path.{_≡_, refl, sym, _∙_}
+use mathlib.Core.Path.{_≡_, refl, sym, ap, _∙_}
 use Rattle.entries.specs.Build.{pick}
 use Rattle.records.specs.Records.{inOrder, itemVerdict}
-use Rattle.records.specs.Reads.{entryOf, previous}
+use Rattle.records.specs.Reads.{itemSaid, entryOf, previous}
+use Rattle.records.specs.declared.Item.{Item}
 use Rattle.records.proofs.Items.{item-bad, item-good}
 use Rattle.records.proofs.Told.{item-judged}
 use borrow.Author.Needs.{needs}
@@ -29,7 +30,7 @@ is-told-requires c κs =
 -- the verdict on the record whose front is good, by the comparison of its check and the test of its content
 judged : (k : tie.After-is-told) (t u : Bool) (r : ℕ) → r ≡ pick t (pick u 0 12) 11 → k .is-told .result ≡ t
     → (let a = k .before .before .before .before .before .before .args in
-    u ≡ inOrder (previous (a .first) (a .s) (a .before)) (entryOf (a .s) (k .before .before .item-here .result))
+    u ≡ inOrder (previous (a .first) (a .s) (a .before)) (entryOf (a .s) (itemSaid (a .kind) (k .before .before .item-here .result)))
     → r ≡ itemVerdict (a .mark) (a .kind) (a .s) (previous (a .first) (a .s) (a .before)) (a .bytes .now))
 judged k t u r v e w =
     let f = k .before .before .before .before in
@@ -38,15 +39,25 @@ judged k t u r v e w =
     (previous (a .first) (a .s) (a .before)) _ (f .before .before .pre) (k .before .before .item-here .ensures) (k .before .item-sums .ensures)
     (sym e ∙ k .is-told .ensures) w
 
+-- the test of the order is of the item that the words say
+ordered : (k : tie.After-in-order)
+    → (let h = k .before .before .before .before .before in
+    let a = h .before .before .before .before .args in
+    k .in-order .result ≡ inOrder (previous (a .first) (a .s) (a .before)) (entryOf (a .s) (itemSaid (a .kind) (h .item-here .result))))
+ordered k =
+    let a = k .before .before .before .before .before .before .before .before .before .args in
+    k .in-order .ensures ∙ ap (λ (i : Item). inOrder (previous (a .first) (a .s) (a .before)) (entryOf (a .s) i)) (k .before .item-said .ensures)
+
 returns-2 : tie.Need-returns-2
 returns-2 c =
-    let k = c .before .before .before in
-    item-good 0 _ _ _ (judged k true true 0 refl (c .before .before .if2 .taken) (sym (c .if3 .taken) ∙ c .before .in-order .ensures)) refl
-    (k .before .before .item-here .ensures)
+    let k = c .before .before .before .before in
+    let a = k .before .before .before .before .before .before .args in
+    item-good 0 _ _ _ (judged k true true 0 refl (c .before .before .before .if2 .taken) (sym (c .if3 .taken) ∙ ordered (c .before))) refl
+    (c .before .before .item-said .ensures ∙ ap (itemSaid (a .kind)) (k .before .before .item-here .ensures))
 
 returns-3 : tie.Need-returns-3
-returns-3 c = item-bad 12 _ _ (judged (c .before .before .before) true false 12 refl (c .before .before .if2 .taken)
-    (sym (c .if3 .left) ∙ c .before .in-order .ensures)) (λ z. omega arith)
+returns-3 c = item-bad 12 _ _ (judged (c .before .before .before .before) true false 12 refl (c .before .before .before .if2 .taken)
+    (sym (c .if3 .left) ∙ ordered (c .before))) (λ z. omega arith)
 
 returns-4 : tie.Need-returns-4
 returns-4 c = item-bad 11 _ _ (judged (c .before) false _ 11 refl (c .if2 .left) refl) (λ z. omega arith)
@@ -55,4 +66,4 @@ pub read-item-spec : {M : Type 1} → statement M
 read-item-spec =
     tie.close
     (tie.spec (λ c κs. search needs) returns item-here-requires (λ c. search needs) (λ c. search needs) (λ c κs. search needs) is-told-requires
-    (λ c κs. search needs) returns-2 returns-3 returns-4)
+    (λ c κs. search needs) (λ c κs. search needs) returns-2 returns-3 returns-4)

@@ -1,9 +1,13 @@
 use Prim.Native.Nat.{ℕ, _+_}
 use mathlib.Core.Path.{_∙_, ap}
+use lib.ListN.{length}
+use Rattle.blocks.specs.Blocks.{itemOf}
 use Rattle.numbers.specs.Numbers.{wordBytes}
-use Rattle.numbers.proofs.Numbers.{length-bytes}
+use Rattle.records.specs.Records.{entryWords, saying}
+use Rattle.records.proofs.Ends.{saying-bytes}
 use Rattle.records.proofs.Written.{record-written}
 use borrow.Author.Needs.{needs}
+use native.Mathlib.Omega.{arith}
 use Rattle.records.proofs.write_item.Statement.{statement}
 use Rattle.records.proofs.write_item.Tie as tie
 
@@ -11,9 +15,12 @@ returns : tie.Need-returns
 returns c =
     let c11 = c .before .before .before .before .before .before .before .before .before .before .before in
     let c15 = c11 .before .before .before .before in
-    let a = c15 .args in record-written (a .mark) (a .kind) _ _ (wordBytes (a .words .now)) (a .bytes .now) _ _ _ (ap (λ (n : ℕ). n + 3) (length-bytes
-    (a .words .now))) (c11 .put-head .ensures) (c .before .before .before .before .before .before .before .put-words .ensures .bytes)
-    (c .before .before .before .check-from .ensures .0 ∙ c .before .before .before .before .before .before .before .put-words .ensures .sums)
+    let a = c15 .args in
+    let ws = a .words .now in
+    let l = saying-bytes (a .kind) (length ws) ws (c15 .pre .1 .two) (omega arith) in
+    record-written (a .mark) (a .kind) _ _ (wordBytes (entryWords (saying (a .kind) (itemOf (length ws) ws)))) (a .bytes .now) _ _ _ (ap (λ (n : ℕ). n + 3) l)
+    (c11 .put-head .ensures) (c .before .before .before .before .before .before .before .put-item .ensures .bytes)
+    (c .before .before .before .check-from .ensures .0 ∙ c .before .before .before .before .before .before .before .put-item .ensures .sums)
     (c .before .before .put2 .ensures)
 
 pub write-item-spec : {M : Type 1} → statement M

@@ -1,7 +1,7 @@
 -- Invariant: writing the items left, whose words begin at w, at q gives the whole. Measure: the items left.
 use Prim.Native.Nat.{_+_, _-_, _*_, _≤_}
 use mathlib.Core.Path.{_≡_, sym, _∙_}
-use lib.ListN.{length, drop, length-take, length-drop}
+use lib.ListN.{length, take, drop, length-take, length-drop}
 use borrow.Rule.Slice.PartMut.{same-len-mid}
 use Rattle.blocks.specs.Blocks.{itemsOf}
 use Rattle.blocks.proofs.Tests.{less-one}
@@ -14,11 +14,11 @@ use Rattle.runs.proofs.write_records.Statement.{statement}
 use Rattle.runs.proofs.write_records.Tie as tie
 
 abbrev Inv-loop : tie.InvT-loop
-Inv-loop words s n mark kind bytes₀ left₀ q₀ w₀ bytes left q w = (w + s * left ≤ length words) × (q + (8 * s + 5) * left ≤ length bytes) ×
+Inv-loop words s n mark kind turns bytes₀ left₀ q₀ w₀ bytes left q w = (w + s * left ≤ length words) × (q + (8 * s + 5) * left ≤ length bytes) ×
     (length bytes ≡ length bytes₀) × (patch 0 (runOf mark kind (itemsOf s n words)) bytes₀ ≡ patch q (runOf mark kind (itemsOf s left (drop w words))) bytes)
 
 abbrev μ-loop : tie.MeasureT-loop
-μ-loop words s n mark kind bytes₀ left₀ q₀ w₀ bytes left q w = left
+μ-loop words s n mark kind turns bytes₀ left₀ q₀ w₀ bytes left q w = left
 
 part-write-item-end-2 : tie.Need-part-write-item-end-2 Inv-loop μ-loop
 part-write-item-end-2 c = omega (arith, less-one (c .before .before .before .before .before .args .s) (c .before .before .loop .left) (omega arith))
@@ -26,9 +26,11 @@ part-write-item-end-2 c = omega (arith, less-one (c .before .before .before .bef
 write-item-requires : tie.Need-write-item-requires Inv-loop μ-loop
 write-item-requires c κs = let l = c .before .before .before in
     let a = c .before .before .before .before .before .before .args in
+    let p = c .before .before .before .before .before .before .pre in
     let k = less-one (a .s) (l .loop .left) (omega arith) in
     let m = less-one (8 * a .s + 5) (l .loop .left) (omega arith) in
-    (simp (length-take, length-drop) (omega arith), simp (length-take, length-drop) (omega arith))
+    let u : length (take (l .loop .w + a .s - l .loop .w) (drop (l .loop .w) (a .words .now))) ≡ a .s = simp (length-take, length-drop) (omega arith) in
+    (p .0, rw u (p .1), simp (length-take, length-drop) (omega arith))
 
 loop-again : tie.Need-loop-again Inv-loop μ-loop
 loop-again c =
@@ -42,7 +44,7 @@ loop-again c =
       omega arith,
       omega (arith, e),
       omega (arith, e),
-      write-turn (a .mark) (a .kind) (a .s) (a .words .now) (c9 .pre .two) (l .loop .bytes) _ _ (l .loop .w)
+      write-turn (a .mark) (a .kind) (a .s) (a .words .now) (c9 .pre .2 .two) (l .loop .bytes) _ _ (l .loop .w)
           (l .loop .q) (l .loop .left) (omega arith) (omega arith) (omega arith) (l .loop .inv .3) (r .write-item .ensures),
     )
 

@@ -20,7 +20,7 @@ abbrev μ-loop : tie.MeasureT-loop
 
 returns : tie.Need-returns Inv-loop μ-loop
 returns c = let a = c .before .before .before .before .before .before .before in let l = c .before .before .before .before .before .loop in found-here
-    (a .args .kind) (now (a .args .bytes)) (a .args .x) (l .p) (c .before .before .before .get8 .result) (c .before .before .get82 .result)
+    (a .args .kind) (now (a .args .bytes)) (a .args .x) (l .p) (a .pre .1) (c .before .before .before .get8 .result) (c .before .before .get82 .result)
     (c .before .before .before .get8 .ensures) (c .before .before .get82 .ensures) (c .before .between .result) (c .before .between .ensures) (l .left)
     (c .before .before .before .before .loop-test .taken) (c .if1 .taken) ∙ sym (l .inv .1)
 
@@ -28,7 +28,7 @@ loop-again : tie.Need-loop-again Inv-loop μ-loop
 loop-again c = let a = c .before .before .before .before .before .before .before in let l = c .before .before .before .before .before .loop in (
   omega
       (arith, l .inv .0),
-  l .inv .1 ∙ not-here (a .args .kind) (now (a .args .bytes)) (a .args .x) (l .p) (c .before .before .before .get8 .result)
+  l .inv .1 ∙ not-here (a .args .kind) (now (a .args .bytes)) (a .args .x) (l .p) (a .pre .1) (c .before .before .before .get8 .result)
       (c .before .before .get82 .result) (c .before .before .before .get8 .ensures) (c .before .before .get82 .ensures) (c .before .between .result)
       (c .before .between .ensures) (l .left) (c .before .before .before .before .loop-test .taken) (c .if1 .left),
 )

@@ -1,6 +1,6 @@
 -- Invariant: the two runs share a number exactly where what is left of them does. Measure: the ranges left of both.
 use Prim.Native.Nat.{_+_, _*_, _≤_}
-use mathlib.Core.Path.{refl}
+use mathlib.Core.Path.{refl, sym, _∙_}
 use lib.ListN.{length}
 use Rattle.searches.proofs.Walking.{Left, all-left, no-others, none-left, go-left, go-right, found}
 use Rattle.verdicts.proofs.Walking.{in-bytes}
@@ -31,13 +31,14 @@ returns c = let a = c .before .before .before .before .args in
     no-others u v (c .before .before .loop .inv .2) (c .if1 .taken)
 
 loop-again : tie.Need-loop-again Inv-loop μ-loop
-loop-again c = let a = c .before .before .before .before .before .before .before .args in
+loop-again c = let s = c .before .before .before .before .before .before .before in
+    let a = s .args in
     let u = in-bytes (a .first) (a .bytes .now) in
     let v = in-bytes (a .second) (a .bytes .now) in (
       omega arith,
       search needs,
       go-left u v (c .before .before .before .before .before .loop .inv .2) (omega arith) (omega arith) _ _
-          (c .before .before .get8 .ensures) (c .before .get82 .ensures) (c .if2 .taken),
+          (c .before .before .get8 .ensures ∙ sym (s .pre .plain _)) (c .before .get82 .ensures ∙ sym (s .pre .plain-too _)) (c .if2 .taken),
     )
 
 loop-again-2 : tie.Need-loop-again-2 Inv-loop μ-loop
@@ -49,8 +50,8 @@ loop-again-2 c =
     let v = in-bytes (a .second) (a .bytes .now) in (
       search needs,
       omega arith,
-      go-right u v (c8 .loop .inv .2) (omega arith) (omega arith) _ _ (c .before .before .get83 .ensures)
-          (c .before .get84 .ensures) (c .if3 .taken),
+      go-right u v (c8 .loop .inv .2) (omega arith) (omega arith) _ _ (c .before .before .get83 .ensures ∙ sym (c10 .pre .plain-too _))
+          (c .before .get84 .ensures ∙ sym (c10 .pre .plain _)) (c .if3 .taken),
     )
 
 returns-2 : tie.Need-returns-2 Inv-loop μ-loop
@@ -60,9 +61,9 @@ returns-2 c =
     let a = c10 .args in
     let u = in-bytes (a .first) (a .bytes .now) in
     let v = in-bytes (a .second) (a .bytes .now) in
-    found u v (c8 .loop .inv .2) (omega arith) (omega arith) _ _ _ _ (c .before .before .before .before .before .get8 .ensures)
-    (c .before .before .before .before .get82 .ensures) (c .before .before .get83 .ensures) (c .before .get84 .ensures)
-    (c .before .before .before .if2 .left) (c .if3 .left)
+    found u v (c8 .loop .inv .2) (omega arith) (omega arith) _ _ _ _ (c .before .before .before .before .before .get8 .ensures ∙ sym (c10 .pre .plain _))
+    (c .before .before .before .before .get82 .ensures ∙ sym (c10 .pre .plain-too _)) (c .before .before .get83 .ensures ∙ sym (c10 .pre .plain-too _))
+    (c .before .get84 .ensures ∙ sym (c10 .pre .plain _)) (c .before .before .before .if2 .left) (c .if3 .left)
 
 returns-3 : tie.Need-returns-3 Inv-loop μ-loop
 returns-3 c = let a = c .before .before .before .args in
