@@ -7,13 +7,21 @@
    A set block of L words has room for (L-1)/2 ranges, 4,095 at the most; a map block for (L-1)/3 entries, 2,730 at the most. The
    macros below say the same: uint64_t list[WIMBLORQUE_SET_WORDS(4)] has room for four ranges. A block of zeros is empty.
 
-   ANSWERS. Every call but wimblorque_member returns a wimblorque_answer:
+   SIGNED SETS. A signed set is a set of keys: signed numbers, from INT64_MIN to INT64_MAX. It stands in an ordinary set block, in which
+   nothing says that it is signed: the host knows it. A key is held as its word, the key plus 2^63, so that the words are in the order
+   of the keys; wimblorque_word_of_key and wimblorque_key_of_word turn one into the other. A call that takes or answers keys is named
+   wimblorque_signed_... The calls on sets that take and answer no number of the set serve signed sets as they are (two sets are then
+   both signed, or neither): wimblorque_set_make_empty, _size, _equal, _within, _disjoint, _union, _intersection, _difference,
+   _symmetric_difference and _complement. Sizes and limits are those of a set, in words and in bytes. A block of zeros is empty.
+
+   ANSWERS. Every call returns a wimblorque_answer, but wimblorque_member, wimblorque_key_of_word and wimblorque_word_of_key:
      status   0 if the call was accepted, else 16 plus the number of the refusal (the constants below). A refused call changes no word
               or byte lent to it.
      place    of a refusal: the position of the block that is refused, counted from 0 as this header lists the call's blocks (inputs
               first, then outputs); for bytes, where the refused record begins; 0 for the other refusals. Accepted: 0.
      count    how many values the call answers, 0 to 3. Refused: 0. A question that finds nothing answers 0 values, without exception.
-     first, second, third    the values; 0 where there are fewer.
+     first, second, third    the values; 0 where there are fewer. A key stands here in two's complement, not as its word: it is
+              (int64_t)answer.first. That cast is exact with gcc and clang, and by the standard from C23 and C++20 on.
    A part of a block is answered as its offset, in words from the block's start, and its length, in words.
    The result of every call has to be used: gcc and clang, and any compiler of C23 or C++17, warn where it is not.
 
@@ -35,8 +43,8 @@
 
 /* The version, here and nowhere else: CHANGELOG.md says what changed, and ./install writes it into wimblorque.pc. */
 #define WIMBLORQUE_VERSION_MAJOR 1
-#define WIMBLORQUE_VERSION_MINOR 0
-#define WIMBLORQUE_VERSION_PATCH 1
+#define WIMBLORQUE_VERSION_MINOR 1
+#define WIMBLORQUE_VERSION_PATCH 0
 #define WIMBLORQUE_TEXT_OF(x) #x
 #define WIMBLORQUE_DOTTED(x, y, z) WIMBLORQUE_TEXT_OF(x) "." WIMBLORQUE_TEXT_OF(y) "." WIMBLORQUE_TEXT_OF(z)
 #define WIMBLORQUE_VERSION WIMBLORQUE_DOTTED(WIMBLORQUE_VERSION_MAJOR, WIMBLORQUE_VERSION_MINOR, WIMBLORQUE_VERSION_PATCH)
@@ -63,10 +71,10 @@
 
 /* ---- Limits and sizes: the numbers that the proofs use. The macros with an argument may evaluate it more than once. ---- */
 
-#define WIMBLORQUE_MOST_RANGES 4095  /* of a set, and of each of a bulletin's two sets */
+#define WIMBLORQUE_MOST_RANGES 4095  /* of a set, signed or not, and of each of a bulletin's two sets */
 #define WIMBLORQUE_MOST_ENTRIES 2730 /* of a map */
 
-/* The words of the shortest block with room for n ranges, for n entries. */
+/* The words of the shortest block with room for n ranges, for n entries. All that is said of sets here is true of signed sets. */
 #define WIMBLORQUE_SET_WORDS(n) (1 + 2 * (size_t)(n))
 #define WIMBLORQUE_MAP_WORDS(n) (1 + 3 * (size_t)(n))
 
@@ -187,7 +195,7 @@ WIMBLORQUE_MUST_USE wimblorque_answer wimblorque_set_difference(const uint64_t *
 WIMBLORQUE_MUST_USE wimblorque_answer wimblorque_set_symmetric_difference(const uint64_t *one, size_t one_words,
     const uint64_t *two, size_t two_words, uint64_t *WIMBLORQUE_RESTRICT out, size_t out_words);
 
-/* The numbers from 0 to 2^64 - 1 that are not in the set. out must be another block. */
+/* The numbers from 0 to 2^64 - 1 that are not in the set; of a signed set, all other keys. out must be another block. */
 WIMBLORQUE_MUST_USE wimblorque_answer wimblorque_set_complement(const uint64_t *set, size_t words,
     uint64_t *WIMBLORQUE_RESTRICT out, size_t out_words);
 
@@ -207,6 +215,55 @@ WIMBLORQUE_MUST_USE wimblorque_answer wimblorque_set_reserve_first(uint64_t *WIM
     uint64_t b, uint64_t k);
 WIMBLORQUE_MUST_USE wimblorque_answer wimblorque_set_reserve_best(uint64_t *WIMBLORQUE_RESTRICT block, size_t words, uint64_t a,
     uint64_t b, uint64_t k);
+
+/* ---- Signed sets: a key is an int64_t, an index i and a length k stay as they are. Each call is the one on sets of the same name, at
+   the keys: what it changes, answers and refuses, and where, is the same, with keys for numbers; 4 is low above high as keys. ---- */
+
+/* Is the key x a member? One value, 1 or 0. */
+WIMBLORQUE_MUST_USE wimblorque_answer wimblorque_signed_member(const uint64_t *block, size_t words, int64_t x);
+
+/* The range at index i, counted from 0. Two values, its low and its high key; none if there are not that many. */
+WIMBLORQUE_MUST_USE wimblorque_answer wimblorque_signed_range_at(const uint64_t *block, size_t words, uint64_t i);
+
+/* The least member at or above the key x. One value, a key, or none. */
+WIMBLORQUE_MUST_USE wimblorque_answer wimblorque_signed_least_member(const uint64_t *block, size_t words, int64_t x);
+
+/* The least key at or above x that is not a member. One value, a key, or none. */
+WIMBLORQUE_MUST_USE wimblorque_answer wimblorque_signed_least_non_member(const uint64_t *block, size_t words, int64_t x);
+
+/* The part of the block with the ranges that share a key with a..b, unclipped. Two values, offset and length, no keys: the part is of
+   the caller's own block, and its words are turned into keys by wimblorque_key_of_word. None if there are no such ranges. Refused also
+   with 4. */
+WIMBLORQUE_MUST_USE wimblorque_answer wimblorque_signed_window(const uint64_t *block, size_t words, int64_t a, int64_t b);
+
+/* Makes every key of a..b a member. No values. Refused with 1, 2, 3, then 4, then 5. */
+WIMBLORQUE_MUST_USE wimblorque_answer wimblorque_signed_insert(uint64_t *WIMBLORQUE_RESTRICT block, size_t words, int64_t a,
+    int64_t b);
+
+/* Makes no key of a..b a member. No values. Refused with 1, 2, 3, then 4, then 5. */
+WIMBLORQUE_MUST_USE wimblorque_answer wimblorque_signed_remove(uint64_t *WIMBLORQUE_RESTRICT block, size_t words, int64_t a,
+    int64_t b);
+
+/* Room for a run of k keys of the window a..b that are not members: the least start; the low end of the shortest gap; and the same
+   places with the k keys from there on made members. One value, a key. Refused with 1, 2, 3, then 4, then 6, then 7; a reservation
+   then also with 5. */
+WIMBLORQUE_MUST_USE wimblorque_answer wimblorque_signed_first_fit(const uint64_t *block, size_t words, int64_t a, int64_t b,
+    uint64_t k);
+WIMBLORQUE_MUST_USE wimblorque_answer wimblorque_signed_best_fit(const uint64_t *block, size_t words, int64_t a, int64_t b,
+    uint64_t k);
+WIMBLORQUE_MUST_USE wimblorque_answer wimblorque_signed_reserve_first(uint64_t *WIMBLORQUE_RESTRICT block, size_t words, int64_t a,
+    int64_t b, uint64_t k);
+WIMBLORQUE_MUST_USE wimblorque_answer wimblorque_signed_reserve_best(uint64_t *WIMBLORQUE_RESTRICT block, size_t words, int64_t a,
+    int64_t b, uint64_t k);
+
+/* The first key less the second. One value, signed as a key is; none exactly if a - b is below INT64_MIN or above INT64_MAX, too far to
+   be told: look at count. Never refused. */
+WIMBLORQUE_MUST_USE wimblorque_answer wimblorque_key_difference(int64_t a, int64_t b);
+
+/* The key that a word of a signed set's block stands for, the word less 2^63; and the word that stands for a key, the key plus 2^63. Of
+   words in a block, not of answers. Never refused. */
+WIMBLORQUE_MUST_USE int64_t wimblorque_key_of_word(uint64_t word);
+WIMBLORQUE_MUST_USE uint64_t wimblorque_word_of_key(int64_t key);
 
 /* ---- Maps ---- */
 
@@ -275,6 +332,11 @@ WIMBLORQUE_MUST_USE wimblorque_answer wimblorque_bulletin_fold(const uint64_t *r
 WIMBLORQUE_MUST_USE wimblorque_answer wimblorque_set_read(const uint8_t *bytes, size_t length,
     uint64_t *WIMBLORQUE_RESTRICT out, size_t out_words);
 
+/* A signed set, into a set block. Its records are of kinds of their own: the form of a set is refused here, and the form of a signed set
+   by every other call, with 10. out must be other memory than the bytes. */
+WIMBLORQUE_MUST_USE wimblorque_answer wimblorque_signed_read(const uint8_t *bytes, size_t length,
+    uint64_t *WIMBLORQUE_RESTRICT out, size_t out_words);
+
 /* A map, into a map block. out must be other memory than the bytes. */
 WIMBLORQUE_MUST_USE wimblorque_answer wimblorque_map_read(const uint8_t *bytes, size_t length,
     uint64_t *WIMBLORQUE_RESTRICT out, size_t out_words);
@@ -303,6 +365,10 @@ WIMBLORQUE_MUST_USE static inline int wimblorque_is_member(const uint8_t *bytes,
 
 /* A set. The bytes must be other memory than the block. */
 WIMBLORQUE_MUST_USE wimblorque_answer wimblorque_set_write(const uint64_t *block, size_t words,
+    uint8_t *WIMBLORQUE_RESTRICT bytes, size_t length, size_t p);
+
+/* A signed set, its keys in two's complement. The bytes must be other memory than the block. */
+WIMBLORQUE_MUST_USE wimblorque_answer wimblorque_signed_write(const uint64_t *block, size_t words,
     uint8_t *WIMBLORQUE_RESTRICT bytes, size_t length, size_t p);
 
 /* A map. The bytes must be other memory than the block. */

@@ -122,6 +122,7 @@ C_TYPES = {
     "&[u8]": ["const uint8_t *", "size_t"],
     "&mut [u8]": ["uint8_t *WIMBLORQUE_RESTRICT", "size_t"],
     "u64": ["uint64_t"],
+    "i64": ["int64_t"],
     "usize": ["size_t"],
     "Told": ["wimblorque_answer"],
 }

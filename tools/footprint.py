@@ -25,11 +25,11 @@ MACHINES = {"x86_64": "x86-64", "aarch64": "64-bit Arm"}
 RETURN_ADDRESS = {"x86_64": 8, "aarch64": 0}
 NEEDED = ["memset"]
 # No more than this, in bytes: near what is measured, so that growth is noticed.
-MOST_CODE = {"x86_64": 23500, "aarch64": 20200}
-MOST_CONSTANTS = {"x86_64": 450, "aarch64": 720}
+MOST_CODE = {"x86_64": 26200, "aarch64": 22800}
+MOST_CONSTANTS = {"x86_64": 520, "aarch64": 920}
 MOST_STACK = {"x86_64": 700, "aarch64": 592}
 # The calls of README.md's table.
-SHOWN = ["member", "set_member", "set_insert", "set_union", "map_site_over_factory", "set_reserve_best", "bulletin_apply", "set_read"]
+SHOWN = ["member", "set_member", "set_insert", "set_union", "map_site_over_factory", "set_reserve_best", "bulletin_apply", "set_read", "signed_read"]
 
 
 # ---- object files

@@ -21,6 +21,7 @@ Made by `tools/statements.py`; do not edit. What a reader has to believe, and no
 - `×` is 'and', `⊎` is 'or', `P → ⊥` is 'not P', `≡` is 'equals'. `ℕ` are the whole numbers from 0 on, without end; `+`, `*` do not wrap; `m - n` is 0 where n is the larger; `/` rounds down.
 - `[]` is the empty list, `x ∷ xs` is x and then the list xs, `xs ++ ys` the one after the other. `length`, `take n`, `drop n` are as usual; `getD w i 0` is element i of w, counted from 0, and 0 past its end; `replicate n x` is x, n times.
 - `none` and `some v` are nothing and the value v. `true`, `false`, `not`, `andb`, `orb` are truth values and what is computed with them; `leb m n`, `ltb m n`, `eqb m n` are the tests ≤, <, =, as truth values; `pick t a b` is a if t is true, and else b.
+- `ℤ` are the whole numbers below 0 too: `pos n` is n and `negsuc n` is -(n + 1); `+ℤ`, `-ℤ` do not wrap; `leZ k l`, `ltZ k l` are the tests ≤ and <, as truth values; `mag k` is n for n and for -(n + 1); `cond t a b` is `pick t a b`.
 - `record R .. where` lists what an R has; `r .field` is that part of r. Of a record that is a statement, each field is one thing that it says.
 - `λ x. e` is the function that gives e for x.
 - In a contract `now (block .entry)` is the list of words lent as `block` when the call begins, `now (block .exit)` what it is afterwards; `r` is the answer. `judgedSays r`, `truthSays r`, .. give the answer's numbers in the table's terms.
@@ -36,6 +37,7 @@ PARTS = [
     ("Blocks of words", "what words say", [("blocks", "specs")]),
     ("Bytes", "forms, runs, records, numbers, the check", [(c, "specs") for c in ("verdicts", "runs", "records", "numbers")]),
     ("Lists of entries", "what a list names", [("entries", "specs")]),
+    ("Signed keys", "the words that stand for them", [("keys", "specs")]),
 ]
 # What the code promises itself, and fits for other starts than all; no theorem and no contract of a user's call names it.
 INNER = {"Steps", "Starts"}
@@ -43,14 +45,19 @@ INNER = {"Steps", "Starts"}
 # one: of each kind of answer, of a part, of what C is told.
 BUILD = [("entries", "Cuts", "NotIn"), ("entries", "Cuts", "Changes"), ("entries", "Building", "Ends"), ("entries", "Building", "built"), ("entries", "Canon", "canonical")]
 ONLY = [("answers", "Unique", kind + "-only") for kind in ("judged", "truth", "found", "ranged", "sized", "parted", "decided", "placed", "written")] + [
+    ("answers", "UniqueKeys", kind + "-only") for kind in ("found-key", "ranged-keys", "placed-key")] + [
     ("forms", "Unique", "form-read-only"),
     ("searches", "Windows", "part-only"),
     ("told", "Telling", "told-only"),
     ("told", "Telling", "values-told"),
+    ("told", "Telling", "tells-keys"),
+    ("told", "Telling", "twos-told"),
 ]
 # The structs and enums of the code that definitions and contracts name.
 NAMED = [
     ("answers", ("Reason", "Refusal", "Finding", "Judged", "Truth", "Found", "Ranged", "Sized", "Parted", "Decided", "Placed", "Written")),
+    ("answers", ("FoundKey", "RangedKeys", "PlacedKey")),
+    ("keys", ("Apart",)),
     ("blocks", ("Layout",)),
     ("searches", ("Part",)),
     ("maps", ("Deciding",)),

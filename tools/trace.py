@@ -17,14 +17,14 @@ PAGE = os.path.join(antt.ROOT, "docs", "TRACE.md")
 COLUMNS = ["definitions", "theorems", "edits", "tests", "code"]
 # What a requirement needs, by the letter of its number.
 NEEDS = {
-    **{letter: ["definitions", "theorems", "edits", "tests"] for letter in "BRSFMUYH"},
+    **{letter: ["definitions", "theorems", "edits", "tests"] for letter in "BRSFMUYKH"},
     "D": ["theorems"],
     "E": ["edits"],
     "N": ["tests"],
     "G": ["code"],
 }
-# What one that differs from its kind needs: the program is run.
-OWN_NEEDS = {"H3": ["tests", "code"]}
+# What one that differs from its kind needs: the program is run; the calls that serve signed sets too have the definitions of plain sets.
+OWN_NEEDS = {"H3": ["tests", "code"], "K4": ["theorems", "edits", "tests"]}
 # Programs and tables of tests, where a line says in a comment which requirement it is about.
 TESTS = [
     "crates/demands/proofs/Table.antt",

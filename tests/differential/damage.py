@@ -17,7 +17,7 @@ import model
 import run
 import shapes
 import wire
-from model import M, MAP, SET
+from model import M, MAP, MAX, MIN, SET
 
 SHORT = 130
 BATCH = 4000
@@ -29,6 +29,13 @@ def set_lists(rng):
     lists = [[]] + [[ends] for ends in ENDS]
     lists += [[(0, 0), (2, M - 2), (M, M)], [(0, 255), (65280, 2**32 - 1), (2**40, M)]]
     return lists + [shapes.fresh(rng, SET, n) for n in (1, 2, 3, 4, 5)]
+
+
+def signed_lists(rng):
+    """Signed sets of up to 4 ranges, in keys: at both ends of the line and around 0, where all bytes change from FF to 00, and any."""
+    lists = [[], [(MIN, MIN)], [(MAX, MAX)], [(MIN, MAX)], [(-1, 0)], [(-5, 3)], [(0, 255)], [(-256, -1)]]
+    lists += [[(MIN, -2), (0, MAX)], [(MIN, MIN), (-1, 0), (MAX, MAX)], [(-(2**32), -256), (-1, -1), (255, 65535)]]
+    return lists + [shapes.in_keys(shapes.about_zero(rng, shapes.fresh(rng, SET, n))) for n in (1, 2, 4)]
 
 
 def map_lists(rng):
@@ -52,6 +59,8 @@ def forms(rng):
     for items in set_lists(rng) + [shapes.fresh(rng, SET, 40)]:
         names = ["set_read", "set_judge_form", "member"] if len(items) < 3 else ["set_read"]
         listed += [(name, model.set_form(items), [2 * len(items) + 4] if name == "set_read" else []) for name in names]
+    for items in signed_lists(rng) + [shapes.in_keys(shapes.fresh(rng, SET, 40))]:
+        listed.append(("signed_read", model.signed_form(items), [2 * len(items) + 4]))
     for items in map_lists(rng) + [shapes.fresh(rng, MAP, 30)]:
         listed.append(("map_read", model.map_form(items), [3 * len(items) + 5]))
     for released, withdrawn in bulletins(rng):

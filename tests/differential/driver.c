@@ -3,10 +3,12 @@
    A case is 64-bit words, little-endian: the number of the call (the order of the header), how many blocks and buffers are lent, how
    many arguments there are, and where the lent memory lies (0: its end is the end of what may be touched; 1: its beginning is). Then,
    for each that is lent: what it is (0 words to read, 1 words to write, 2 bytes to read, 3 bytes to write), 0 or the number, from 1,
-   of the earlier one whose memory it is, its length, and unless it is an earlier one's memory its contents. Then the arguments.
+   of the earlier one whose memory it is, its length, and unless it is an earlier one's memory its contents. Then the arguments, keys in
+   two's complement.
 
-   An outcome is the six words of the answer (for wimblorque_member its one number and five zeros), a word that is not 0 if memory
-   beside something lent was written, and the contents of everything lent.
+   An outcome is the six words of the answer, a word that is not 0 if memory beside something lent was written, and the contents of
+   everything lent. For wimblorque_member the answer is its one number and five zeros; for wimblorque_key_of_word and
+   wimblorque_word_of_key it has that one value.
 
    Pages that nobody may touch lie on both sides of each block, so that a read or a write across the end it is placed at ends the
    program, as does a write to an input; bytes beside the other end are looked at after the call. Garbage is
@@ -159,6 +161,9 @@ static void protect(size_t lent, int protection) {
 #define X args[0]
 #define Y args[1]
 #define Z args[2]
+#define KEY_X (int64_t)args[0]
+#define KEY_Y (int64_t)args[1]
+#define ONE_VALUE(x) (wimblorque_answer){.count = 1, .first = (uint64_t)(x)}
 
 /* The calls, numbered in the order of the header. */
 static __attribute__((noinline)) wimblorque_answer call(uint64_t number) {
@@ -184,24 +189,40 @@ static __attribute__((noinline)) wimblorque_answer call(uint64_t number) {
     case 18: return wimblorque_set_best_fit(W(0), X, Y, Z);
     case 19: return wimblorque_set_reserve_first(W(0), X, Y, Z);
     case 20: return wimblorque_set_reserve_best(W(0), X, Y, Z);
-    case 21: return wimblorque_map_look_up(W(0), X);
-    case 22: return wimblorque_map_assign(W(0), X, Y, Z);
-    case 23: return wimblorque_map_erase(W(0), X, Y);
-    case 24: return wimblorque_map_window(W(0), X, Y);
-    case 25: return wimblorque_map_site_over_factory(W(0), W(1), X);
-    case 26: return wimblorque_map_overlay(W(0), W(1), W(2));
-    case 27: return wimblorque_map_restriction(W(0), W(1), W(2));
-    case 28: return wimblorque_map_domain(W(0), W(1));
-    case 29: return wimblorque_bulletin_apply(W(0), W(1), W(2), W(3));
-    case 30: return wimblorque_bulletin_fold(W(0), W(1), W(2), W(3), W(4), W(5));
-    case 31: return wimblorque_set_read(B(0), W(1));
-    case 32: return wimblorque_map_read(B(0), W(1));
-    case 33: return wimblorque_bulletin_read(B(0), W(1), W(2));
-    case 34: return wimblorque_set_judge_form(B(0));
-    case 35: return (wimblorque_answer){.status = wimblorque_member(B(0), X)};
-    case 36: return wimblorque_set_write(W(0), B(1), X);
-    case 37: return wimblorque_map_write(W(0), B(1), X);
-    case 38: return wimblorque_bulletin_write(W(0), W(1), B(2), X);
+    case 21: return wimblorque_signed_member(W(0), KEY_X);
+    case 22: return wimblorque_signed_range_at(W(0), X);
+    case 23: return wimblorque_signed_least_member(W(0), KEY_X);
+    case 24: return wimblorque_signed_least_non_member(W(0), KEY_X);
+    case 25: return wimblorque_signed_window(W(0), KEY_X, KEY_Y);
+    case 26: return wimblorque_signed_insert(W(0), KEY_X, KEY_Y);
+    case 27: return wimblorque_signed_remove(W(0), KEY_X, KEY_Y);
+    case 28: return wimblorque_signed_first_fit(W(0), KEY_X, KEY_Y, Z);
+    case 29: return wimblorque_signed_best_fit(W(0), KEY_X, KEY_Y, Z);
+    case 30: return wimblorque_signed_reserve_first(W(0), KEY_X, KEY_Y, Z);
+    case 31: return wimblorque_signed_reserve_best(W(0), KEY_X, KEY_Y, Z);
+    case 32: return wimblorque_key_difference(KEY_X, KEY_Y);
+    case 33: return ONE_VALUE(wimblorque_key_of_word(X));
+    case 34: return ONE_VALUE(wimblorque_word_of_key(KEY_X));
+    case 35: return wimblorque_map_look_up(W(0), X);
+    case 36: return wimblorque_map_assign(W(0), X, Y, Z);
+    case 37: return wimblorque_map_erase(W(0), X, Y);
+    case 38: return wimblorque_map_window(W(0), X, Y);
+    case 39: return wimblorque_map_site_over_factory(W(0), W(1), X);
+    case 40: return wimblorque_map_overlay(W(0), W(1), W(2));
+    case 41: return wimblorque_map_restriction(W(0), W(1), W(2));
+    case 42: return wimblorque_map_domain(W(0), W(1));
+    case 43: return wimblorque_bulletin_apply(W(0), W(1), W(2), W(3));
+    case 44: return wimblorque_bulletin_fold(W(0), W(1), W(2), W(3), W(4), W(5));
+    case 45: return wimblorque_set_read(B(0), W(1));
+    case 46: return wimblorque_signed_read(B(0), W(1));
+    case 47: return wimblorque_map_read(B(0), W(1));
+    case 48: return wimblorque_bulletin_read(B(0), W(1), W(2));
+    case 49: return wimblorque_set_judge_form(B(0));
+    case 50: return (wimblorque_answer){.status = wimblorque_member(B(0), X)};
+    case 51: return wimblorque_set_write(W(0), B(1), X);
+    case 52: return wimblorque_signed_write(W(0), B(1), X);
+    case 53: return wimblorque_map_write(W(0), B(1), X);
+    case 54: return wimblorque_bulletin_write(W(0), W(1), B(2), X);
     default: _exit(3);
     }
 }

@@ -5,15 +5,15 @@ import random
 import model
 import refusals
 import shapes
-from model import LIMIT, M, MAP, SET
-from refusals import ARGS_OF, bulletins_of, kinds_of, letters_of, reads_bytes
+from model import HALF, LIMIT, M, MAP, SET
+from refusals import ARGS_OF, as_given, bulletins_of, form_of, is_signed, kinds_of, letters_of, reads_bytes
 from wire import Case
 
 COUNTS = [0, 1, 1, 2, 2, 3, 3, 4, 5, 6, 8, 12, 30]
 
 
 def some_lists(name, rng):
-    """Sound inputs: the first of any sort, the others mostly with ends near it; a bulletin's sets mostly share nothing."""
+    """Sound inputs, in words: the first of any sort, the others mostly with ends near it; a bulletin's sets mostly share nothing."""
     kinds = kinds_of(name)[: sum(letter in "ic" for letter in letters_of(name))]
     lists = []
     for kind in kinds:
@@ -24,7 +24,7 @@ def some_lists(name, rng):
     for released, withdrawn in bulletins_of(name):
         if rng.random() < 0.9:
             lists[withdrawn] = model.difference(lists[withdrawn], lists[released])
-    return lists
+    return [shapes.about_zero(rng, items) for items in lists] if is_signed(name) else lists
 
 
 def some_k(rng, items, a, b):
@@ -46,9 +46,9 @@ def some_range(rng, items, points):
 
 
 def some_args(name, rng, lists):
-    """Arguments, mostly at or next to the ends of the inputs' items."""
+    """Arguments, mostly at or next to the ends of the inputs' items; in words, also where they are to be keys."""
     style = ARGS_OF.get(name, "")
-    points = shapes.points_of(*lists) + [shapes.number(rng)]
+    points = shapes.points_of(*lists) + ([HALF, shapes.key(rng) + HALF] if is_signed(name) else [shapes.number(rng)])
     if style == "x":
         return [shapes.near(rng, points)]
     if style == "i":
@@ -107,7 +107,7 @@ def word_case(name, rng):
     """A random call on word blocks."""
     kinds = kinds_of(name)
     lists = some_lists(name, rng)
-    args = some_args(name, rng, lists)
+    args = as_given(name, some_args(name, rng, lists))
     blocks = [some_input(rng, kind, items) for kind, items in zip(kinds, lists)]
     counts = [0] * (len(kinds) - len(lists))
     blocks, same = one_memory(rng, name, blocks)
@@ -117,12 +117,19 @@ def word_case(name, rng):
         counts = [out[0] if status == 0 else rng.randrange(4) for out in after[len(blocks) :]]
     blocks += [some_output(rng, kind, count) for kind, count in zip(kinds[len(lists) :], counts)]
     if ARGS_OF.get(name) == "p":
-        data, p = some_buffer(rng, len(refusals.form_of(name, lists)))
+        data, p = some_buffer(rng, len(form_of(name, lists)))
         blocks, args = blocks + [data], [p]
     return Case(name, blocks, args, same + [0] * (len(blocks) - len(same)), rng.randrange(2))
 
 
 # ---- bytes
+
+FORMS = ["set", "signed", "map", "bulletin"]
+
+
+def form_kind(name):
+    """The kind of form that a call reads."""
+    return "set" if name == "member" else name.split("_")[0]
 
 
 def split(form):
@@ -154,11 +161,27 @@ def changed_bytes(rng, form):
     return bytes(data)
 
 
+def cut_in_two(rng, pieces):
+    """The records of a form with an item as two that touch, and counted so: the same numbers, but no form. Keys are cut at 0."""
+    items = [model.numbers_in(piece[3:-2], 8, piece[2] == model.SIGNED_RANGE) for piece in pieces[1:]]
+    wide = [i for i, item in enumerate(items, 1) if item[0] < item[1]]
+    if not wide:
+        return pieces
+    i = rng.choice([i for i in wide if items[i - 1][0] < 0 <= items[i - 1][1]] or wide)
+    kind, (low, high, *value) = pieces[i][2], items[i - 1]
+    cut = -1 if low < 0 <= high else rng.randrange(low, high)
+    halves = [model.record(kind, (*ends, *value), 8) for ends in ((low, cut), (cut + 1, high))]
+    at = 5 if kind == model.WITHDRAWN else 3
+    count = int.from_bytes(pieces[0][at : at + 2], "big") + 1
+    start = rechecked(pieces[0][:at] + count.to_bytes(2, "big") + pieces[0][at + 2 :])
+    return [start, *pieces[1:i], *halves, *pieces[i + 1 :]]
+
+
 def changed_records(rng, form):
-    """The form with records exchanged, left out, doubled, of another kind, or with another count or content and the right check."""
+    """The form with records exchanged, left out, doubled, cut in two, of another kind, or of another count or content, rightly checked."""
     pieces = split(form)
     i, j = rng.randrange(len(pieces)), rng.randrange(len(pieces))
-    way = rng.randrange(6)
+    way = rng.randrange(8)
     if way == 0:
         pieces[i], pieces[j] = pieces[j], pieces[i]
     elif way == 1:
@@ -171,6 +194,8 @@ def changed_records(rng, form):
         count = rng.choice([0, 1, len(pieces), len(pieces) - 2, 2730, 2731, 4095, 4096, 65535, rng.randrange(65536)]) % 65536
         at = rng.choice([3, 5]) if len(pieces[0]) == 9 else 3
         pieces[0] = rechecked(pieces[0][:at] + count.to_bytes(2, "big") + pieces[0][at + 2 :])
+    elif way > 5:
+        pieces = cut_in_two(rng, pieces)
     else:
         body = bytearray(pieces[i])
         body[rng.randrange(3, len(body) - 2)] = rng.choice([0, 1, 0xFF, rng.randrange(256)])
@@ -178,9 +203,8 @@ def changed_records(rng, form):
     return b"".join(pieces)
 
 
-def some_form(name, rng):
-    """A form of the kind that is asked for, now and then of another, and its item counts."""
-    kind = name.split("_")[0] if rng.random() < 0.95 else rng.choice(["set", "map", "bulletin"])
+def some_form(kind, rng):
+    """A form of a kind, and its items, in words."""
     if kind == "bulletin":
         released = shapes.some_items(rng, SET, rng.choice(COUNTS))
         withdrawn = shapes.some_items(rng, SET, rng.choice(COUNTS), [released])
@@ -188,12 +212,13 @@ def some_form(name, rng):
             withdrawn = model.difference(withdrawn, released)
         return model.bulletin_form(released, withdrawn), [released, withdrawn]
     items = shapes.some_items(rng, MAP if kind == "map" else SET, rng.choice(COUNTS))
-    return (model.map_form if kind == "map" else model.set_form)(items), [items, items]
+    items = shapes.about_zero(rng, items) if kind == "signed" else items
+    return form_of(kind, [items]), [items, items]
 
 
 def form_case(name, rng):
-    """A random call that reads bytes: a form, a damaged form, or any bytes."""
-    form, lists = some_form(name, rng)
+    """A random call that reads bytes: a form of the kind that is asked for or now and then of another, a damaged form, or any bytes."""
+    form, lists = some_form(form_kind(name) if rng.random() < 0.95 else rng.choice(FORMS), rng)
     chance = rng.random()
     if chance < 0.03:
         form = rng.choice([b"", rng.randbytes(rng.randrange(60)), model.MARK, model.MARK + rng.randbytes(rng.randrange(30))])
@@ -206,9 +231,33 @@ def form_case(name, rng):
     return Case(name, [form] + blocks, args, placement=rng.randrange(2))
 
 
+def foreign_case(name, kind, seed):
+    """A call that reads bytes, on a sound form of another kind, or on one whose start is of the right kind and the rest of the other."""
+    rng = random.Random(seed)
+    other, own = (split(some_form(each, rng)[0]) for each in (kind, form_kind(name)))
+    start = own[0] if rng.random() < 0.5 else other[0]
+    blocks = [shapes.room_for(rng, width, 40) for width in kinds_of(name)]
+    args = [shapes.number(rng)] if name == "member" else []
+    return Case(name, [b"".join([start, *other[1:]])] + blocks, args, placement=rng.randrange(2))
+
+
+# ---- keys by themselves
+
+
+def key_case(name, rng):
+    """A call that is lent nothing: on keys, often next to one another or just too far apart, or on a word."""
+    a = shapes.key(rng)
+    b = shapes.key(rng) if rng.random() < 0.4 else a - rng.choice([0, HALF - 1, HALF, -HALF, 1 - HALF]) + rng.randrange(-2, 3)
+    if name == "key_of_word":
+        return Case(name, [], [shapes.number(rng) if rng.random() < 0.3 else a + HALF])
+    return Case(name, [], [a, max(model.MIN, min(model.MAX, b))][: len(model.GIVEN[name])])
+
+
 def random_case(name, seed):
     """A random case of a call."""
     rng = random.Random(seed)
+    if not letters_of(name):
+        return key_case(name, rng)
     return form_case(name, rng) if reads_bytes(name) else word_case(name, rng)
 
 
@@ -242,22 +291,26 @@ def limit_case(name, seed):
     """A case with about as many items as the limit allows."""
     rng = random.Random(seed)
     kinds, letters = kinds_of(name), letters_of(name)
+    if not letters:
+        return key_case(name, rng)
     if reads_bytes(name):
         kind = MAP if name.startswith("map") else SET
         items = shapes.fresh(rng, kind, LIMIT[kind] + rng.choice([0, 0, 0, 1, -1]))
+        items = shapes.about_zero(rng, items) if is_signed(name) else items
         few = shapes.fresh(rng, SET, 2)
         if name == "bulletin_read":
             form = model.bulletin_form(*rng.choice([(items, model.difference(few, items)), (model.difference(few, items), items)]))
         else:
-            form = (model.map_form if kind == MAP else model.set_form)(items)
+            form = form_of(name, [items])
         lent = [form] + [long_memory(rng, k, []) for k in kinds]
         return Case(name, lent, [shapes.near(rng, shapes.points_of(items))] if name == "member" else [])
     inputs = kinds[: sum(letter in "ic" for letter in letters)]
     lists = long_lists(inputs, rng)
+    lists = [shapes.about_zero(rng, items) for items in lists] if is_signed(name) else lists
     lent = [long_memory(rng, kind, items) for kind, items in zip(inputs, lists)]
     lent += [long_memory(rng, kind, []) for kind in kinds[len(inputs) :]]
-    args = some_args(name, rng, lists)
+    args = as_given(name, some_args(name, rng, lists))
     if ARGS_OF.get(name) == "p":
-        data, p = some_buffer(rng, len(refusals.form_of(name, lists)))
+        data, p = some_buffer(rng, len(form_of(name, lists)))
         lent, args = lent + [data], [p]
     return Case(name, lent, args, placement=rng.randrange(2))

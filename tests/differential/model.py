@@ -1,19 +1,23 @@
 """The library's calls in plain Python, written from the requirements and their readings alone.
 
-A set is a sorted list of ranges (low, high), a map a sorted list of entries (low, high, value). Each call takes what is lent, blocks
-as lists of words and buffers as bytes, and the arguments, in the order of the header. `run` answers with the status, the other words
-of the answer and what every lent block and buffer holds afterwards. Nothing here is borrowed from the library's own definitions.
+A set is a sorted list of ranges (low, high), a map a sorted list of entries (low, high, value). A signed set is a list of ranges of
+keys, which are Python numbers from MIN to MAX. Each call takes what is lent, blocks as lists of words and buffers as bytes, and the
+arguments, in the order of the header. `run` answers with the status, the other words of the answer and what every lent block and
+buffer holds afterwards. Nothing here is borrowed from the library's own definitions.
 """
 
 from bisect import bisect_right
 
 M = 2**64 - 1
+HALF = 2**63  # how far a key's word is above the key
+MIN, MAX = -HALF, HALF - 1  # the least and the greatest key
 SET, MAP = 2, 3  # the words an item takes
 LIMIT = {SET: 4095, MAP: 2730}
 MARK = bytes([0xC5, 0x3A])
-START_OF_SET, START_OF_MAP, START_OF_BULLETIN = 0x01, 0x02, 0x03
-RANGE, ENTRY, RELEASED, WITHDRAWN = 0x10, 0x11, 0x12, 0x13
-BODY = {START_OF_SET: 2, START_OF_MAP: 2, START_OF_BULLETIN: 4, RANGE: 16, ENTRY: 24, RELEASED: 16, WITHDRAWN: 16}
+START_OF_SET, START_OF_MAP, START_OF_BULLETIN, START_OF_SIGNED = 0x01, 0x02, 0x03, 0x04
+RANGE, ENTRY, RELEASED, WITHDRAWN, SIGNED_RANGE = 0x10, 0x11, 0x12, 0x13, 0x14
+BODY = {START_OF_SET: 2, START_OF_MAP: 2, START_OF_BULLETIN: 4, START_OF_SIGNED: 2}
+BODY |= {RANGE: 16, ENTRY: 24, RELEASED: 16, WITHDRAWN: 16, SIGNED_RANGE: 16}
 
 
 class Refused(Exception):
@@ -80,7 +84,7 @@ def store(block, items):
     block[:] = words + [0] * (len(block) - len(words))
 
 
-# ---- sets and maps: cut the line at all ends and ask each piece for itself
+# ---- sets and maps: cut the line at all ends and ask each piece for itself; numbers or keys, it is the same
 
 
 def value_at(items, lows, x):
@@ -92,8 +96,8 @@ def value_at(items, lows, x):
 
 
 def combined(kind, decide, *lists):
-    """The sound items of the set or map that `decide` says, from what a number has in each of the lists."""
-    cuts = {0, M + 1}
+    """The sound items of the set or map that `decide` says, from what a number has in each of the lists: nothing, if in none of them."""
+    cuts = set()
     for items in lists:
         cuts.update(item[0] for item in items)
         cuts.update(item[1] + 1 for item in items)
@@ -216,9 +220,8 @@ def set_least_non_member(block, x):
     return [low for low, _ in gaps(judged(SET, block, 0), x, M)][:1]
 
 
-def window(kind, block, a, b):
+def window(kind, items, a, b):
     """The part with all items that share a number with a..b: its offset, behind the items wholly below, and its length; or none."""
-    items = judged(kind, block, 0)
     in_order(a, b)
     below = [item for item in items if item[1] < a]
     met = [item for item in items if item[0] <= b and a <= item[1]]
@@ -227,12 +230,12 @@ def window(kind, block, a, b):
 
 def set_window(block, a, b):
     """A window of a set, two words a range."""
-    return window(SET, block, a, b)
+    return window(SET, judged(SET, block, 0), a, b)
 
 
 def map_window(block, a, b):
     """A window of a map, three words an entry."""
-    return window(MAP, block, a, b)
+    return window(MAP, judged(MAP, block, 0), a, b)
 
 
 def set_equal(one, two):
@@ -333,6 +336,109 @@ def set_reserve_best(block, a, b, k):
     return reserve(True, block, a, b, k)
 
 
+# ---- the calls on signed sets, and on keys
+
+
+def keys_in(block):
+    """The ranges of a signed set, as keys, or the refusal of its block."""
+    return [(low - HALF, high - HALF) for low, high in judged(SET, block, 0)]
+
+
+def store_keys(block, ranges):
+    """Writes the stored form of a signed set, if there is room for it."""
+    has_room(SET, block, ranges, 0)
+    store(block, [(low + HALF, high + HALF) for low, high in ranges])
+
+
+def signed_member(block, x):
+    """Is the key x a member."""
+    return [int(any(low <= x <= high for low, high in keys_in(block)))]
+
+
+def signed_range_at(block, i):
+    """The keys of the range at index i, or none."""
+    return [key for pair in keys_in(block)[i : i + 1] for key in pair]
+
+
+def signed_least_member(block, x):
+    """The least member at or above the key x, or none."""
+    return [low for low, _ in intersection(keys_in(block), [(x, MAX)])][:1]
+
+
+def signed_least_non_member(block, x):
+    """The least key at or above x that is not a member, or none."""
+    return [low for low, _ in gaps(keys_in(block), x, MAX)][:1]
+
+
+def signed_window(block, a, b):
+    """A window of a signed set: where it stands in the block, two words a range."""
+    return window(SET, keys_in(block), a, b)
+
+
+def signed_change(operation, block, a, b):
+    """A change of the keys a..b in place: 1, 2, 3, then 4, then 5."""
+    ranges = keys_in(block)
+    in_order(a, b)
+    store_keys(block, operation(ranges, [(a, b)]))
+    return []
+
+
+def signed_insert(block, a, b):
+    """Insert the keys a..b."""
+    return signed_change(union, block, a, b)
+
+
+def signed_remove(block, a, b):
+    """Remove the keys a..b."""
+    return signed_change(difference, block, a, b)
+
+
+def signed_first_fit(block, a, b, k):
+    """First fit, as a question."""
+    return [fit(False, keys_in(block), a, b, k)]
+
+
+def signed_best_fit(block, a, b, k):
+    """Best fit, as a question."""
+    return [fit(True, keys_in(block), a, b, k)]
+
+
+def signed_reserve(best, block, a, b, k):
+    """The place is chosen first; Room is then judged for that place only."""
+    ranges = keys_in(block)
+    s = fit(best, ranges, a, b, k)
+    store_keys(block, union(ranges, [(s, s + k - 1)]))
+    return [s]
+
+
+def signed_reserve_first(block, a, b, k):
+    """First fit, as a reservation."""
+    return signed_reserve(False, block, a, b, k)
+
+
+def signed_reserve_best(block, a, b, k):
+    """Best fit, as a reservation."""
+    return signed_reserve(True, block, a, b, k)
+
+
+def key_difference(a, b):
+    """The first key less the second, or none where that is no signed word."""
+    return [a - b] if MIN <= a - b <= MAX else []
+
+
+def key_of_word(word):
+    """The key that a word stands for."""
+    return [word - HALF]
+
+
+def word_of_key(key):
+    """The word that stands for a key."""
+    return [key + HALF]
+
+
+# ---- the calls on maps and bulletins
+
+
 def map_look_up(block, x):
     """The value of x, or none."""
     return [value for low, high, value in judged(MAP, block, 0) if low <= x <= high]
@@ -388,14 +494,19 @@ def check_bytes(data):
 
 
 def record(kind, numbers, size):
-    """The mark, the kind, the numbers big-endian, each of `size` bytes, and the check."""
-    data = bytes([kind]) + b"".join(number.to_bytes(size, "big") for number in numbers)
+    """The mark, the kind, the numbers big-endian, each of `size` bytes, and the check. Keys are in two's complement."""
+    data = bytes([kind]) + b"".join(number.to_bytes(size, "big", signed=kind == SIGNED_RANGE) for number in numbers)
     return MARK + data + check_bytes(data)
 
 
 def set_form(ranges):
     """The byte form of a set."""
     return record(START_OF_SET, [len(ranges)], 2) + b"".join(record(RANGE, r, 8) for r in ranges)
+
+
+def signed_form(ranges):
+    """The byte form of a signed set, whose ranges are given in keys."""
+    return record(START_OF_SIGNED, [len(ranges)], 2) + b"".join(record(SIGNED_RANGE, r, 8) for r in ranges)
 
 
 def map_form(entries):
@@ -428,9 +539,9 @@ def record_at(data, at, due):
     return data[at + 3 : end - 2], end
 
 
-def numbers_in(body, size):
+def numbers_in(body, size, signed=False):
     """The big-endian numbers of `size` bytes in a body."""
-    return tuple(int.from_bytes(body[i : i + size], "big") for i in range(0, len(body), size))
+    return tuple(int.from_bytes(body[i : i + size], "big", signed=signed) for i in range(0, len(body), size))
 
 
 def read_start(data, due, kind):
@@ -447,7 +558,7 @@ def read_items(data, at, due, count):
     items = []
     for _ in range(count):
         body, end = record_at(data, at, due)
-        item = numbers_in(body, 8)
+        item = numbers_in(body, 8, due == SIGNED_RANGE)
         if item[0] > item[1] or (items and not follows(items[-1], item)):
             raise Refused(12, at)
         items.append(item)
@@ -461,32 +572,39 @@ def nothing_after(data, at):
         raise Refused(13, at)
 
 
-def items_of_form(kind, data):
-    """The items of a set's or a map's byte form: 8 to 13."""
-    start, due = (START_OF_SET, RANGE) if kind == SET else (START_OF_MAP, ENTRY)
-    (count,), at = read_start(data, start, kind)
+def items_of_form(start, data):
+    """The items of the byte form of a set, a map or a signed set, as its start record says: 8 to 13."""
+    due = {START_OF_SET: RANGE, START_OF_MAP: ENTRY, START_OF_SIGNED: SIGNED_RANGE}[start]
+    (count,), at = read_start(data, start, MAP if start == START_OF_MAP else SET)
     items, at = read_items(data, at, due, count)
     nothing_after(data, at)
     return items
 
 
-def read_into(kind, data, out):
-    """Reading into one output: 8 to 13, then 1, then 5."""
-    items = items_of_form(kind, data)
+def set_read(data, out):
+    """Reading a set: 8 to 13, then 1, then 5."""
+    ranges = items_of_form(START_OF_SET, data)
     has_words(out, 0)
-    has_room(kind, out, items, 0)
-    store(out, items)
+    has_room(SET, out, ranges, 0)
+    store(out, ranges)
     return []
 
 
-def set_read(data, out):
-    """Reading a set."""
-    return read_into(SET, data, out)
+def signed_read(data, out):
+    """Reading a signed set: 8 to 13, judged in keys, then 1, then 5."""
+    ranges = items_of_form(START_OF_SIGNED, data)
+    has_words(out, 0)
+    store_keys(out, ranges)
+    return []
 
 
 def map_read(data, out):
-    """Reading a map."""
-    return read_into(MAP, data, out)
+    """Reading a map: 8 to 13, then 1, then 5."""
+    entries = items_of_form(START_OF_MAP, data)
+    has_words(out, 0)
+    has_room(MAP, out, entries, 0)
+    store(out, entries)
+    return []
 
 
 def bulletin_read(data, released, withdrawn):
@@ -507,7 +625,7 @@ def bulletin_read(data, released, withdrawn):
 
 def set_judge_form(data):
     """Judges the byte form of a set; the number of its ranges."""
-    return [len(items_of_form(SET, data))]
+    return [len(items_of_form(START_OF_SET, data))]
 
 
 def put(form, data, p):
@@ -521,6 +639,11 @@ def put(form, data, p):
 def set_write(block, data, p):
     """Writing a set."""
     return put(set_form(judged(SET, block, 0)), data, p)
+
+
+def signed_write(block, data, p):
+    """Writing a signed set."""
+    return put(signed_form(keys_in(block)), data, p)
 
 
 def map_write(block, data, p):
@@ -537,11 +660,11 @@ def bulletin_write(released, withdrawn, data, p):
 
 def member(data, x):
     """The C host's question: 1 or 0, all judged before."""
-    return [int(any(low <= x <= high for low, high in items_of_form(SET, data)))]
+    return [int(any(low <= x <= high for low, high in items_of_form(START_OF_SET, data)))]
 
 
 # ---- every call of the header, by number: its function, and what it is lent
-# i a word block that is an input, c one changed in place, o an output; b bytes to read, w bytes to write; x a word, an argument
+# i a word block that is an input, c one changed in place, o an output; b bytes to read, w bytes to write; x a word and s a key, arguments
 
 CALLS = [
     ("set_member", set_member, "ix"),
@@ -565,6 +688,20 @@ CALLS = [
     ("set_best_fit", set_best_fit, "ixxx"),
     ("set_reserve_first", set_reserve_first, "cxxx"),
     ("set_reserve_best", set_reserve_best, "cxxx"),
+    ("signed_member", signed_member, "is"),
+    ("signed_range_at", signed_range_at, "ix"),
+    ("signed_least_member", signed_least_member, "is"),
+    ("signed_least_non_member", signed_least_non_member, "is"),
+    ("signed_window", signed_window, "iss"),
+    ("signed_insert", signed_insert, "css"),
+    ("signed_remove", signed_remove, "css"),
+    ("signed_first_fit", signed_first_fit, "issx"),
+    ("signed_best_fit", signed_best_fit, "issx"),
+    ("signed_reserve_first", signed_reserve_first, "cssx"),
+    ("signed_reserve_best", signed_reserve_best, "cssx"),
+    ("key_difference", key_difference, "ss"),
+    ("key_of_word", key_of_word, "x"),
+    ("word_of_key", word_of_key, "s"),
     ("map_look_up", map_look_up, "ix"),
     ("map_assign", map_assign, "cxxx"),
     ("map_erase", map_erase, "cxx"),
@@ -576,21 +713,26 @@ CALLS = [
     ("bulletin_apply", bulletin_apply, "iiio"),
     ("bulletin_fold", bulletin_fold, "iiiioo"),
     ("set_read", set_read, "bo"),
+    ("signed_read", signed_read, "bo"),
     ("map_read", map_read, "bo"),
     ("bulletin_read", bulletin_read, "boo"),
     ("set_judge_form", set_judge_form, "b"),
     ("member", member, "bx"),
     ("set_write", set_write, "iwx"),
+    ("signed_write", signed_write, "iwx"),
     ("map_write", map_write, "iwx"),
     ("bulletin_write", bulletin_write, "iiwx"),
 ]
 NUMBER = {name: number for number, (name, _, _) in enumerate(CALLS)}
+LENT = {name: letters.replace("x", "").replace("s", "") for name, _, letters in CALLS}
+GIVEN = {name: "".join(letter for letter in letters if letter in "xs") for name, _, letters in CALLS}
 
 
 def run(name, lent, args):
     """The outcome of a call: status, the answer (place, count, three values), and what everything lent holds afterwards.
 
-    The call `member` has no answer: None.
+    The call `member` has no answer: None. The one number of `key_of_word` and of `word_of_key` is told as an answer's one value. A
+    value below 0, a key, stands in an answer in two's complement: 2^64 above.
     """
     _, function, _ = CALLS[NUMBER[name]]
     after = [bytearray(part) if isinstance(part, (bytes, bytearray)) else list(part) for part in lent]
@@ -601,4 +743,4 @@ def run(name, lent, args):
         return 16 + refused.number, answer, lent
     if name == "member":
         return values[0], None, after
-    return 0, (0, len(values), *values, *[0] * (3 - len(values))), after
+    return 0, (0, len(values), *(value % 2**64 for value in values), *[0] * (3 - len(values))), after

@@ -10,7 +10,7 @@ import random
 
 import model
 import shapes
-from model import LIMIT, M, MAP, SET
+from model import HALF, LIMIT, M, MAP, MAX, MIN, SET
 from wire import Case
 
 ARGS = {"x": ["set_member", "set_least_member", "set_least_non_member", "map_look_up", "map_site_over_factory", "member"]}
@@ -18,6 +18,7 @@ ARGS |= {"i": ["set_range_at"], "ab": ["set_window", "map_window", "set_insert",
 ARGS |= {"abk": ["set_first_fit", "set_best_fit", "set_reserve_first", "set_reserve_best"]}
 ARGS |= {"p": ["set_write", "map_write", "bulletin_write"]}
 ARGS_OF = {name: style for style, names in ARGS.items() for name in names}
+ARGS_OF |= {"signed" + name[3:]: style for name, style in ARGS_OF.items() if name.startswith("set") and "signed" + name[3:] in model.LENT}
 RECORDS = ("start", "item", "later")
 OF_RECORD = ("8<", 9, 10, 8, 11, 12)
 TRIES = 400
@@ -25,7 +26,17 @@ TRIES = 400
 
 def letters_of(name):
     """What the call is lent, without the arguments."""
-    return model.CALLS[model.NUMBER[name]][2].replace("x", "")
+    return model.LENT[name]
+
+
+def is_signed(name):
+    """Is the call one on signed sets?"""
+    return name.startswith("signed")
+
+
+def as_given(name, args):
+    """A call's arguments, drawn in words as its blocks are: where they are keys, the keys of these words."""
+    return [arg - HALF if letter == "s" else arg for letter, arg in zip(model.GIVEN[name], args)]
 
 
 def kinds_of(name):
@@ -59,7 +70,7 @@ def refusals_of(name):
     listed += [(6, "")] if "k" in style else []
     listed += [(14, "earlier"), (14, "later")] if name == "bulletin_fold" else [(14, "")] if "bulletin" in name else []
     listed += [(7, "")] if "k" in style else []
-    listed += [(5, i) for i in outputs + ([0] if letters[0] == "c" else [])]
+    listed += [(5, i) for i in outputs + ([0] if "c" in letters else [])]
     return listed + ([(15, "")] if style == "p" else [])
 
 
@@ -90,9 +101,11 @@ def listed_pairs(name):
 
 
 def base_lists(name, rng):
-    """Sound inputs with something in them; a bulletin's two sets share nothing."""
+    """Sound inputs with something in them, in words; a bulletin's two sets share nothing."""
     kinds = kinds_of(name)[: sum(letter in "ic" for letter in letters_of(name))]
     lists = [shapes.fresh(rng, kinds[0], rng.randrange(2, 6))]
+    if is_signed(name):
+        lists = [shapes.about_zero(rng, lists[0])]
     for kind in kinds[1:]:
         near_first = rng.random() < 0.8
         lists.append(shapes.some_items(rng, kind, rng.randrange(2, 5), lists[:1] if near_first else ()))
@@ -136,9 +149,9 @@ def window_args(items, wants, pair, rng):
 
 
 def base_args(name, lists, wants, pair, rng):
-    """The arguments of a call on word blocks, with refusals 4, 6 and 7 as wanted."""
+    """The arguments of a call on word blocks, with refusals 4, 6 and 7 as wanted; in words, also where they are to be keys."""
     style = ARGS_OF.get(name, "")
-    points = shapes.points_of(*lists)
+    points = shapes.points_of(*lists) + ([HALF] if is_signed(name) else [])
     if style == "x":
         return [shapes.near(rng, points)]
     if style == "i":
@@ -194,8 +207,10 @@ def buffer_and_place(size, wants, rng):
 
 
 def form_of(name, lists):
-    """The byte form that a writing call writes."""
-    return {"set": model.set_form, "map": model.map_form, "bulletin": model.bulletin_form}[name.split("_")[0]](*lists)
+    """The byte form that a call writes or reads, of lists in words; of what it is, the first word of `name` says."""
+    if is_signed(name):
+        return model.signed_form(shapes.in_keys(lists[0]))
+    return {"map": model.map_form, "bulletin": model.bulletin_form}.get(name.split("_")[0], model.set_form)(*lists)
 
 
 def word_case(name, wants, pair, seed):
@@ -207,7 +222,7 @@ def word_case(name, wants, pair, seed):
 
     kinds = kinds_of(name)
     clean = base_lists(name, rng("lists"))
-    args = base_args(name, clean, wants, pair, rng("args"))
+    args = as_given(name, base_args(name, clean, wants, pair, rng("args")))
     counts = result_counts(name, clean, args)
     lists = shared_lists(name, clean, wants, rng("sharing"))
     in_place = letters_of(name)[0] == "c"
@@ -231,18 +246,19 @@ def word_case(name, wants, pair, seed):
 
 def wrong_kind(rng, due):
     """A kind byte that is not the one due: often a known one, or one at the edge of the unknown."""
-    known = [0x00, 0x01, 0x02, 0x03, 0x04, 0x0F, 0x10, 0x11, 0x12, 0x13, 0x14, 0xFF]
+    known = [0x00, 0x01, 0x02, 0x03, 0x04, 0x05, 0x0F, 0x10, 0x11, 0x12, 0x13, 0x14, 0x15, 0xFF]
     return rng.choice([kind for kind in known * 8 + list(range(256)) if kind != due])
 
 
-def bad_item(rng, item, before):
-    """An item that breaks soundness, by itself or behind the one before it."""
+def bad_item(rng, item, before, least, most):
+    """An item that breaks soundness, by itself or behind the one before it, on the line least..most."""
     low, high, *value = item
-    ways = [(high, low, *value) if low < high else (max(low, 1), max(low, 1) - 1, *value)]
+    above = max(low, least + 1)
+    ways = [(high, low, *value) if low < high else (above, above - 1, *value)]
     if before is not None:
-        touching = min(M, before[1] + 1)
+        touching = min(most, before[1] + 1)
         ways += [(touching, max(touching, high), *before[2:]), (before[1], max(high, before[1]), *value), tuple(before)]
-        ways += [(before[0], high, *value), (0, 0, *value)]
+        ways += [(before[0], high, *value), (least, least, *value)]
     ways = [way for way in ways if way[0] > way[1] or (before is not None and not model.follows(before, way))]
     return rng.choice(ways)
 
@@ -276,9 +292,10 @@ def cut_record(rng, data, wants):
 
 
 def form_lists(name, wants, rng):
-    """The items of a form, clean and with refusal 14 as wanted: one list, or a bulletin's two."""
+    """The items of a form, as they stand in it, clean and with refusal 14 as wanted: one list, or a bulletin's two."""
     if name != "bulletin_read":
-        return [shapes.fresh(rng, MAP if name.startswith("map") else SET, rng.randrange(3, 6))]
+        items = shapes.fresh(rng, MAP if name.startswith("map") else SET, rng.randrange(3, 6))
+        return [shapes.in_keys(shapes.about_zero(rng, items)) if is_signed(name) else items]
     released = shapes.fresh(rng, SET, rng.randrange(2, 4))
     withdrawn = model.difference(shapes.some_items(rng, SET, rng.randrange(2, 4), [released]), released)
     shared = sharing(released, withdrawn, rng)
@@ -288,6 +305,7 @@ def form_lists(name, wants, rng):
 def records_of(name, lists, rng):
     """Each record of a form: kind, numbers, the size of each, and numbers that break it."""
     start, kinds = {
+        "signed_read": (model.START_OF_SIGNED, [model.SIGNED_RANGE]),
         "map_read": (model.START_OF_MAP, [model.ENTRY]),
         "bulletin_read": (model.START_OF_BULLETIN, [model.RELEASED, model.WITHDRAWN]),
     }.get(name, (model.START_OF_SET, [model.RANGE]))
@@ -295,10 +313,11 @@ def records_of(name, lists, rng):
     counts = [len(items) for items in lists]
     above = [rng.choice([limit + 1, limit + 2, 65535, rng.randint(limit + 1, 65535)]) if rng.random() < 0.6 else n for n in counts]
     above[rng.randrange(len(above))] = limit + 1 + rng.choice([0, 0, 1, 60000 - limit])
+    line = (MIN, MAX) if is_signed(name) else (0, M)
     records = [(start, counts, 2, above)]
     for kind, items in zip(kinds, lists):
         for i, item in enumerate(items):
-            records.append((kind, item, 8, bad_item(rng, item, items[i - 1] if i else None)))
+            records.append((kind, item, 8, bad_item(rng, item, items[i - 1] if i else None, *line)))
     return records
 
 
@@ -315,7 +334,8 @@ def form_bytes(records, spots, wants, rng):
         data += piece
     places[(13, "")] = len(data)
     if (13, "") in wants:
-        data += rng.choice([b"\0", b"\xc5", rng.randbytes(rng.randrange(1, 30)), model.record(model.RANGE, (1, 2), 8), data[:7]])
+        another = [model.record(kind, (1, 2), 8) for kind in (model.RANGE, model.SIGNED_RANGE)]
+        data += rng.choice([b"\0", b"\xc5", rng.randbytes(rng.randrange(1, 30)), *another, data[:7]])
     return data, places
 
 

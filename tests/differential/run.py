@@ -3,13 +3,14 @@
     run.py [--cases N] [--seconds S] [--seed X] [--sample N] [--tally] [--replay FILE] -- DRIVER...
 
 DRIVER... is the command of the C program of driver.c. Without options the seed and the number of cases are fixed. With --cases or
---seconds and no --seed a seed is drawn, and printed first; the cases made for the refusals and the limits, about 8,500, are always
-run. --sample N runs N cases of the fixed run, evenly chosen, and asks nothing of the tally. --tally prints what was tried of each
+--seconds and no --seed a seed is drawn, and printed first; the cases made for the refusals and the limits, about 10,600, are always
+run. --sample N runs N cases of the fixed run, drawn by the seed, and asks nothing of the tally. --tally prints what was tried of each
 call. --replay runs one case that a mismatch left behind. The exit status is 1 on a mismatch, or if something was not tried.
 """
 
 import argparse
 import os
+import random
 import re
 import secrets
 import sys
@@ -23,14 +24,17 @@ import wire
 
 CASES = 60000
 SEED = "1"
-PAIR_TIMES, SINGLE_TIMES, LIMIT_TIMES = 5, 5, 10
-AT_LEAST = {"call": 10, "refusal": 5, "pair": PAIR_TIMES, "empty answer": 20}
+PAIR_TIMES, SINGLE_TIMES, LIMIT_TIMES, FOREIGN_TIMES = 5, 5, 10, 20
+AT_LEAST = {"call": 10, "refusal": 5, "pair": PAIR_TIMES, "empty answer": 20, "refused foreign form": FOREIGN_TIMES // 2}
 BATCH = 500
 KEPT = "build/differential-mismatch.json"
 NAMES = [name for name, _, _ in model.CALLS]
 # The questions that may find nothing, and then answer 0 values.
 MAY_FIND_NOTHING = ["set_range_at", "set_size", "set_least_member", "set_least_non_member", "set_window"]
+MAY_FIND_NOTHING += ["signed_range_at", "signed_least_member", "signed_least_non_member", "signed_window", "key_difference"]
 MAY_FIND_NOTHING += ["map_look_up", "map_window", "map_site_over_factory"]
+# Each reading call with each kind of form that it does not read.
+FOREIGN = [(name, kind) for name in NAMES if refusals.reads_bytes(name) for kind in generate.FORMS if kind != generate.form_kind(name)]
 
 
 def header_calls():
@@ -41,12 +45,14 @@ def header_calls():
 
 
 def jobs(cases):
-    """What to try, in short: the wanted refusals of each call, alone and in pairs, the limits, and random cases up to so many."""
+    """What to try, in short: the wanted refusals of each call, alone and in pairs, the limits, forms of another kind than the one that is
+    read, and random cases up to so many."""
     listed = []
     for name in NAMES:
         listed += [("refusals", name, (x,), i) for x in refusals.refusals_of(name) for i in range(SINGLE_TIMES)]
         listed += [("refusals", name, pair, i) for pair in refusals.listed_pairs(name) for i in range(PAIR_TIMES)]
         listed += [("limit", name, (), i) for i in range(LIMIT_TIMES)]
+    listed += [("foreign", name, (kind,), i) for name, kind in FOREIGN for i in range(FOREIGN_TIMES)]
     listed += [("random", NAMES[i % len(NAMES)], (), i // len(NAMES)) for i in range(max(0, cases - len(listed)))]
     return listed
 
@@ -57,24 +63,29 @@ def case_of(job, seed):
     own = f"{seed}/{sort}/{name}/{pair}/{i}"
     if sort == "refusals":
         return refusals.case_for(name, pair, own)
+    if sort == "foreign":
+        return generate.foreign_case(name, pair[0], own)
     return generate.limit_case(name, own) if sort == "limit" else generate.random_case(name, own)
 
 
 class Tally:
-    """How often each call, each refusal of a call, each ordered pair of refusals and each empty answer was tried."""
+    """How often each call, each refusal of a call, each ordered pair of refusals and each empty answer was tried, and forms of another kind
+    that were refused as such."""
 
     def __init__(self):
-        self.calls, self.refusals, self.pairs, self.nothing = Counter(), Counter(), Counter(), Counter()
+        self.calls, self.refusals, self.pairs, self.nothing, self.foreign = (Counter() for _ in range(5))
 
     def count(self, job, outcome):
         """Counts a case."""
-        _, name, pair, _ = job
+        sort, name, pair, _ = job
         self.calls[name] += 1
         self.refusals[name, outcome[0] - 16 if outcome[0] >= 16 else 0] += 1
         if len(pair) == 2:
             self.pairs[name, pair] += 1
         if outcome[0] == 0 and name in MAY_FIND_NOTHING and outcome[1][1] == 0:
             self.nothing[name] += 1
+        if sort == "foreign" and outcome[0] == 16 + 10:
+            self.foreign[name, *pair] += 1
 
     def groups(self):
         """Everything that must be tried, with how often it was: accepted calls count as refusal 0."""
@@ -83,6 +94,7 @@ class Tally:
         yield "refusal", {key: self.refusals[key] for key in can}
         yield "pair", {(name, pair): self.pairs[name, pair] for name in NAMES for pair in refusals.listed_pairs(name)}
         yield "empty answer", {name: self.nothing[name] for name in MAY_FIND_NOTHING}
+        yield "refused foreign form", {key: self.foreign[key] for key in FOREIGN}
 
     def missing(self):
         """What was tried too seldom."""
@@ -171,7 +183,7 @@ def main():
     print(f"differential: seed {seed}", flush=True)
     chosen = jobs(asked.cases or CASES)
     if asked.sample:
-        chosen = chosen[:: max(1, len(chosen) // asked.sample)][: asked.sample]
+        chosen = random.Random(seed).sample(chosen, min(asked.sample, len(chosen)))
     tally, began = Tally(), time.monotonic()
     agrees = run_all(driver, seed, chosen, asked.seconds, tally)
     if asked.tally:

@@ -1,25 +1,29 @@
 """Checks the model itself: against brute force on sets of a few cells, and against the worked numbers of the requirements.
 
-The line 0..M is cut into 17 cells, all but one of them a single number: the single numbers stand at the line's low end, at its high
-end, or at both, and one wide cell is all the rest. A set is then a Python set of cells, a map a dict from cells to values, and every
-answer is found by trying cells one by one.
+The line 0..M is cut into 17 or 18 cells, all but one or two of them a single number: the single numbers stand at the line's low end,
+at its high end, at both, or in its middle, and the wide cells are all the rest. A set is then a Python set of cells, a map a dict from
+cells to values, and every answer is found by trying cells one by one. The line of the signed sets is -2^63..2^63 - 1, cut alike.
 """
 
 import random
+import struct
 import sys
 
 import model
 from model import M, MAP, SET
 
 LAYOUTS = [[1] * 8 + [M + 1 - 16] + [1] * 8, [1] * 16 + [M + 1 - 16], [M + 1 - 16] + [1] * 16]
+LAYOUTS += [[2**63 - 8] + [1] * 16 + [2**63 - 8]]
 
 
 class Line:
-    """The line as cells."""
+    """The line as cells: of the numbers from 0 on, or of the keys. `own` is how the calls are named that take its numbers."""
 
-    def __init__(self, widths):
+    def __init__(self, widths, signed=False):
+        self.own = "signed" if signed else "set"
+        self.least, self.most = (-(2**63), 2**63 - 1) if signed else (0, M)
         self.widths = widths
-        self.low = [sum(widths[:i]) for i in range(len(widths))]
+        self.low = [self.least + sum(widths[:i]) for i in range(len(widths))]
         self.high = [low + width - 1 for low, width in zip(self.low, widths)]
         self.cells = range(len(widths))
 
@@ -37,8 +41,8 @@ class Line:
         return items
 
     def block(self, held, spare=0):
-        """The stored form of a set or dict of cells, and spare words."""
-        items = self.runs(held)
+        """The stored form of a set or dict of cells, and spare words: the least number of the line is the word 0."""
+        items = [[low - self.least, high - self.least, *value] for low, high, *value in self.runs(held)]
         return [len(items)] + [word for item in items for word in item] + [77] * spare
 
     def cell_of(self, x):
@@ -58,6 +62,14 @@ def values(name, lent, args=()):
     return list(answer[2 : 2 + answer[1]]) if status == 0 else status - 16
 
 
+def keys(name, lent, args=()):
+    """The same, with the values read as C reads them in a cast to int64_t where they are keys."""
+    found = values(name, lent, args)
+    if isinstance(found, int) or not name.startswith(("signed", "key")) or name == "signed_window":
+        return found
+    return [struct.unpack("<q", struct.pack("<Q", value))[0] for value in found]
+
+
 def written(name, lent, args=()):
     """What the last lent block holds after an accepted call, or the refusal's number."""
     status, _, after = model.run(name, lent, list(args))
@@ -75,13 +87,13 @@ def check_questions(line, rng, one, two):
     x = rng.choice(line.low + line.high)
     cell = line.cell_of(x)
     runs = line.runs(one)
-    expect("member", values("set_member", [block], [x]), [int(cell in one)])
+    expect("member", values(line.own + "_member", [block], [x]), [int(cell in one)])
     for i in (0, max(1, len(runs)) - 1, len(runs), M):
-        expect("range at", values("set_range_at", [block], [i]), runs[i] if i < len(runs) else [])
+        expect("range at", keys(line.own + "_range_at", [block], [i]), runs[i] if i < len(runs) else [])
     expect("size", values("set_size", [block]), [sum(line.widths[c] for c in one) - 1] if one else [])
-    for name, held in (("set_least_member", one), ("set_least_non_member", set(line.cells) - one)):
+    for name, held in (("_least_member", one), ("_least_non_member", set(line.cells) - one)):
         above = [x] if cell in held else [line.low[c] for c in line.cells if c > cell and c in held][:1]
-        expect(name, values(name, [block], [x]), above)
+        expect(name, keys(line.own + name, [block], [x]), above)
     expect("equal", values("set_equal", [block, other]), [int(one == two)])
     expect("within", values("set_within", [block, other]), [int(one <= two)])
     expect("disjoint", values("set_disjoint", [block, other]), [int(not one & two)])
@@ -104,8 +116,8 @@ def check_results(line, rng, one, two):
     ends, asked = [line.low[first], line.high[last]], set(range(first, last + 1))
     block, other, length = line.block(one, 20), line.block(two), 41
     room = [99] * length
-    expect("insert", written("set_insert", [block], ends), zeros(line.block(one | asked), len(block)))
-    expect("remove", written("set_remove", [block], ends), zeros(line.block(one - asked), len(block)))
+    expect("insert", written(line.own + "_insert", [block], ends), zeros(line.block(one | asked), len(block)))
+    expect("remove", written(line.own + "_remove", [block], ends), zeros(line.block(one - asked), len(block)))
     results = {"union": one | two, "intersection": one & two, "difference": one - two, "symmetric_difference": one ^ two}
     for name, result in results.items():
         expect(name, written("set_" + name, [block, other, room]), zeros(line.block(result), length))
@@ -114,7 +126,9 @@ def check_results(line, rng, one, two):
         block = line.block(one, spare)
         for name, result in (("insert", one | asked), ("remove", one - asked)):
             few = 1 + 2 * len(line.runs(result)) > len(block)
-            expect(name + " room", written("set_" + name, [block], ends), 5 if few else zeros(line.block(result), len(block)))
+            due = 5 if few else zeros(line.block(result), len(block))
+            expect(name + " room", written(f"{line.own}_{name}", [block], ends), due)
+            expect(name + " backwards", written(f"{line.own}_{name}", [block], ends[::-1]), due if ends[0] == ends[1] else 4)
 
 
 def brute_fit(line, one, first, last, k, best):
@@ -139,10 +153,11 @@ def check_fits(line, rng, one):
     for best in (False, True):
         end = "best" if best else "first"
         place = brute_fit(line, one, first, last, k, best)
-        expect(end + " fit", values(f"set_{end}_fit", [line.block(one)], args), place)
+        expect(end + " fit", keys(f"{line.own}_{end}_fit", [line.block(one)], args), place)
         if place != 7:
-            inserted = written("set_insert", [line.block(one, 4)], [place[0], place[0] + k - 1])
-            expect(end + " reservation", written(f"set_reserve_{end}", [line.block(one, 4)], args), inserted)
+            inserted = written(line.own + "_insert", [line.block(one, 4)], [place[0], place[0] + k - 1])
+            expect(end + " reservation", written(f"{line.own}_reserve_{end}", [line.block(one, 4)], args), inserted)
+            expect(end + " reservation's place", keys(f"{line.own}_reserve_{end}", [line.block(one, 4)], args), place)
 
 
 def check_maps(line, rng, upper, lower, held):
@@ -206,29 +221,49 @@ def check_soundness(rng):
             expect(f"soundness of {block}", refused, line.runs(held) != placed)
 
 
-def check_forms(rng, line, one, entries):
-    """Reading gives back what writing wrote; bytes are accepted exactly if they are the form of the items in them."""
-    for name, block in (("set", line.block(one)), ("map", line.block(entries))):
-        size = 7 + (21 if name == "set" else 29) * block[0]
+def check_written(named_blocks):
+    """Reading gives back what writing wrote, in the bytes that it takes, for blocks by the name of what they hold."""
+    for name, block in named_blocks:
+        size = 7 + (29 if name == "map" else 21) * block[0]
         expect(name + " size", values(name + "_write", [block, bytearray(size)], [0]), [size])
         expect(name + " space", values(name + "_write", [block, bytearray(size)], [1]), 15)
         form = written(name + "_write", [block, bytearray(size + 2)], [1])
         expect(name + " bytes around", (form[0], form[-1]), (0, 0))
         expect(name + " read", written(name + "_read", [form[1:-1], [5] * 60]), zeros(block, 60))
-    form = bytearray(model.set_form([tuple(run) for run in line.runs(one)]))
+
+
+def check_accepted(rng, line, one):
+    """Bytes are accepted exactly if they are the form of the ranges in them, and these sound: in numbers, or in keys."""
+    form_of, kind = (model.signed_form, model.SIGNED_RANGE) if line.own == "signed" else (model.set_form, model.RANGE)
+    form = bytearray(form_of([tuple(run) for run in line.runs(one)]))
     form[rng.randrange(len(form))] = rng.choice([0, 255, form[0], rng.randrange(256)])
-    form = rng.choice([form, form, form[:-1], form + b"\0", form + model.record(model.RANGE, (0, 0), 8)])
+    form = rng.choice([form, form, form[:-1], form + b"\0", form + model.record(kind, (0, 0), 8)])
     count, rest = divmod(len(form) - 7, 21)
-    items = [tuple(int.from_bytes(form[10 + 21 * i + 8 * j : 18 + 21 * i + 8 * j], "big") for j in (0, 1)) for i in range(count)]
-    accepted = rest == 0 and model.set_form(items) == form and model.sound_items(items)
-    expect("acceptance", model.run("set_judge_form", [form], [])[0] == 0, accepted)
+    ends = struct.Struct(">qq" if line.own == "signed" else ">QQ")
+    items = [ends.unpack_from(form, 10 + 21 * i) for i in range(count)] if rest == 0 else []
+    accepted = rest == 0 and form_of(items) == form and model.sound_items(items)
+    expect("acceptance", model.run(line.own + "_read", [form, [0] * 99], [])[0] == 0, accepted)
+    if line.own == "set":
+        expect("judging", model.run("set_judge_form", [form], [])[0] == 0, accepted)
+
+
+def check_keys(rng, line):
+    """Keys and words, one against the other, and differences against C's own limits of a signed number."""
+    a, b = rng.choice(line.low + line.high), rng.choice(line.low + line.high)
+    expect("word of key", values("word_of_key", [], [a]), [a - line.least])
+    expect("key of word", keys("key_of_word", [], [a - line.least]), [a])
+    try:
+        struct.pack("<q", a - b)
+        expect("difference", keys("key_difference", [], [a, b]), [a - b])
+    except struct.error:
+        expect("too far", keys("key_difference", [], [a, b]), [])
 
 
 def check_against_brute_force(rounds, seed):
-    """All of the above, on random sets and maps of every layout."""
+    """All of the above, on random sets and maps of every layout, and on signed sets what there is of it."""
     rng = random.Random(seed)
-    for _ in range(rounds):
-        line = Line(rng.choice(LAYOUTS))
+    for i in range(rounds):
+        line = Line(rng.choice(LAYOUTS), signed=i % 2 == 1)
 
         def some():
             """Few cells or many."""
@@ -236,18 +271,23 @@ def check_against_brute_force(rounds, seed):
             return {c for c in line.cells if rng.random() < part}
 
         one, two = some(), some()
+        check_questions(line, rng, one, two if rng.randrange(4) else set(one))
+        check_window(line, rng, one, line.own + "_window", SET)
+        check_results(line, rng, one, two)
+        check_fits(line, rng, one)
+        check_accepted(rng, line, one)
+        check_written([(line.own, line.block(one))])
+        if line.own == "signed":
+            check_keys(rng, line)
+            continue
         upper, lower = ({c: rng.randrange(3) for c in some()} for _ in "ab")
         r1, r2 = some(), some()
         w1, w2 = (some() - r if rng.randrange(8) else some() for r in (r1, r2))
-        check_questions(line, rng, one, two if rng.randrange(4) else set(one))
-        check_window(line, rng, one, "set_window", SET)
         check_window(line, rng, upper, "map_window", MAP)
-        check_results(line, rng, one, two)
-        check_fits(line, rng, one)
         check_maps(line, rng, upper, lower, one)
         check_bulletins(line, one, (r1, w1), (r2, w2))
         check_soundness(rng)
-        check_forms(rng, line, one, upper)
+        check_written([("map", line.block(upper))])
 
 
 def check_sets_worked():
@@ -286,11 +326,33 @@ def check_others_worked():
         expect("Fletcher", model.check_bytes(text), bytes.fromhex(check))
 
 
+def check_signed_worked():
+    """Worked numbers about signed sets: around 0, at both ends of the line, and a form that was computed by hand."""
+    low, zero, high = 0, 2**63, M  # the words of -2^63, 0 and 2^63 - 1
+    expect("to -1", written("signed_insert", [[0, 0, 0]], [-5, -1]), [1, zero - 5, zero - 1])
+    expect("and from 0", written("signed_insert", [[1, zero - 5, zero - 1]], [0, 3]), [1, zero - 5, zero + 3])
+    expect("all keys", written("signed_insert", [[0, 0, 0]], [-(2**63), 2**63 - 1]), [1, low, high])
+    expect("no key below", values("signed_least_non_member", [[1, low, high]], [-(2**63)]), [])
+    expect("-1 in an answer", values("signed_least_member", [[1, zero - 1, zero - 1]], [-(2**63)]), [M])
+    expect("as keys", values("signed_window", [[1, low, high]], [0, -1]), 4)
+    for a, b, apart in ((-1, 2**63 - 1, [2**63]), (0, -(2**63), []), (-2, 2**63 - 1, []), (-(2**63), -1, [2**63 + 1])):
+        expect("difference", values("key_difference", [], [a, b]), apart)
+    form = bytes.fromhex("C53A0400010D05 C53A14 FFFFFFFFFFFFFFFB 0000000000000003 3413")
+    expect("form", written("signed_write", [[1, zero - 5, zero + 3], bytearray(28)], [0]), form)
+    expect("form read", written("signed_read", [form, [7, 7, 7]]), [1, zero - 5, zero + 3])
+    for name in ("set_read", "map_read", "signed_read"):
+        start = {"set_read": form, "map_read": form, "signed_read": model.set_form([(5, 9)])}[name]
+        expect("another kind", model.run(name, [start, [0] * 9], [])[:2], (26, (0, 0, 0, 0, 0)))
+    two = model.signed_form([(-5, -1), (0, 3)])
+    expect("touching", model.run("signed_read", [two, [0] * 9], [])[:2], (28, (28, 0, 0, 0, 0)))
+
+
 def main():
     """The model's own check."""
     check_sets_worked()
+    check_signed_worked()
     check_others_worked()
-    rounds = int(sys.argv[1]) if len(sys.argv) > 1 else 1500
+    rounds = int(sys.argv[1]) if len(sys.argv) > 1 else 3000
     check_against_brute_force(rounds, 20240229)
     print(f"selfcheck: the model agrees with brute force in {rounds} rounds and with the worked numbers")
 

@@ -1,7 +1,7 @@
 """Nasty numbers, lists and blocks for the cases."""
 
 import model
-from model import LIMIT, M, MAP, SET
+from model import HALF, LIMIT, M, MAP, MAX, MIN, SET
 
 
 def clipped(x):
@@ -31,6 +31,31 @@ def near(rng, points):
 def points_of(*lists):
     """The ends of all items of the lists, and of the line."""
     return [0, M] + [end for items in lists for item in items for end in item[:2]]
+
+
+def about_zero(rng, ranges):
+    """Ranges of words, mostly moved so that the word of the key 0 is at, next to, in or between them, where that can be."""
+    if not ranges or rng.random() < 0.3:
+        return ranges
+    shift = HALF + rng.choice([-1, 0, 0, 1, 2]) - rng.choice(rng.choice(ranges))
+    if ranges[0][0] + shift < 0 or ranges[-1][1] + shift > M:
+        return ranges
+    return [(low + shift, high + shift) for low, high in ranges]
+
+
+def key(rng):
+    """Any key, often at or next to the least, -1, 0 or the greatest, or to a power of two or its negative."""
+    chance = rng.randrange(4)
+    if chance == 0:
+        return rng.randrange(MIN, MAX + 1)
+    if chance == 1:
+        return max(MIN, min(MAX, rng.choice([-1, 1]) * (1 << rng.randrange(64)) + rng.randrange(-2, 3)))
+    return rng.choice([MIN, MIN + 1, -2, -1, 0, 1, MAX - 1, MAX])
+
+
+def in_keys(ranges):
+    """Ranges of words as ranges of the keys that they stand for."""
+    return [(low - HALF, high - HALF) for low, high in ranges]
 
 
 def moved(rng, ranges):

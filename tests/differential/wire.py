@@ -47,14 +47,13 @@ def packed(part):
 
 
 def encoded(case):
-    """A case as the driver reads it."""
-    letters = [letter for letter in model.CALLS[model.NUMBER[case.name]][2] if letter != "x"]
+    """A case as the driver reads it; a key travels in two's complement."""
     parts = [struct.pack("<4Q", model.NUMBER[case.name], len(case.lent), len(case.args), case.placement)]
-    for letter, part, same in zip(letters, case.lent, case.same):
+    for letter, part, same in zip(model.LENT[case.name], case.lent, case.same):
         parts.append(struct.pack("<3Q", WHAT[letter], same, len(part)))
         if same == 0:
             parts.append(packed(part))
-    parts.append(array("Q", case.args).tobytes())
+    parts.append(array("Q", [arg % 2**64 for arg in case.args]).tobytes())
     return b"".join(parts)
 
 

@@ -12,7 +12,7 @@ static uint8_t *bytes_at;
 static uint64_t set[9] = {1, 5, 9}, other[9] = {1, 20, 29}, map[10] = {1, 5, 9, 7}, out[9], second[9];
 static uint8_t form[28] = {0xC5, 0x3A, 0x01, 0x00, 0x01, 0x04, 0x02, 0xC5, 0x3A, 0x10, 0, 0, 0, 0, 0, 0, 0, 5,
                            0,    0,    0,    0,    0,    0,    0,    9,    0x47, 0x1E};
-static uint8_t bytes[128], map_form[36], bulletin_form[51];
+static uint8_t bytes[128], signed_form[28], map_form[36], bulletin_form[51];
 
 #define NO words_at, 0
 #define NO_BYTES bytes_at, 0
@@ -22,6 +22,7 @@ static uint8_t bytes[128], map_form[36], bulletin_form[51];
 #define OUT out, 9
 #define SECOND second, 9
 #define FORM form, sizeof form
+#define SIGNED_FORM signed_form, sizeof signed_form
 #define MAP_FORM map_form, sizeof map_form
 #define BULLETIN_FORM bulletin_form, sizeof bulletin_form
 #define BYTES bytes, sizeof bytes
@@ -62,60 +63,76 @@ static wimblorque_answer tried(unsigned number) {
     case 30: return wimblorque_set_best_fit(NO, 0, 9, 1);
     case 31: return wimblorque_set_reserve_first(NO, 0, 9, 1);
     case 32: return wimblorque_set_reserve_best(NO, 0, 9, 1);
-    case 33: return wimblorque_map_look_up(NO, 7);
-    case 34: return wimblorque_map_assign(NO, 1, 2, 3);
-    case 35: return wimblorque_map_erase(NO, 1, 2);
-    case 36: return wimblorque_map_window(NO, 0, 9);
-    case 37: return wimblorque_map_site_over_factory(NO, MAP, 7);
-    case 38: return wimblorque_map_site_over_factory(MAP, NO, 7);
-    case 39: return wimblorque_map_overlay(NO, MAP, OUT);
-    case 40: return wimblorque_map_overlay(MAP, NO, OUT);
-    case 41: return wimblorque_map_overlay(MAP, MAP, NO);
-    case 42: return wimblorque_map_restriction(NO, SET, OUT);
-    case 43: return wimblorque_map_restriction(MAP, NO, OUT);
-    case 44: return wimblorque_map_restriction(MAP, SET, NO);
-    case 45: return wimblorque_map_domain(NO, OUT);
-    case 46: return wimblorque_map_domain(MAP, NO);
-    case 47: return wimblorque_bulletin_apply(NO, SET, OTHER, OUT);
-    case 48: return wimblorque_bulletin_apply(SET, NO, OTHER, OUT);
-    case 49: return wimblorque_bulletin_apply(SET, OTHER, NO, OUT);
-    case 50: return wimblorque_bulletin_apply(SET, SET, OTHER, NO);
-    case 51: return wimblorque_bulletin_fold(NO, OTHER, SET, OTHER, OUT, SECOND);
-    case 52: return wimblorque_bulletin_fold(SET, NO, SET, OTHER, OUT, SECOND);
-    case 53: return wimblorque_bulletin_fold(SET, OTHER, NO, OTHER, OUT, SECOND);
-    case 54: return wimblorque_bulletin_fold(SET, OTHER, SET, NO, OUT, SECOND);
-    case 55: return wimblorque_bulletin_fold(SET, OTHER, SET, OTHER, NO, SECOND);
-    case 56: return wimblorque_bulletin_fold(SET, OTHER, SET, OTHER, OUT, NO);
-    case 57: return wimblorque_set_read(NO_BYTES, OUT);
-    case 58: return wimblorque_set_read(FORM, NO);
-    case 59: return wimblorque_map_read(NO_BYTES, OUT);
-    case 60: return wimblorque_map_read(MAP_FORM, NO);
-    case 61: return wimblorque_bulletin_read(NO_BYTES, OUT, SECOND);
-    case 62: return wimblorque_bulletin_read(BULLETIN_FORM, NO, SECOND);
-    case 63: return wimblorque_bulletin_read(BULLETIN_FORM, OUT, NO);
-    case 64: return wimblorque_set_judge_form(NO_BYTES);
-    case 65: return (wimblorque_answer){.status = wimblorque_member(NO_BYTES, 7)};
-    case 66: return wimblorque_set_write(NO, BYTES, 0);
-    case 67: return wimblorque_set_write(SET, NO_BYTES, 0);
-    case 68: return wimblorque_map_write(NO, BYTES, 0);
-    case 69: return wimblorque_map_write(MAP, NO_BYTES, 0);
-    case 70: return wimblorque_bulletin_write(NO, OTHER, BYTES, 0);
-    case 71: return wimblorque_bulletin_write(SET, NO, BYTES, 0);
-    case 72: return wimblorque_bulletin_write(SET, OTHER, NO_BYTES, 0);
-    case 73: return wimblorque_set_equal(NO, NO);
-    case 74: return wimblorque_set_write(NO, NO_BYTES, 0);
-    case 75: return wimblorque_bulletin_write(SET, OTHER, NO_BYTES, 1);
-    case 76: return wimblorque_set_read(NO_BYTES, NO);
+    case 33: return wimblorque_signed_member(NO, -7);
+    case 34: return wimblorque_signed_range_at(NO, 0);
+    case 35: return wimblorque_signed_least_member(NO, -7);
+    case 36: return wimblorque_signed_least_non_member(NO, -7);
+    case 37: return wimblorque_signed_window(NO, -9, 9);
+    case 38: return wimblorque_signed_insert(NO, -2, 1);
+    case 39: return wimblorque_signed_remove(NO, -2, 1);
+    case 40: return wimblorque_signed_first_fit(NO, -9, 9, 1);
+    case 41: return wimblorque_signed_best_fit(NO, -9, 9, 1);
+    case 42: return wimblorque_signed_reserve_first(NO, -9, 9, 1);
+    case 43: return wimblorque_signed_reserve_best(NO, -9, 9, 1);
+    case 44: return wimblorque_map_look_up(NO, 7);
+    case 45: return wimblorque_map_assign(NO, 1, 2, 3);
+    case 46: return wimblorque_map_erase(NO, 1, 2);
+    case 47: return wimblorque_map_window(NO, 0, 9);
+    case 48: return wimblorque_map_site_over_factory(NO, MAP, 7);
+    case 49: return wimblorque_map_site_over_factory(MAP, NO, 7);
+    case 50: return wimblorque_map_overlay(NO, MAP, OUT);
+    case 51: return wimblorque_map_overlay(MAP, NO, OUT);
+    case 52: return wimblorque_map_overlay(MAP, MAP, NO);
+    case 53: return wimblorque_map_restriction(NO, SET, OUT);
+    case 54: return wimblorque_map_restriction(MAP, NO, OUT);
+    case 55: return wimblorque_map_restriction(MAP, SET, NO);
+    case 56: return wimblorque_map_domain(NO, OUT);
+    case 57: return wimblorque_map_domain(MAP, NO);
+    case 58: return wimblorque_bulletin_apply(NO, SET, OTHER, OUT);
+    case 59: return wimblorque_bulletin_apply(SET, NO, OTHER, OUT);
+    case 60: return wimblorque_bulletin_apply(SET, OTHER, NO, OUT);
+    case 61: return wimblorque_bulletin_apply(SET, SET, OTHER, NO);
+    case 62: return wimblorque_bulletin_fold(NO, OTHER, SET, OTHER, OUT, SECOND);
+    case 63: return wimblorque_bulletin_fold(SET, NO, SET, OTHER, OUT, SECOND);
+    case 64: return wimblorque_bulletin_fold(SET, OTHER, NO, OTHER, OUT, SECOND);
+    case 65: return wimblorque_bulletin_fold(SET, OTHER, SET, NO, OUT, SECOND);
+    case 66: return wimblorque_bulletin_fold(SET, OTHER, SET, OTHER, NO, SECOND);
+    case 67: return wimblorque_bulletin_fold(SET, OTHER, SET, OTHER, OUT, NO);
+    case 68: return wimblorque_set_read(NO_BYTES, OUT);
+    case 69: return wimblorque_set_read(FORM, NO);
+    case 70: return wimblorque_signed_read(NO_BYTES, OUT);
+    case 71: return wimblorque_signed_read(SIGNED_FORM, NO);
+    case 72: return wimblorque_map_read(NO_BYTES, OUT);
+    case 73: return wimblorque_map_read(MAP_FORM, NO);
+    case 74: return wimblorque_bulletin_read(NO_BYTES, OUT, SECOND);
+    case 75: return wimblorque_bulletin_read(BULLETIN_FORM, NO, SECOND);
+    case 76: return wimblorque_bulletin_read(BULLETIN_FORM, OUT, NO);
+    case 77: return wimblorque_set_judge_form(NO_BYTES);
+    case 78: return (wimblorque_answer){.status = wimblorque_member(NO_BYTES, 7)};
+    case 79: return wimblorque_set_write(NO, BYTES, 0);
+    case 80: return wimblorque_set_write(SET, NO_BYTES, 0);
+    case 81: return wimblorque_signed_write(NO, BYTES, 0);
+    case 82: return wimblorque_signed_write(SET, NO_BYTES, 0);
+    case 83: return wimblorque_map_write(NO, BYTES, 0);
+    case 84: return wimblorque_map_write(MAP, NO_BYTES, 0);
+    case 85: return wimblorque_bulletin_write(NO, OTHER, BYTES, 0);
+    case 86: return wimblorque_bulletin_write(SET, NO, BYTES, 0);
+    case 87: return wimblorque_bulletin_write(SET, OTHER, NO_BYTES, 0);
+    case 88: return wimblorque_set_equal(NO, NO);
+    case 89: return wimblorque_set_write(NO, NO_BYTES, 0);
+    case 90: return wimblorque_bulletin_write(SET, OTHER, NO_BYTES, 1);
+    case 91: return wimblorque_set_read(NO_BYTES, NO);
     default: return (wimblorque_answer){.status = 0};
     }
 }
 
-enum { TRIES = 77 };
+enum { TRIES = 92 };
 
 int main(void) {
     static uint64_t a_word;
     static uint8_t a_byte;
-    if (wimblorque_map_write(MAP, MAP_FORM, 0).first != sizeof map_form
+    if (wimblorque_signed_write(SET, SIGNED_FORM, 0).first != sizeof signed_form
+        || wimblorque_map_write(MAP, MAP_FORM, 0).first != sizeof map_form
         || wimblorque_bulletin_write(SET, OTHER, BULLETIN_FORM, 0).first != sizeof bulletin_form) {
         return 1;
     }

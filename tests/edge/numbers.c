@@ -34,6 +34,20 @@ static void fill_map(uint64_t n) {
     }
 }
 
+/* The words and bytes of a signed set are those of a set, and no others. */
+static void signed_sizes(size_t n) {
+    const size_t words = WIMBLORQUE_SET_WORDS(n), length = WIMBLORQUE_SET_BYTES(n);
+    expect("signed words", n, wimblorque_signed_member(one, words, 0).status, WIMBLORQUE_ACCEPTED);
+    expect("signed, a byte too few", n, wimblorque_signed_write(one, words, bytes, length - 1, 0).status, WIMBLORQUE_NO_SPACE);
+    expect("signed bytes", n, wimblorque_signed_write(one, words, bytes, length, 0).first, length);
+    expect("signed, read", n, wimblorque_signed_read(bytes, length, two, words).status, WIMBLORQUE_ACCEPTED);
+    expect("signed, a byte short", n, wimblorque_signed_read(bytes, length - 1, two, words).status, WIMBLORQUE_SHORT);
+    if (n > 0) {
+        expect("signed, a word too few", n, wimblorque_signed_member(one, words - 1, 0).status, WIMBLORQUE_COUNT);
+        expect("signed, no room", n, wimblorque_signed_read(bytes, length, two, words - 1).status, WIMBLORQUE_ROOM);
+    }
+}
+
 /* The words and bytes of n items. */
 static void sizes(size_t n) {
     const size_t words = WIMBLORQUE_SET_WORDS(n), length = WIMBLORQUE_SET_BYTES(n);
@@ -44,6 +58,7 @@ static void sizes(size_t n) {
     if (n > 0) {
         expect("set, a word too few", n, wimblorque_set_size(one, words - 1).status, WIMBLORQUE_COUNT);
     }
+    signed_sizes(n);
     if (n > WIMBLORQUE_MOST_ENTRIES) {
         return;
     }
@@ -74,6 +89,7 @@ static void capacity(size_t words) {
     expect("capacity", words, wimblorque_set_size(one, words).status, WIMBLORQUE_ACCEPTED);
     one[0] = ranges + 1;
     expect("capacity and one more", words, wimblorque_set_size(one, words).status, WIMBLORQUE_COUNT);
+    expect("capacity of a signed set and one more", words, wimblorque_signed_range_at(one, words, 0).status, WIMBLORQUE_COUNT);
     fill_map(entries);
     expect("capacity of a map", words, wimblorque_map_look_up(map, words, 0).status, WIMBLORQUE_ACCEPTED);
     map[0] = entries + 1;

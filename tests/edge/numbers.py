@@ -51,8 +51,10 @@ def sizes_due():
     set_form = only(r"readSetCall b out ≡ leaves w → length b ≡ (\d+) \+ (\d+) \* getD w 0 0\)$", laws)
     map_form = only(r"readMapCall b out ≡ leaves w → length b ≡ (\d+) \+ (\d+) \* getD w 0 0\)$", laws)
     bulletin = only(r"readBulletinCall .* → length b ≡ (\d+) \+ (\d+) \* \(getD r 0 0 \+ getD w 0 0\)\)$", laws)
+    signed_form = only(r"readSignedCall b out ≡ leaves w → length b ≡ (\d+) \+ (\d+) \* getD w 0 0\)$", laws)
     expect("the records of the laws", [*set_form, *map_form, *bulletin], [record[k] for k in (0x01, 0x10, 0x02, 0x11, 0x03, 0x12)])
     expect("released and withdrawn ranges", record[0x12], record[0x13])
+    expect("the form of a signed set, which the header measures as a set's", [*signed_form, record[0x04], record[0x14]], set_form * 2)
     return {
         "MOST_RANGES": ranges,
         "MOST_ENTRIES": entries,

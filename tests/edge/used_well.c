@@ -1,4 +1,5 @@
-/* No misuse: no compiler may warn of anything here. Two blocks by turns, one block for two inputs, results used, both headers. */
+/* No misuse: no compiler may warn of anything here. Two blocks by turns, one block for two inputs, results used, keys cast, both
+   headers. */
 #include "wimblorque_refusals.h"
 
 int used_well(uint64_t *list, uint64_t *next, const uint64_t *released, const uint64_t *withdrawn, uint8_t *bytes, unsigned n);
@@ -18,6 +19,13 @@ int used_well(uint64_t *list, uint64_t *next, const uint64_t *released, const ui
     a = wimblorque_map_make_empty(map, sizeof map / sizeof map[0]);
     if (a.status != WIMBLORQUE_ACCEPTED || wimblorque_set_make_empty(block, sizeof block / sizeof block[0]).status != 0) {
         return 3;
+    }
+    if (wimblorque_signed_insert(block, sizeof block / sizeof block[0], -5, n).status != WIMBLORQUE_ACCEPTED) {
+        return 4;
+    }
+    const int64_t least = (int64_t)wimblorque_signed_range_at(block, sizeof block / sizeof block[0], 0).first;
+    if (wimblorque_key_of_word(block[1]) != least || wimblorque_word_of_key(least) != block[1]) {
+        return 5;
     }
     return wimblorque_is_member(bytes, sizeof form, 7) && wimblorque_member(form, sizeof form, 8) == 1;
 }
