@@ -27,6 +27,9 @@ typedef struct library {
                                        const uint64_t *withdrawn2, size_t withdrawn2_words, uint64_t *released,
                                        size_t released_words, uint64_t *withdrawn, size_t withdrawn_words);
     two_call *map_overlay;
+    wimblorque_answer (*set_judge_form)(const uint8_t *bytes, size_t length);
+    /* the pack-insert check on the byte form of a list: 1, 0, or 16 plus the refusal */
+    uint64_t (*member)(const uint8_t *bytes, size_t length, uint64_t x);
     wimblorque_answer (*set_read)(const uint8_t *bytes, size_t length, uint64_t *out, size_t out_words);
     wimblorque_answer (*set_write)(const uint64_t *block, size_t words, uint8_t *bytes, size_t length, size_t p);
 } library;

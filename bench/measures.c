@@ -52,6 +52,16 @@ static wimblorque_answer overlay(const library *lib, job *t) {
     return lib->map_overlay(OF(t->upper), OF(t->lower), OF(t->merged));
 }
 
+static wimblorque_answer judge_of_bytes(const library *lib, job *t) {
+    return lib->set_judge_form(t->form, t->form_length);
+}
+
+/* The check that a cart makes when a pack is inserted: its answer, told as the other calls tell theirs. */
+static wimblorque_answer member_of_bytes(const library *lib, job *t) {
+    uint64_t r = lib->member(t->form, t->form_length, t->x);
+    return r < 16 ? (wimblorque_answer){.count = 1, .first = r} : (wimblorque_answer){.status = r};
+}
+
 static wimblorque_answer reading(const library *lib, job *t) {
     return lib->set_read(t->form, t->form_length, OF(t->out));
 }
@@ -73,6 +83,8 @@ const measure measures[] = {
     {"apply", apply, icl_apply, false, true},
     {"fold", fold, icl_fold, false, true},
     {"overlay", overlay, icl_overlay, false, true},
+    {"judge of bytes", judge_of_bytes, NULL, false, false},
+    {"member of bytes", member_of_bytes, NULL, false, false},
     {"read", reading, NULL, false, true},
     {"write", writing, NULL, false, true},
 };

@@ -548,6 +548,32 @@ static wimblorque_answer judge_form(const uint8_t *bytes, size_t length) {
     return told(p < length ? WIMBLORQUE_TRAILING : 0, p < length ? p : 0);
 }
 
+static wimblorque_answer set_judge_form(const uint8_t *bytes, size_t length) {
+    wimblorque_answer judged = judge_form(bytes, length);
+    return judged.status ? judged : value((length - 7) / RECORD);
+}
+
+/* How many of the n sound ranges in records have their high below x: a binary search. */
+static size_t records_below(const uint8_t *bytes, size_t n, uint64_t x) {
+    size_t from = 0;
+    while (n > 0) {
+        size_t half = n / 2;
+        bool below = get8(bytes + 7 + RECORD * (from + half) + 11) < x;
+        from = below ? from + half + 1 : from;
+        n = below ? n - half - 1 : half;
+    }
+    return from;
+}
+
+static uint64_t member(const uint8_t *bytes, size_t length, uint64_t x) {
+    wimblorque_answer judged = judge_form(bytes, length);
+    if (judged.status) {
+        return judged.status;
+    }
+    size_t n = (length - 7) / RECORD, i = records_below(bytes, n, x);
+    return i < n && get8(bytes + 7 + RECORD * i + 3) <= x;
+}
+
 static wimblorque_answer set_read(const uint8_t *bytes, size_t length, uint64_t *out, size_t out_words) {
     wimblorque_answer judged = judge_form(bytes, length);
     if (judged.status) {
@@ -614,6 +640,8 @@ const library plain_library = {
     .bulletin_apply = bulletin_apply,
     .bulletin_fold = bulletin_fold,
     .map_overlay = map_overlay,
+    .set_judge_form = set_judge_form,
+    .member = member,
     .set_read = set_read,
     .set_write = set_write,
 };

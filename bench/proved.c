@@ -14,6 +14,8 @@ const library proved_library = {
     .bulletin_apply = wimblorque_bulletin_apply,
     .bulletin_fold = wimblorque_bulletin_fold,
     .map_overlay = wimblorque_map_overlay,
+    .set_judge_form = wimblorque_set_judge_form,
+    .member = wimblorque_member,
     .set_read = wimblorque_set_read,
     .set_write = wimblorque_set_write,
 };
