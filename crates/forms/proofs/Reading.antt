@@ -6,7 +6,7 @@ use mathlib.Core.Path.{_≡_, refl, sym, subst, ap, ap₂, _∙_}
 use native.Mathlib.Omega.{arith}
 use lib.Dec.{ltb, eqb}
 use lib.ListN.{length, take, drop, length-drop}
-use Rattle.entries.specs.Entries.{Entry}
+use Rattle.entries.specs.Entries.{Each, Entry}
 use Rattle.entries.specs.Sets.{member}
 use Rattle.answers.specs.Answers.{given, refused, Outcome, outcome, truth, judged, inTurn, applies, Clear}
 use Rattle.answers.specs.Steps.{FirstOf}
@@ -15,21 +15,21 @@ use Rattle.answers.specs.declared.Finding.{Finding}
 use Rattle.answers.specs.declared.Judged.{Judged}
 use Rattle.answers.specs.declared.Judged.the-variants as answer
 use Rattle.answers.proofs.Turns.{stops-in, passes-in, refused-by, given-by}
-use Rattle.blocks.specs.Blocks.{capacity, blockOf}
+use Rattle.blocks.specs.Blocks.{setLayout, capacity, blockOf}
 use Rattle.blocks.specs.declared.Layout.{Layout}
 use Rattle.blocks.proofs.Judging.{room-words}
 use Rattle.blocks.proofs.Refusing.{some-words}
 use Rattle.numbers.specs.Numbers.{Bytes, num2}
 use Rattle.records.specs.Reads.{secondCount}
 use Rattle.records.proofs.Items.{counts-two}
-use Rattle.runs.specs.Runs.{entriesIn, lengths}
+use Rattle.runs.specs.Runs.{Fine, entriesIn, lengths}
 use Rattle.verdicts.specs.declared.Form.{Form}
 use Rattle.verdicts.specs.Forms.{ofSet, startSize, sizeOf, formCounts, formEntries, formRefusals, outRefusals}
 use Rattle.forms.specs.Calls.{storedIn, readCall, judgeCall, oneNumber, firstOf, memberOfFormCall}
 use Rattle.forms.specs.Steps.{Stored, Stores}
-use Rattle.verdicts.specs.Steps.{Shape, lone, pair, FormKind, eachOf, itemSize, secondAt, runsHere}
+use Rattle.verdicts.specs.Steps.{Shape, lone, pair, FormKind, eachOf, itemSize, secondAt, runsHere, OneRun}
 use Rattle.verdicts.proofs.Whole.{set-kind, counted}
-use Rattle.forms.proofs.Forms.{room-held, accepted-size}
+use Rattle.forms.proofs.Forms.{room-held, accepted-formed, accepted-size}
 use Rattle.verdicts.proofs.Two.{entries-here, size-here}
 
 -- refused with the first refusal
@@ -153,8 +153,14 @@ module _ (b : List ℕ) (v : Finding) (fv : FirstOf (formRefusals ofSet b) v) wh
   unfolding memberOfFormCall
   member-refused x nz = ap oneNumber (refused-first (formRefusals ofSet b) v fv nz [] (outcome (truth (member (firstOf (formEntries ofSet b)) x)) []))
 
-  pub member-held : Bytes b → v .number ≡ 0 → (n : ℕ) → n ≡ num2 b 3 → 7 + 21 * n ≤ length b
-  member-held y z n e = omega (arith, accepted-size ofSet set-kind b y (fv .clear z), ap (sizeOf ofSet) (counted ofSet set-kind b))
+  -- the records of an accepted form are sound ranges in order, which halving asks for
+  pub member-run : Bytes b → v .number ≡ 0 → (n : ℕ) → n ≡ num2 b 3 → OneRun 0x10 7 n b
+  member-run y z n e = record {
+    held = omega (arith, accepted-size ofSet set-kind b y (fv .clear z), ap (sizeOf ofSet) (counted ofSet set-kind b));
+    sound = rw e (subst (λ (r : List (List Entry)). Each (Fine 2 (setLayout .limit)) r) (entries-here ofSet set-kind b) (accepted-formed ofSet set-kind b y
+        (fv .clear z) .fine) .0 .sound);
+    plain = λ x. refl;
+  }
 
   pub member-told : v .number ≡ 0 → (n : ℕ) → n ≡ num2 b 3 → (x : ℕ) (t : Bool) → t ≡ member (entriesIn 0x10 2 n (drop 7 b)) x
       → oneNumber (outcome (truth t) []) ≡ memberOfFormCall b x

@@ -14,9 +14,36 @@ use Rattle.blocks.specs.Steps.{zero-item, Held}
 use Rattle.blocks.proofs.Words.{items-length}
 use Rattle.blocks.proofs.Moves.{entry-at}
 use Rattle.blocks.proofs.Items.{entries-count, entry-is, held}
-use Rattle.searches.specs.Steps.{Sorted, FirstFrom}
+use Rattle.searches.specs.Steps.{Rises, First, Sorted, FirstFrom}
 
--- SOUND ITEMS ARE IN ORDER, by their lows and by their highs
+same-or-later : (f : ℕ → ℕ) (i j : ℕ) → i ≤ j → (i < j → f i ≤ f j) → f i ≤ f j
+same-or-later f i j p later = go (decLt i j)
+  where
+    go : Dec (i < j) → f i ≤ f j
+    go (yes q) = later q
+    go (no q) = let e : i ≡ j = omega arith in omega (arith, ap f e)
+
+-- SOUND ENTRIES ARE IN ORDER, by their lows and by their highs
+module _ (d : Entry) (es : List Entry) (t : Sound es) where
+  pub lows-rise : Rises (λ k. (getD es k d) .low) (length es)
+  lows-rise i j p q = same-or-later (λ k. (getD es k d) .low) i j p (λ r. omega (arith, rises d es t i j r q, sound-ok d es t i (omega arith)))
+
+  pub highs-rise : Rises (λ k. (getD es k d) .high) (length es)
+  highs-rise i j p q = same-or-later (λ k. (getD es k d) .high) i j p (λ r. omega (arith, rises d es t i j r q, sound-ok d es t j q))
+
+-- and so are the n numbers that stand for these, in words or in bytes; what is found among the highs tells of the entries
+module _ (d : Entry) (es : List Entry) (n : ℕ) (count : length es ≡ n) (f : ℕ → ℕ) where
+  pub also-rises : (g : Entry → ℕ) → ((k : ℕ) → k < n → g (getD es k d) ≡ f k) → Rises (λ k. g (getD es k d)) (length es) → Rises f n
+  also-rises g e r i j p q = omega (arith, r i j p (omega (arith, count)), e i (omega arith), e j q)
+
+  pub passed-among : ((k : ℕ) → k < n → (getD es k d) .high ≡ f k) → (x i : ℕ) → First f n x i → Passed d es x i
+  passed-among e x i r = record {
+    within = omega (arith, r .within, count);
+    before = λ k h. rw (e k (omega (arith, r .within))) (r .before k h);
+    from = λ h. let m : i < n = omega (arith, count) in rw (e i m) (r .from m);
+  }
+
+-- the items of a block
 module _ {s n : ℕ} {w : List ℕ} (h : Held s n w) (t : Sound (itemsOf s n (drop 1 w))) where
   abbrev es : List Entry
   es = itemsOf s n (drop 1 w)
@@ -30,25 +57,12 @@ module _ {s n : ℕ} {w : List ℕ} (h : Held s n w) (t : Sound (itemsOf s n (dr
   high-at : (k : ℕ) → k < n → (getD es k zero-item) .high ≡ getD w (s * k + 2) 0
   high-at k p = ap (λ (e : Entry). e .high) (entry-at s (h .two) n k w zero-item p)
 
-  same-or-later : (off i j : ℕ) → i ≤ j → (i < j → getD w (s * i + off) 0 ≤ getD w (s * j + off) 0) → getD w (s * i + off) 0 ≤ getD w (s * j + off) 0
-  same-or-later off i j p later = go (decLt i j)
-    where
-      go : Dec (i < j) → getD w (s * i + off) 0 ≤ getD w (s * j + off) 0
-      go (yes q) = later q
-      go (no q) = let e : i ≡ j = omega arith in omega (arith, ap (λ (k : ℕ). getD w (s * k + off) 0) e)
-
   pub sorted-lows : Sorted s 1 n w
   sorted-lows = record {
     two = h .two;
     held = h .held;
     within = omega (arith, h .two);
-    rises = λ i j p q. same-or-later 1 i j p (λ r. omega (
-      arith,
-      rises zero-item es t i j r (omega (arith, count)),
-      sound-ok zero-item es t i (omega (arith, count)),
-      low-at i (omega arith),
-      low-at j q,
-    ));
+    rises = also-rises zero-item es n count (λ k. getD w (s * k + 1) 0) (λ e. e .low) low-at (lows-rise zero-item es t);
   }
 
   pub sorted-highs : Sorted s 2 n w
@@ -56,13 +70,7 @@ module _ {s n : ℕ} {w : List ℕ} (h : Held s n w) (t : Sound (itemsOf s n (dr
     two = h .two;
     held = h .held;
     within = h .two;
-    rises = λ i j p q. same-or-later 2 i j p (λ r. omega (
-      arith,
-      rises zero-item es t i j r (omega (arith, count)),
-      sound-ok zero-item es t j (omega (arith, count)),
-      high-at i (omega arith),
-      high-at j q,
-    ));
+    rises = also-rises zero-item es n count (λ k. getD w (s * k + 2) 0) (λ e. e .high) high-at (highs-rise zero-item es t);
   }
 
 -- of a sound block
@@ -79,11 +87,8 @@ module _ {l : Layout} {w : List ℕ} (two : 2 ≤ l .width) (b : SoundBlock l w)
 -- what is found tells of the entries
 module _ (s : ℕ) (two : 2 ≤ s) (w : List ℕ) (n : ℕ) (e : n ≡ getD w 0 0) where
   pub passed : (x i : ℕ) → FirstFrom w s 2 n x i → Passed zero-item (entriesOf s w) x i
-  passed x i f = record {
-    within = omega (arith, f .within, entries-count s two w n e);
-    before = λ k h. rw (entry-is s two w n e k (omega (arith, f .within))) (f .before k h);
-    from = λ h. let m : i < n = omega (arith, entries-count s two w n e) in rw (entry-is s two w n e i m) (f .from m);
-  }
+  passed = passed-among zero-item (entriesOf s w) n (entries-count s two w n e) (λ k. getD w (s * k + 2) 0) (λ k h. ap (λ (i : Entry). i .high)
+      (entry-is s two w n e k h))
 
   pub begun : (b j : ℕ) → FirstFrom w s 1 n (b + 1) j → Begun zero-item (entriesOf s w) b j
   begun b j f = record {

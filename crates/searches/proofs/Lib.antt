@@ -1,3 +1,4 @@
+pub mod Halving
 pub mod Finding
 pub mod Spots
 pub mod Windows

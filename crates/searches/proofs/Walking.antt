@@ -1,9 +1,10 @@
 -- The walk along two lists, in bytes or in words: a list is seen as the low and the high at a place, and the rest d places on.
-use Prim.Native.Nat.{ℕ, suc, _+_, _*_, _-_, _<_, _≤_}
+use Prim.Native.Nat.{ℕ, zero, suc, _+_, _*_, _-_, _<_, _≤_}
 use mathlib.Core.List.{List, [], _∷_}
 use mathlib.Core.Bool.{Bool, true, false, Bool·beq}
 use mathlib.Core.Path.{_≡_, refl, sym, subst, ap, ap₂, _∙_}
 use native.Mathlib.Omega.{arith}
+use native.Mathlib.Nat.{mul-suc}
 use lib.Dec.{ltb}
 use lib.ListN.{getD, drop}
 use lib.Seq.{drop-drop, getD-drop}
@@ -32,6 +33,17 @@ other-answer false false e z = true≢false e
 pub record View (E : ℕ → ℕ → List Entry) (d : ℕ) (low high : ℕ → ℕ) : Type 0 where
   pub none : (p : ℕ) → E 0 p ≡ []
   pub more : (n p : ℕ) → E (suc n) p ≡ entry (low p) (high p) [] ∷ E n (p + d)
+
+-- the entry that stands k places on
+pub view-at : {E : ℕ → ℕ → List Entry} {d : ℕ} {low high : ℕ → ℕ} → View E d low high → (z : Entry) (n p k : ℕ) → k < n
+    → getD (E n p) k z ≡ entry (low (p + d * k)) (high (p + d * k)) []
+view-at {d = d} {low = low} {high = high} v z zero p k h = absurd (omega arith)
+view-at {d = d} {low = low} {high = high} v z (suc n) p zero h =
+    let e : p ≡ p + d * 0 = omega arith in
+    ap (λ (l : List Entry). getD l 0 z) (v .more n p) ∙ ap (λ (q : ℕ). entry (low q) (high q) []) e
+view-at {d = d} {low = low} {high = high} v z (suc n) p (suc k) h =
+    let e : p + d + d * k ≡ p + d * suc k = omega (arith, mul-suc d k) in
+    ap (λ (l : List Entry). getD l (suc k) z) (v .more n p) ∙ view-at v z n (p + d) k (omega arith) ∙ ap (λ (q : ℕ). entry (low q) (high q) []) e
 
 module _ {E F : ℕ → ℕ → List Entry} {d : ℕ} {lo hi lo′ hi′ : ℕ → ℕ} (v : View E d lo hi) (u : View F d lo′ hi′) where
   -- what is left to walk

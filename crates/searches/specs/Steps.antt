@@ -12,18 +12,26 @@ use Rattle.searches.specs.Calls.{windowPlace, windowLength, windowPart}
 use Rattle.searches.specs.declared.Part.{Part}
 use Rattle.searches.specs.declared.Spot.{Spot}
 
--- n items of s words stand in w, and their words at off, counted from 1, do not fall (`sorted-lows`, `sorted-highs` in proofs/Sorting)
+-- f does not fall on 0..n-1
+abbrev pub Rises : (ℕ → ℕ) → ℕ → Type 0
+Rises f n = (i j : ℕ) → i ≤ j → j < n → f i ≤ f j
+
+-- r is the first of 0..n-1 at which f is at least x, or n
+pub record First (f : ℕ → ℕ) (n x r : ℕ) : Type 0 where
+  pub within : r ≤ n
+  pub before : (k : ℕ) → k < r → f k < x
+  pub from : r < n → x ≤ f r
+
+-- n items of s words stand in w, and their words at off, counted from 1, do not fall (`sorted-lows`, `sorted-highs` in proofs/Finding)
 pub record Sorted (s off n : ℕ) (w : List ℕ) : Type 0 where
   pub two : 2 ≤ s
   pub held : 1 + s * n ≤ length w
   pub within : off ≤ s
-  pub rises : (i j : ℕ) → i ≤ j → j < n → getD w (s * i + off) 0 ≤ getD w (s * j + off) 0
+  pub rises : Rises (λ k. getD w (s * k + off) 0) n
 
 -- r is the first of n items, of s words each, whose word at off is at least x, or n
-pub record FirstFrom (ws : List ℕ) (s off n x r : ℕ) : Type 0 where
-  pub within : r ≤ n
-  pub before : (k : ℕ) → k < r → getD ws (s * k + off) 0 < x
-  pub from : r < n → x ≤ getD ws (s * r + off) 0
+abbrev pub FirstFrom : (ws : List ℕ) (s off n x r : ℕ) → Type 0
+FirstFrom ws s off n x r = First (λ k. getD ws (s * k + off) 0) n x r
 
 -- where x stands in the block w: so many items end below it, the next does not, and that one holds it or none does
 pub record SpotOf (l : Layout) (w : List ℕ) (x : ℕ) (r : Spot) : Type 0 where

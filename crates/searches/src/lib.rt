@@ -35,20 +35,21 @@ pub fn count_of(block: &[u64]) -> usize
     blocks::wide(blocks::word(block, 0))
 }
 
-// The first of n items of s words whose word at off (1 its low, 2 its high) is at least x, or n. These words do not fall.
+// [L1] The first of n items of s words whose word at off (1 its low, 2 its high) is at least x, or n. These words do not fall, and it
+// is found by halving, in 12 steps at most among 4,095. A step is a choice and not a branch, which no predictor could foretell.
 pub fn first_from(block: &[u64], s: usize, off: usize, n: usize, x: u64) -> usize
     requires { ⌜ Sorted s off n (now block) ⌝ }
     ensures { λ r. ⌜ FirstFrom (now (block .entry)) s off n x r ⌝ }
 {
-    let mut i: usize = 0;
-    while i < n {
-        if blocks::word(block, s * i + off) < x {
-            i += 1;
-        } else {
-            return i;
-        }
+    let mut low: usize = 0;
+    let mut high = n;
+    while low < high {
+        let middle = low + (high - low) / 2;
+        let under = blocks::word(block, s * middle + off) < x;
+        low = blocks::chosen(under, middle + 1, low);
+        high = blocks::chosen(under, high, middle);
     }
-    i
+    low
 }
 
 // The first whose word at off is above x, or n.

@@ -2,4 +2,5 @@ pub mod Whole
 pub mod Two
 pub mod Rooms
 pub mod Walking
+pub mod Searching
 pub mod Overlap

@@ -30,7 +30,7 @@ use Rattle.runs.specs.Steps.{RunJudged}
 use Rattle.runs.proofs.Running.{bytes-drop, run-inv}
 use Rattle.verdicts.specs.declared.Form.{Form}
 use Rattle.verdicts.specs.Forms.{kindsOf, startSize, sizeOf, formCounts, formEntries, sharing, trailing, overlap, formRefusals}
-use Rattle.verdicts.specs.Steps.{Shape, lone, pair, FormKind, eachOf, itemSize, secondAt, runsHere, behindStart, TwoRuns}
+use Rattle.verdicts.specs.Steps.{Shape, lone, pair, FormKind, eachOf, itemSize, secondAt, runsHere, behindStart, OneRun}
 
 -- one run or two: over the number of runs r and the layout l
 two-refusals : (mark : ℕ) (l : Layout) (r a c p : ℕ) (b d : List ℕ) → Shape r l
@@ -178,21 +178,24 @@ module _ (f : Form) (n m : ℕ) (b : List ℕ) (x : Finding) (fx : RunJudged (f 
           (ends v (applies (sharing (runsHere f n m b)) 14) 0 q (applies-small (sharing (runsHere f n m b)) 14 (lit≤ tt))))
 
       -- a second run: it and the first are sound ranges in the bytes
-      pub to-share : FormKind f → Bytes b → (f .runs ≡ 1 → ⊥) → TwoRuns (f .first) (startSize f) n (f .second) (x .place) m b
+      pub to-share : FormKind f → Bytes b → (f .runs ≡ 1 → ⊥) → OneRun (f .first) (startSize f) n b × OneRun (f .second) (x .place) m b
       to-share k u nz =
           let t : f .layout .width ≡ 2 = ap (λ (l : Layout). l .width) (not-one (f .runs) (f .layout) (k .shape) nz .1) in
           let p = run-inv (f .mark) (f .first) (f .layout .width) (k .first) n (startSize f) none (drop (startSize f) b) (bytes-drop (startSize f) b u)
           (fx .first .clear zx) in
           let q = run-inv (f .mark) (f .second) (f .layout .width) (k .second) m (x .place) none (drop (x .place) b) (bytes-drop (x .place) b u)
-          (fy .first .clear zy) in
-          record {
-            held = rw t at (subst (λ (i : ℕ). i ≤ length b) (fx .behind zx) (fx .within zx));
-            held-too = rw t at (subst (λ (i : ℕ). i ≤ length b) (fy .behind zy) (fy .within zy));
-            sound = rw t at (sound-true (entriesIn (f .first) (f .layout .width) n (drop (startSize f) b)) (p .sound));
-            sound-too = rw t at (sound-true (entriesIn (f .second) (f .layout .width) m (drop (x .place) b)) (q .sound));
-            plain = k .plain nz .0;
-            plain-too = k .plain nz .1;
-          }
+          (fy .first .clear zy) in (
+            record {
+              held = rw t at (subst (λ (i : ℕ). i ≤ length b) (fx .behind zx) (fx .within zx));
+              sound = rw t at (sound-true (entriesIn (f .first) (f .layout .width) n (drop (startSize f) b)) (p .sound));
+              plain = k .plain nz .0;
+            },
+            record {
+              held = rw t at (subst (λ (i : ℕ). i ≤ length b) (fy .behind zy) (fy .within zy));
+              sound = rw t at (sound-true (entriesIn (f .second) (f .layout .width) m (drop (x .place) b)) (q .sound));
+              plain = k .plain nz .1;
+            },
+          )
 
       pub shared-is : FormKind f → (f .runs ≡ 1 → ⊥) → (t : Bool)
           → t ≡ shareb (entriesIn (f .first) 2 n (drop (startSize f) b)) (entriesIn (f .second) 2 m (drop (x .place) b)) → sharing (runsHere f n m b) ≡ t

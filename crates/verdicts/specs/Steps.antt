@@ -8,7 +8,7 @@ use Rattle.entries.specs.Entries.{Entry, Sound}
 use Rattle.answers.specs.declared.Finding.{Finding}
 use Rattle.blocks.specs.Blocks.{setLayout}
 use Rattle.blocks.specs.declared.Layout.{Layout}
-use Rattle.numbers.specs.Numbers.{past2}
+use Rattle.numbers.specs.Numbers.{past2, num8}
 use Rattle.records.specs.Steps.{StartKind, ItemKind, AsTheyAre}
 use Rattle.verdicts.specs.declared.Form.{Form}
 use Rattle.runs.specs.Runs.{entriesIn, runRefusals}
@@ -51,11 +51,12 @@ behindStart f n m b =
     ++ (runRefusals (f .mark) (f .second) (f .layout .width) m (secondAt f n) none (drop (secondAt f n) b)
     ++ (trailing (secondAt f n + itemSize f * m) b ∷ overlap (runsHere f n m b) ∷ []))
 
--- n range records at p and m at q, all sound
-pub record TwoRuns (first p n second q m : ℕ) (b : List ℕ) : Type 0 where
+-- n range records stand from place p on, their ranges are sound, and their kind holds words as they are
+pub record OneRun (kind p n : ℕ) (b : List ℕ) : Type 0 where
   pub held : p + 21 * n ≤ length b
-  pub held-too : q + 21 * m ≤ length b
-  pub sound : Sound (entriesIn first 2 n (drop p b))
-  pub sound-too : Sound (entriesIn second 2 m (drop q b))
-  pub plain : AsTheyAre first
-  pub plain-too : AsTheyAre second
+  pub sound : Sound (entriesIn kind 2 n (drop p b))
+  pub plain : AsTheyAre kind
+
+-- the high end in the record k places on from p
+abbrev pub highIn : ℕ → List ℕ → ℕ → ℕ
+highIn p b k = num8 b (p + 21 * k + 11)

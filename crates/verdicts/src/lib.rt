@@ -2,18 +2,17 @@
 // outputs of a reading, and what can be asked of ranges in bytes.
 ghost use mathlib.Core.Path.{_≡_};
 ghost use Prim.Native.Nat.{_+_, _*_, _≤_, _<_};
-ghost use lib.Dec.{leb, ltb};
+ghost use lib.Dec.{ltb};
 ghost use lib.ListN.{length, drop};
-ghost use Rattle.entries.specs.Build.{andb};
 ghost use Rattle.entries.specs.Sets.{member};
 ghost use Rattle.entries.specs.Bulletins.{shareb};
 ghost use Rattle.answers.specs.Answers.{applies};
 ghost use Rattle.answers.specs.Steps.{FirstOf};
 ghost use Rattle.blocks.specs.Blocks.{capacity};
-ghost use Rattle.records.specs.Steps.{AsTheyAre};
+ghost use Rattle.searches.specs.Steps.{Rises, First};
 ghost use Rattle.runs.specs.Runs.{entriesIn};
 ghost use Rattle.verdicts.specs.Forms.{startSize, formRefusals, outRefusals};
-ghost use Rattle.verdicts.specs.Steps.{FormKind, TwoRuns, eachOf, behindStart};
+ghost use Rattle.verdicts.specs.Steps.{FormKind, OneRun, highIn, eachOf, behindStart};
 use answers::Finding;
 use blocks::Layout;
 use records::StartRead;
@@ -80,7 +79,7 @@ fn share_records(
     q: usize,
     m: usize,
 ) -> bool
-    requires { ⌜ TwoRuns first p n second q m (now bytes) ⌝ }
+    requires { ⌜ OneRun first p n (now bytes) × OneRun second q m (now bytes) ⌝ }
     ensures { λ r. ⌜ r ≡ shareb (entriesIn first 2 n (drop p (now (bytes .entry)))) (entriesIn second 2 m (drop q (now (bytes .entry)))) ⌝ }
 {
     let mut i = p;
@@ -207,29 +206,31 @@ pub fn out_refusal(form: Form, first: usize, n: usize, second: usize, m: usize) 
     }
 }
 
-// Whether x is in low..high.
-fn between(low: u64, x: u64, high: u64) -> bool
-    ensures { λ r. ⌜ r ≡ andb (leb low x) (leb x high) ⌝ }
+// [L1] The first of n ranges, in records from place `from` on, whose high is at least x, or n. These highs do not fall, and it is
+// found by halving, as in a block.
+fn first_ending(bytes: &[u8], from: usize, n: usize, x: u64) -> usize
+    requires { ⌜ (from + 21 * n ≤ length (now bytes)) × Rises (highIn from (now bytes)) n ⌝ }
+    ensures { λ r. ⌜ First (highIn from (now (bytes .entry))) n x r ⌝ }
 {
-    if low <= x {
-        return x <= high;
+    let mut low: usize = 0;
+    let mut high = n;
+    while low < high {
+        let middle = low + (high - low) / 2;
+        let under = numbers::get8(bytes, from + 21 * middle + 11) < x;
+        low = blocks::chosen(under, middle + 1, low);
+        high = blocks::chosen(under, high, middle);
     }
-    false
+    low
 }
 
-// Whether x is in one of the n ranges whose records begin at place `from`, of a kind that holds words as they are.
+// Whether x is in one of the n sound ranges whose records begin at place `from`, of a kind that holds words as they are.
 pub fn holds(bytes: &[u8], kind: u8, from: usize, n: usize, x: u64) -> bool
-    requires { ⌜ (from + 21 * n ≤ length (now bytes)) × AsTheyAre kind ⌝ }
+    requires { ⌜ OneRun kind from n (now bytes) ⌝ }
     ensures { λ r. ⌜ r ≡ member (entriesIn kind 2 n (drop from (now (bytes .entry)))) x ⌝ }
 {
-    let mut p = from;
-    let mut left = n;
-    while 0 < left {
-        if between(numbers::get8(bytes, p + 3), x, numbers::get8(bytes, p + 11)) {
-            return true;
-        }
-        p += 21;
-        left -= 1;
+    let i = first_ending(bytes, from, n, x);
+    if n <= i {
+        return false;
     }
-    false
+    numbers::get8(bytes, from + 21 * i + 3) <= x
 }

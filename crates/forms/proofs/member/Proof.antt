@@ -1,7 +1,7 @@
-use mathlib.Core.Path.{refl, sym, _∙_}
+use mathlib.Core.Path.{sym, _∙_}
 use mathlib.Core.Bool.{true, false}
 use Rattle.verdicts.proofs.Whole.{set-kind, start-long}
-use Rattle.forms.proofs.Reading.{member-refused, member-held, member-told}
+use Rattle.forms.proofs.Reading.{member-refused, member-run, member-told}
 use Rattle.verdicts.specs.Forms.{ofSet}
 use native.Mathlib.Omega.{arith}
 use borrow.Author.Needs.{needs}
@@ -25,10 +25,8 @@ get2-requires c κs = let f = c .before .before .judge-form .ensures in omega (
 holds-requires : tie.Need-holds-requires
 holds-requires c κs =
     let j = c .before .before .before .before in
-    let h = member-held (j .before .before .args .bytes .now) _ (j .judge-form .ensures) (λ i. omega (arith, j .before .shared-slice-known .given i))
-    (c .before .before .if1 .left) _
-    (c .wide .ensures ∙ c .before .get2 .ensures .0) in
-    (h, λ x. refl)
+    member-run (j .before .before .args .bytes .now) _ (j .judge-form .ensures) (λ i. omega (arith, j .before .shared-slice-known .given i))
+    (c .before .before .if1 .left) _ (c .wide .ensures ∙ c .before .get2 .ensures .0)
 
 returns-2 : tie.Need-returns-2
 returns-2 c =

@@ -18,10 +18,10 @@ abbrev μ-loop : tie.MeasureT-loop
 
 loop-holds : tie.Need-loop-holds Inv-loop μ-loop
 loop-holds c = let a = c .before .args in let s = c .before .pre in (
-  s .held,
-  s .held-too,
+  s .0 .held,
+  s .1 .held,
   all-left (in-bytes (a .first) (a .bytes .now)) (in-bytes
-      (a .second) (a .bytes .now)) (a .n) (a .p) (a .m) (a .q) (a .n) (a .m) refl refl (s .sound) (s .sound-too),
+      (a .second) (a .bytes .now)) (a .n) (a .p) (a .m) (a .q) (a .n) (a .m) refl refl (s .0 .sound) (s .1 .sound),
 )
 
 returns : tie.Need-returns Inv-loop μ-loop
@@ -38,7 +38,7 @@ loop-again c = let s = c .before .before .before .before .before .before .before
       omega arith,
       search needs,
       go-left u v (c .before .before .before .before .before .loop .inv .2) (omega arith) (omega arith) _ _
-          (c .before .before .get8 .ensures ∙ sym (s .pre .plain _)) (c .before .get82 .ensures ∙ sym (s .pre .plain-too _)) (c .if2 .taken),
+          (c .before .before .get8 .ensures ∙ sym (s .pre .0 .plain _)) (c .before .get82 .ensures ∙ sym (s .pre .1 .plain _)) (c .if2 .taken),
     )
 
 loop-again-2 : tie.Need-loop-again-2 Inv-loop μ-loop
@@ -50,8 +50,8 @@ loop-again-2 c =
     let v = in-bytes (a .second) (a .bytes .now) in (
       search needs,
       omega arith,
-      go-right u v (c8 .loop .inv .2) (omega arith) (omega arith) _ _ (c .before .before .get83 .ensures ∙ sym (c10 .pre .plain-too _))
-          (c .before .get84 .ensures ∙ sym (c10 .pre .plain _)) (c .if3 .taken),
+      go-right u v (c8 .loop .inv .2) (omega arith) (omega arith) _ _ (c .before .before .get83 .ensures ∙ sym (c10 .pre .1 .plain _))
+          (c .before .get84 .ensures ∙ sym (c10 .pre .0 .plain _)) (c .if3 .taken),
     )
 
 returns-2 : tie.Need-returns-2 Inv-loop μ-loop
@@ -61,9 +61,9 @@ returns-2 c =
     let a = c10 .args in
     let u = in-bytes (a .first) (a .bytes .now) in
     let v = in-bytes (a .second) (a .bytes .now) in
-    found u v (c8 .loop .inv .2) (omega arith) (omega arith) _ _ _ _ (c .before .before .before .before .before .get8 .ensures ∙ sym (c10 .pre .plain _))
-    (c .before .before .before .before .get82 .ensures ∙ sym (c10 .pre .plain-too _)) (c .before .before .get83 .ensures ∙ sym (c10 .pre .plain-too _))
-    (c .before .get84 .ensures ∙ sym (c10 .pre .plain _)) (c .before .before .before .if2 .left) (c .if3 .left)
+    found u v (c8 .loop .inv .2) (omega arith) (omega arith) _ _ _ _ (c .before .before .before .before .before .get8 .ensures ∙ sym (c10 .pre .0 .plain _))
+    (c .before .before .before .before .get82 .ensures ∙ sym (c10 .pre .1 .plain _)) (c .before .before .get83 .ensures ∙ sym (c10 .pre .1 .plain _))
+    (c .before .get84 .ensures ∙ sym (c10 .pre .0 .plain _)) (c .before .before .before .if2 .left) (c .if3 .left)
 
 returns-3 : tie.Need-returns-3 Inv-loop μ-loop
 returns-3 c = let a = c .before .before .before .args in
