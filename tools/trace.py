@@ -18,6 +18,7 @@ COLUMNS = ["definitions", "theorems", "edits", "tests", "code"]
 # What a requirement needs, by the letter of its number.
 NEEDS = {
     **{letter: ["definitions", "theorems", "edits", "tests"] for letter in "BRSFMUYKH"},
+    "L": ["theorems", "edits", "tests", "code"],
     "D": ["theorems"],
     "E": ["edits"],
     "N": ["tests"],
@@ -33,6 +34,7 @@ TESTS = [
     "crates/inputs/src/main.rt",
     "tests/c/member.c",
     "tests/differential/damage.py",
+    "tests/differential/generate.py",
 ]
 
 

@@ -241,6 +241,24 @@ def foreign_case(name, kind, seed):
     return Case(name, [b"".join([start, *other[1:]])] + blocks, args, placement=rng.randrange(2))
 
 
+# ---- at every place of a list
+
+
+def place_case(name, count, place, seed):
+    """[L1] A call that searches, on a list of so many items: for a number just below one of them, its low, its high, or just above it. Each
+    four places are an item's. A window or a change is of that number alone."""
+    rng = random.Random(seed)
+    items = shapes.fresh(rng, (kinds_of(name) or [SET])[0], count)
+    items = shapes.about_zero(rng, items) if is_signed(name) else items
+    low, high = items[place // 4][:2]
+    x = shapes.clipped([low - 1, low, high, high + 1][place % 4])
+    if name == "member":
+        return Case(name, [form_of(name, [items])], [x], placement=rng.randrange(2))
+    lists = [items] + some_lists(name, rng)[1:]
+    given = {"x": [x], "ab": [x, x], "abv": [x, x, shapes.number(rng)]}[ARGS_OF[name]]
+    return Case(name, [shapes.block(rng, kind, each) for kind, each in zip(kinds_of(name), lists)], as_given(name, given), placement=rng.randrange(2))
+
+
 # ---- keys by themselves
 
 

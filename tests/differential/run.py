@@ -3,7 +3,7 @@
     run.py [--cases N] [--seconds S] [--seed X] [--sample N] [--tally] [--replay FILE] -- DRIVER...
 
 DRIVER... is the command of the C program of driver.c. Without options the seed and the number of cases are fixed. With --cases or
---seconds and no --seed a seed is drawn, and printed first; the cases made for the refusals and the limits, about 10,600, are always
+--seconds and no --seed a seed is drawn, and printed first; the cases made for refusals, limits and searches, about 17,300, are always
 run. --sample N runs N cases of the fixed run, drawn by the seed, and asks nothing of the tally. --tally prints what was tried of each
 call. --replay runs one case that a mismatch left behind. The exit status is 1 on a mismatch, or if something was not tried.
 """
@@ -25,7 +25,7 @@ import wire
 CASES = 60000
 SEED = "1"
 PAIR_TIMES, SINGLE_TIMES, LIMIT_TIMES, FOREIGN_TIMES = 5, 5, 10, 20
-AT_LEAST = {"call": 10, "refusal": 5, "pair": PAIR_TIMES, "empty answer": 20, "refused foreign form": FOREIGN_TIMES // 2}
+AT_LEAST = {"call": 10, "refusal": 5, "pair": PAIR_TIMES, "empty answer": 20, "refused foreign form": FOREIGN_TIMES // 2, "searched place": 1}
 BATCH = 500
 KEPT = "build/differential-mismatch.json"
 NAMES = [name for name, _, _ in model.CALLS]
@@ -33,6 +33,9 @@ NAMES = [name for name, _, _ in model.CALLS]
 MAY_FIND_NOTHING = ["set_range_at", "set_size", "set_least_member", "set_least_non_member", "set_window"]
 MAY_FIND_NOTHING += ["signed_range_at", "signed_least_member", "signed_least_non_member", "signed_window", "key_difference"]
 MAY_FIND_NOTHING += ["map_look_up", "map_window", "map_site_over_factory"]
+# The calls that search a list for a number, and the places of lists with so many items: four for each item.
+SEARCHING = [name for name in NAMES if name == "member" or refusals.ARGS_OF.get(name) in ("x", "ab", "abv")]
+PLACES = [(count, place) for count in (1, 2, 3, 4, 5, 6, 7, 8, 9, 15, 16, 17) for place in range(4 * count)]
 # Each reading call with each kind of form that it does not read.
 FOREIGN = [(name, kind) for name in NAMES if refusals.reads_bytes(name) for kind in generate.FORMS if kind != generate.form_kind(name)]
 
@@ -46,13 +49,14 @@ def header_calls():
 
 def jobs(cases):
     """What to try, in short: the wanted refusals of each call, alone and in pairs, the limits, forms of another kind than the one that is
-    read, and random cases up to so many."""
+    read, every place of a list that is searched, and random cases up to so many."""
     listed = []
     for name in NAMES:
         listed += [("refusals", name, (x,), i) for x in refusals.refusals_of(name) for i in range(SINGLE_TIMES)]
         listed += [("refusals", name, pair, i) for pair in refusals.listed_pairs(name) for i in range(PAIR_TIMES)]
         listed += [("limit", name, (), i) for i in range(LIMIT_TIMES)]
     listed += [("foreign", name, (kind,), i) for name, kind in FOREIGN for i in range(FOREIGN_TIMES)]
+    listed += [("place", name, place, 0) for name in SEARCHING for place in PLACES]
     listed += [("random", NAMES[i % len(NAMES)], (), i // len(NAMES)) for i in range(max(0, cases - len(listed)))]
     return listed
 
@@ -65,23 +69,27 @@ def case_of(job, seed):
         return refusals.case_for(name, pair, own)
     if sort == "foreign":
         return generate.foreign_case(name, pair[0], own)
+    if sort == "place":
+        return generate.place_case(name, *pair, own)
     return generate.limit_case(name, own) if sort == "limit" else generate.random_case(name, own)
 
 
 class Tally:
-    """How often each call, each refusal of a call, each ordered pair of refusals and each empty answer was tried, and forms of another kind
-    that were refused as such."""
+    """How often each call, each refusal of a call, each ordered pair of refusals and each empty answer was tried, forms of another kind that
+    were refused as such, and each place of a list that was searched."""
 
     def __init__(self):
-        self.calls, self.refusals, self.pairs, self.nothing, self.foreign = (Counter() for _ in range(5))
+        self.calls, self.refusals, self.pairs, self.nothing, self.foreign, self.places = (Counter() for _ in range(6))
 
     def count(self, job, outcome):
         """Counts a case."""
         sort, name, pair, _ = job
         self.calls[name] += 1
         self.refusals[name, outcome[0] - 16 if outcome[0] >= 16 else 0] += 1
-        if len(pair) == 2:
+        if sort == "refusals" and len(pair) == 2:
             self.pairs[name, pair] += 1
+        if sort == "place":
+            self.places[name, pair] += 1
         if outcome[0] == 0 and name in MAY_FIND_NOTHING and outcome[1][1] == 0:
             self.nothing[name] += 1
         if sort == "foreign" and outcome[0] == 16 + 10:
@@ -95,6 +103,7 @@ class Tally:
         yield "pair", {(name, pair): self.pairs[name, pair] for name in NAMES for pair in refusals.listed_pairs(name)}
         yield "empty answer", {name: self.nothing[name] for name in MAY_FIND_NOTHING}
         yield "refused foreign form", {key: self.foreign[key] for key in FOREIGN}
+        yield "searched place", {(name, place): self.places[name, place] for name in SEARCHING for place in PLACES}
 
     def missing(self):
         """What was tried too seldom."""
