@@ -8,8 +8,8 @@ from pathlib import Path
 TOP = Path(__file__).resolve().parent.parent
 CONTENDERS = [("proved", "proved", "#0b5fa5", ""), ("plain", "plain C", "#c2571a", "5 3"), ("icl", "Boost.ICL", "#6b6b6b", "1.5 2.5")]
 # The most that a time may be of the plain C's, at the largest random inputs.
-OVER_PLAIN = {"judge": 1.6, "member": 1.5, "insert": 1.5, "union": 1.7, "intersection": 1.7, "difference": 1.7,
-              "symmetric difference": 1.7, "apply": 1.7, "read": 2.0, "write": 2.0}
+OVER_PLAIN = {"judge": 1.6, "member": 1.2, "insert": 1.5, "union": 1.7, "intersection": 1.7, "difference": 1.7,
+              "symmetric difference": 1.7, "apply": 1.7, "judge of bytes": 2.0, "member of bytes": 2.0, "read": 2.0, "write": 2.0}
 UNDER_ICL = 5.0
 GROWTH = 4.6
 
