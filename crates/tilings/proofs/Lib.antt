@@ -1,0 +1,9 @@
+pub mod Powers
+pub mod Taking
+pub mod Judging
+pub mod Tiles
+pub mod Fewest
+pub mod Greedy
+pub mod Cutting
+pub mod Blocks
+pub mod Most

@@ -1,0 +1,1 @@
+// The theory of prefix blocks: see specs/. No code.
