@@ -22,4 +22,5 @@ pub mod Chains
 pub mod Outcomes
 pub mod FitOutcomes
 pub mod BulletinOutcomes
+pub mod Prefixes
 pub mod Table

@@ -17,6 +17,8 @@ use Rattle.edits.specs.Calls.{editCall}
 use Rattle.sets.specs.Calls.{memberCall, sizeCall, leastNonMemberCall, insertCall, removeCall, unionCall, complementCall}
 use Rattle.fits.specs.Fits.{gaps, placeIn}
 use Rattle.fits.specs.Calls.{fitCall, reserveCall, firstFitCall, bestFitCall, reserveFirstCall, reserveBestCall}
+use Rattle.tilings.specs.Prefixes.{largest, taken, prefixes, audit}
+use Rattle.prefixes.specs.Calls.{prefixCall, auditCall}
 use Rattle.maps.specs.Calls.{assignCall}
 use Rattle.entries.specs.Sets.{symmetricDifference}
 use Rattle.entries.specs.Maps.{overlay, restriction, domain}
@@ -102,6 +104,24 @@ oneEach =
     0xC5 ∷ 0x3A ∷ 3 ∷ 0 ∷ 1 ∷ 0 ∷ 1 ∷ 0x13 ∷ 5
     ∷ 0xC5 ∷ 0x3A ∷ 0x12 ∷ 0 ∷ 0 ∷ 0 ∷ 0 ∷ 0 ∷ 0 ∷ 0 ∷ 1 ∷ 0 ∷ 0 ∷ 0 ∷ 0 ∷ 0 ∷ 0 ∷ 0 ∷ 4 ∷ 0x40 ∷ 0x17
     ∷ 0xC5 ∷ 0x3A ∷ 0x13 ∷ 0 ∷ 0 ∷ 0 ∷ 0 ∷ 0 ∷ 0 ∷ 0 ∷ 9 ∷ 0 ∷ 0 ∷ 0 ∷ 0 ∷ 0 ∷ 0 ∷ 0 ∷ 9 ∷ 0x9E ∷ 0x25 ∷ []
+
+-- the sets {5..9} and {0..0, 2..3, M..M}, and their prefix blocks
+abbrev fiveToNine : List ℕ
+fiveToNine = 1 ∷ 5 ∷ 9 ∷ []
+
+abbrev blocksOfFive : List ℕ
+blocksOfFive = 3 ∷ 5 ∷ 0 ∷ 6 ∷ 1 ∷ 8 ∷ 1 ∷ []
+
+abbrev bothEnds : List ℕ
+bothEnds = 3 ∷ 0 ∷ 0 ∷ 2 ∷ 3 ∷ M ∷ M ∷ []
+
+abbrev blocksOfEnds : List ℕ
+blocksOfEnds = 3 ∷ 0 ∷ 0 ∷ 2 ∷ 1 ∷ M ∷ 0 ∷ 0 ∷ 0 ∷ []
+
+-- word 0 of the one block that a call has left
+abbrev firstWord : Outcome → Outcome
+firstWord (outcome a []) = answer []
+firstWord (outcome a (w ∷ ws)) = answer (take 1 w)
 
 -- keys below 0, from 1 on
 abbrev less : ℕ → ℤ
@@ -337,6 +357,30 @@ table =
     ∷ case (readSignedCall H (7 ∷ 7 ∷ 7 ∷ [])) (refusing 10 0 (7 ∷ 7 ∷ 7 ∷ []))
     ∷ case (readSignedCall (take 7 keyBytes ++ drop 7 H) (7 ∷ [])) (refusing 10 7 (7 ∷ []))
     ∷ case (readSetCall (take 7 H ++ drop 7 keyBytes) (7 ∷ [])) (refusing 10 7 (7 ∷ []))
+    -- [P3, P1] prefix blocks: 0..M is the one pair (0, 64), and {5..9} is 5, 6..7 and 8..9; the empty set has none; ends at 0 and at M
+    ∷ case (prefixCall (1 ∷ 0 ∷ M ∷ []) (7 ∷ 7 ∷ 7 ∷ [])) (accepted (1 ∷ 0 ∷ 64 ∷ []))
+    ∷ case (prefixCall fiveToNine (replicate 7 9)) (accepted blocksOfFive)
+    ∷ case (prefixCall (0 ∷ []) (7 ∷ [])) (accepted (0 ∷ []))
+    ∷ case (prefixCall bothEnds (replicate 9 7)) (accepted blocksOfEnds)
+    -- [P3, P4] {1..M-1} has 126 blocks, the most that one range has: 252 words have no room for them, 253 have
+    ∷ case (prefixCall (1 ∷ 1 ∷ lessM ∷ []) (replicate 252 7)) (refusing 5 1 (replicate 252 7))
+    ∷ case (firstWord (prefixCall (1 ∷ 1 ∷ lessM ∷ []) (replicate 253 7))) (answer (126 ∷ []))
+    -- [P7] three blocks into 6 words are refused 5, into 8 leave the odd last word 0; the set is judged first, then the output
+    ∷ case (prefixCall fiveToNine (replicate 6 7)) (refusing 5 1 (replicate 6 7))
+    ∷ case (prefixCall fiveToNine (replicate 8 7)) (accepted (blocksOfFive ++ (0 ∷ [])))
+    ∷ case (prefixCall (1 ∷ 9 ∷ 5 ∷ []) []) (refusing 3 0 [])
+    ∷ case (prefixCall fiveToNine []) (refusing 1 1 [])
+    -- [P5, P6] and by the plain method for audit the same
+    ∷ case (auditCall (1 ∷ 0 ∷ M ∷ []) (7 ∷ 7 ∷ 7 ∷ [])) (accepted (1 ∷ 0 ∷ 64 ∷ []))
+    ∷ case (auditCall fiveToNine (replicate 7 9)) (accepted blocksOfFive)
+    ∷ case (auditCall (0 ∷ []) (7 ∷ [])) (accepted (0 ∷ []))
+    ∷ case (auditCall bothEnds (replicate 9 7)) (accepted blocksOfEnds)
+    ∷ case (auditCall (1 ∷ 1 ∷ lessM ∷ []) (replicate 252 7)) (refusing 5 1 (replicate 252 7))
+    ∷ case (firstWord (auditCall (1 ∷ 1 ∷ lessM ∷ []) (replicate 253 7))) (answer (126 ∷ []))
+    ∷ case (auditCall fiveToNine (replicate 6 7)) (refusing 5 1 (replicate 6 7))
+    ∷ case (auditCall fiveToNine (replicate 8 7)) (accepted (blocksOfFive ++ (0 ∷ [])))
+    ∷ case (auditCall (1 ∷ 9 ∷ 5 ∷ []) []) (refusing 3 0 [])
+    ∷ case (auditCall fiveToNine []) (refusing 1 1 [])
     -- [G7] the refusal and the answer of a number, and the number of a reason
     ∷ case (outcome (refusalSays (refusalOf 11 7)) []) (outcome (refused 11 7) [])
     ∷ case (outcome (judgedSays (judgedOf 5 2)) []) (outcome (refused 5 2) [])
@@ -351,4 +395,5 @@ unfolding editCall verdict put blockOf memberCall sizeCall leastNonMemberCall un
     makeEmptyCall rangeAtCall leastMemberCall windowCall windowAtCall windowRefusalCall equalCall withinCall disjointCall intersectionCall
     differenceCall symmetricDifferenceCall symmetricDifference lookUpCall overlayCall overlay restrictionCall restriction domainCall domain
     siteOverFactoryCall siteOverFactoryAtCall siteRefusalCall
+    prefixCall auditCall prefixes taken largest audit
 worked = refl

@@ -5,5 +5,6 @@ pub mod Changes
 pub mod Fits
 pub mod Stored
 pub mod Signed
+pub mod Prefixes
 pub mod Bytes
 pub mod Bulletins
