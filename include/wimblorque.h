@@ -14,6 +14,11 @@
    both signed, or neither): wimblorque_set_make_empty, _size, _equal, _within, _disjoint, _union, _intersection, _difference,
    _symmetric_difference and _complement. Sizes and limits are those of a set, in words and in bytes. A block of zeros is empty.
 
+   PREFIX BLOCKS. A prefix block is what a label scanner takes as a filter: 2^e numbers from a multiple of 2^e on, e from 0 to 64, which
+   are the numbers whose upper 64 - e bits are those of the first one. wimblorque_set_prefix_blocks makes the list of a set's prefix
+   blocks. It stands in an array of words as ranges do, word 0 the count and then a pair for each, its start and its e; but it is no
+   set, and no call takes it as an input. An output of L words has room for (L-1)/2 pairs: the limit of 4,095 is that of sets.
+
    ANSWERS. Every call returns a wimblorque_answer, but wimblorque_member, wimblorque_key_of_word and wimblorque_word_of_key:
      status   0 if the call was accepted, else 16 plus the number of the refusal (the constants below). A refused call changes no word
               or byte lent to it.
@@ -43,8 +48,8 @@
 
 /* The version, here and nowhere else: CHANGELOG.md says what changed, and ./install writes it into wimblorque.pc. */
 #define WIMBLORQUE_VERSION_MAJOR 1
-#define WIMBLORQUE_VERSION_MINOR 1
-#define WIMBLORQUE_VERSION_PATCH 1
+#define WIMBLORQUE_VERSION_MINOR 2
+#define WIMBLORQUE_VERSION_PATCH 0
 #define WIMBLORQUE_TEXT_OF(x) #x
 #define WIMBLORQUE_DOTTED(x, y, z) WIMBLORQUE_TEXT_OF(x) "." WIMBLORQUE_TEXT_OF(y) "." WIMBLORQUE_TEXT_OF(z)
 #define WIMBLORQUE_VERSION WIMBLORQUE_DOTTED(WIMBLORQUE_VERSION_MAJOR, WIMBLORQUE_VERSION_MINOR, WIMBLORQUE_VERSION_PATCH)
@@ -73,17 +78,24 @@
 
 #define WIMBLORQUE_MOST_RANGES 4095  /* of a set, signed or not, and of each of a bulletin's two sets */
 #define WIMBLORQUE_MOST_ENTRIES 2730 /* of a map */
+#define WIMBLORQUE_MOST_PREFIXES 126 /* prefix blocks that one range can have: {1..2^64 - 2} has them */
 
 /* The words of the shortest block with room for n ranges, for n entries. All that is said of sets here is true of signed sets. */
 #define WIMBLORQUE_SET_WORDS(n) (1 + 2 * (size_t)(n))
 #define WIMBLORQUE_MAP_WORDS(n) (1 + 3 * (size_t)(n))
 
-/* How many ranges, how many entries a block of so many words has room for. A block of no words is always refused: 0. */
+/* The words of the shortest output with room for n prefix blocks; and of one with room for those of any set of r ranges, 1 + 252 r.
+   Most sets need fewer: a range whose length has k binary digits has at most 2k - 2 prefix blocks (k at least 2; one number has one). */
+#define WIMBLORQUE_PREFIX_WORDS(n) (1 + 2 * (size_t)(n))
+#define WIMBLORQUE_PREFIX_WORDS_OF(r) WIMBLORQUE_PREFIX_WORDS(WIMBLORQUE_MOST_PREFIXES * (size_t)(r))
+
+/* How many ranges, entries, prefix blocks a block of so many words has room for. A block of no words is always refused: 0. */
 #define WIMBLORQUE_LESSER(a, b) ((a) < (b) ? (a) : (b))
 #define WIMBLORQUE_ROOM_IN(words, item, most) \
     ((size_t)(words) == 0 ? 0 : WIMBLORQUE_LESSER(((size_t)(words) - 1) / (item), (size_t)(most)))
 #define WIMBLORQUE_SET_CAPACITY(words) WIMBLORQUE_ROOM_IN(words, 2, WIMBLORQUE_MOST_RANGES)
 #define WIMBLORQUE_MAP_CAPACITY(words) WIMBLORQUE_ROOM_IN(words, 3, WIMBLORQUE_MOST_ENTRIES)
+#define WIMBLORQUE_PREFIX_CAPACITY(words) WIMBLORQUE_ROOM_IN(words, 2, SIZE_MAX)
 
 /* The bytes of a record: the start of a set, of a map, of a bulletin; a range of a set or of a bulletin; an entry of a map. */
 #define WIMBLORQUE_SET_START_BYTES 7
@@ -198,6 +210,29 @@ WIMBLORQUE_MUST_USE wimblorque_answer wimblorque_set_symmetric_difference(const 
 /* The numbers from 0 to 2^64 - 1 that are not in the set; of a signed set, all other keys. out must be another block. */
 WIMBLORQUE_MUST_USE wimblorque_answer wimblorque_set_complement(const uint64_t *set, size_t words,
     uint64_t *WIMBLORQUE_RESTRICT out, size_t out_words);
+
+/* ---- Sets: as prefix blocks, for label scanners. No values. Accepted, word 0 of the output is how many prefix blocks there are, prefix
+   block i is words 1+2i, its start, and 2+2i, its e, and every later word is 0. The output's old words are not judged.
+   Refused with 1, 2, 3 of the set, then 1 of the output, then 5 if there are more than (out_words - 1) / 2 prefix blocks. Blocks: set 0,
+   out 1. ---- */
+
+/* The fewest prefix blocks that name exactly the numbers of the set, in rising order; all numbers are the one pair 0, 64. From each
+   range the largest prefix block that fits is taken, repeatedly. An output that is too small is refused and stays as it was. How many
+   words are enough, WIMBLORQUE_PREFIX_WORDS_OF says; into fewer, the prefix blocks are counted first. out must be another block. */
+WIMBLORQUE_MUST_USE wimblorque_answer wimblorque_set_prefix_blocks(const uint64_t *set, size_t words,
+    uint64_t *WIMBLORQUE_RESTRICT out, size_t out_words);
+
+/* The same prefix blocks, found in another way, for an audit: from all numbers on, a prefix block wholly in the set is kept, one wholly
+   out is dropped, one partly in is cut into its two halves. It leaves the same words and gives the same refusals; it takes longer, and
+   more stack, since it calls itself up to 64 times deep (README.md has the numbers). out must be another block. */
+WIMBLORQUE_MUST_USE wimblorque_answer wimblorque_set_audit_blocks(const uint64_t *set, size_t words,
+    uint64_t *WIMBLORQUE_RESTRICT out, size_t out_words);
+
+/* The last number of the prefix block of 2^e numbers from start on, as a pair holds them. Where e is 64, which a shift in C must not be
+   by, it is the last of all. */
+WIMBLORQUE_MUST_USE static inline uint64_t wimblorque_prefix_last(uint64_t start, uint64_t e) {
+    return e < 64 ? start + (((uint64_t)1 << e) - 1) : UINT64_MAX;
+}
 
 /* ---- Sets: room for a run of k numbers of the window a..b that are not members.
    Refused with 1, 2, 3, then 4, then 6, then 7; a reservation then also with 5, for the place that was chosen. ---- */

@@ -1,4 +1,4 @@
-"""Random cases of every call, and cases at the limits of 4,095 ranges and 2,730 entries."""
+"""Random cases of every call, cases at the limits of 4,095 ranges and 2,730 entries, and cases of prefix blocks."""
 
 import random
 
@@ -6,7 +6,7 @@ import model
 import refusals
 import shapes
 from model import HALF, LIMIT, M, MAP, SET
-from refusals import ARGS_OF, as_given, bulletins_of, form_of, is_signed, kinds_of, letters_of, reads_bytes
+from refusals import ARGS_OF, PREFIXES, as_given, bulletins_of, form_of, is_signed, kinds_of, letters_of, reads_bytes, widest
 from wire import Case
 
 COUNTS = [0, 1, 1, 2, 2, 3, 3, 4, 5, 6, 8, 12, 30]
@@ -19,6 +19,8 @@ def some_lists(name, rng):
     for kind in kinds:
         if lists and kind == kinds[0] and rng.random() < 0.08:
             lists.append(lists[0])
+        elif name in PREFIXES and rng.random() < 0.6:
+            lists.append(shapes.aligned(rng, rng.choice(COUNTS)))
         else:
             lists.append(shapes.some_items(rng, kind, rng.choice(COUNTS), lists))
     for released, withdrawn in bulletins_of(name):
@@ -112,8 +114,7 @@ def word_case(name, rng):
     counts = [0] * (len(kinds) - len(lists))
     blocks, same = one_memory(rng, name, blocks)
     if counts:
-        widest = 1 + MAP * (2 * sum(map(len, lists)) + 40)
-        status, _, after = model.run(name, blocks + [[0] * widest for _ in counts], args)
+        status, _, after = model.run(name, blocks + [[0] * (widest(name, lists) + 120) for _ in counts], args)
         counts = [out[0] if status == 0 else rng.randrange(4) for out in after[len(blocks) :]]
     blocks += [some_output(rng, kind, count) for kind, count in zip(kinds[len(lists) :], counts)]
     if ARGS_OF.get(name) == "p":
@@ -259,6 +260,52 @@ def place_case(name, count, place, seed):
     return Case(name, [shapes.block(rng, kind, each) for kind, each in zip(kinds_of(name), lists)], as_given(name, given), placement=rng.randrange(2))
 
 
+# ---- prefix blocks
+
+
+ENOUGH = "enough"  # an output with as many words as are enough for any set of so many ranges, 126 pairs a range, or one beside
+
+
+def pairs_case(name, rng, ranges, lent, more):
+    """A call on these ranges, lent so, into an output with so many words more than its pairs need, or with enough for any."""
+    words = 252 * len(ranges) + rng.choice([0, 1, 2]) if more == ENOUGH else 1 + 2 * len(model.prefixes(ranges)) + more
+    out = shapes.garbage(rng, max(0, words))
+    return Case(name, [lent, out], placement=rng.randrange(2))
+
+
+def power_case(name, e, i, j, seed):
+    """[P1, P3, P4, P6] A range about one prefix block of 2^e numbers, at 0, at M or anywhere: from its first number plus i to its last plus j.
+    The output has exactly enough words, a word fewer or more, or enough for any range, or a word beside."""
+    rng = random.Random(seed)
+    start = rng.choice([0, 2**64 - 2**e, rng.getrandbits(64) >> e << e])
+    low, high = max(0, start + i), min(M, start + 2**e - 1 + j)
+    ranges = [(low, high)] if low <= high else []
+    return pairs_case(name, rng, ranges, shapes.block(rng, SET, ranges), rng.choice([-1, 0, 0, 1, 8, ENOUGH, ENOUGH]))
+
+
+MANY = ["full", "wide", 4095, 4096, 4097]
+
+
+def many_pairs(way, rng):
+    """Ranges with many prefix blocks: as many ranges as a set may have; some that are wide; or with exactly so many, from 4,095 to 4,097."""
+    if way == "full":
+        return shapes.fresh(rng, SET, LIMIT[SET] - rng.choice([0, 0, 1]), rng.choice([2, 3, 40]))
+    if way == "wide":
+        n = rng.randrange(100, 130)
+        return shapes.fresh(rng, SET, n, M // (3 * n + 3))
+    singles = [(2 * x, 2 * x) for x in range(4094)]
+    return singles + [(2**40 + 5, 2**40 + 5 + 2 * (way - 4095))]  # 5, 5..7 or 5..9 from 2^40 on: one, two or three more
+
+
+def long_case(name, way, more, seed):
+    """[P2, P7] Many prefix blocks: into an output with so many words more than they need, or with as many as a full set has."""
+    rng = random.Random(seed)
+    ranges = many_pairs(way, rng)
+    if more is None:
+        return Case(name, [long_memory(rng, SET, ranges), long_memory(rng, SET, [])], placement=rng.randrange(2))
+    return pairs_case(name, rng, ranges, shapes.block(rng, SET, ranges), more)
+
+
 # ---- keys by themselves
 
 
@@ -311,6 +358,8 @@ def limit_case(name, seed):
     kinds, letters = kinds_of(name), letters_of(name)
     if not letters:
         return key_case(name, rng)
+    if name in PREFIXES:
+        return long_case(name, rng.choice(MANY), None, seed)
     if reads_bytes(name):
         kind = MAP if name.startswith("map") else SET
         items = shapes.fresh(rng, kind, LIMIT[kind] + rng.choice([0, 0, 0, 1, -1]))

@@ -176,6 +176,39 @@ def fit(best, ranges, a, b, k):
     return min(wide)[1] if best else min(low for _, low in wide)
 
 
+# ---- prefix blocks, as pairs (start, e): 2^e numbers from a multiple of 2^e on
+
+
+def largest(low, left):
+    """The exponent of the largest one at the low end of `left` numbers: its size divides the low end, and is at most what is left."""
+    e = 0
+    while low % 2 ** (e + 1) == 0 and 2 ** (e + 1) <= left:
+        e += 1
+    return e
+
+
+def prefixes(ranges):
+    """Those of a set: from each range the largest that fits, repeatedly."""
+    pairs = []
+    for low, high in ranges:
+        while low <= high:
+            e = largest(low, high - low + 1)
+            pairs.append((low, e))
+            low += 2**e
+    return pairs
+
+
+def audited(ranges, start=0, e=64):
+    """The plain method, on the 2^e numbers from `start` on: wholly in they are kept, wholly out dropped, partly in cut into two halves."""
+    last = start + 2**e - 1
+    inside = [(max(low, start), min(high, last)) for low, high in ranges if low <= last and start <= high]
+    if not inside:
+        return []
+    if inside == [(start, last)]:
+        return [(start, e)]
+    return audited(inside, start, e - 1) + audited(inside, start + 2 ** (e - 1), e - 1)
+
+
 def in_order(a, b):
     """Refusal 4."""
     if a > b:
@@ -301,6 +334,22 @@ def into_output(kinds, operation):
         result = operation(*lists)
         has_room(kinds[-1], out, result, position)
         store(out, result)
+        return []
+
+    return call
+
+
+def as_pairs(method):
+    """A call that gives the prefix blocks of a set: 1, 2, 3 of the set, then 1 of the output, then 5, with no limit but its words."""
+
+    def call(block, out):
+        """The set, and the output of pairs."""
+        ranges = judged(SET, block, 0)
+        has_words(out, 1)
+        pairs = method(ranges)
+        if len(pairs) > (len(out) - 1) // 2:
+            raise Refused(5, 1)
+        store(out, pairs)
         return []
 
     return call
@@ -684,6 +733,8 @@ CALLS = [
     ("set_difference", into_output((SET, SET, SET), difference), "iio"),
     ("set_symmetric_difference", into_output((SET, SET, SET), symmetric_difference), "iio"),
     ("set_complement", into_output((SET, SET), complement), "io"),
+    ("set_prefix_blocks", as_pairs(prefixes), "io"),
+    ("set_audit_blocks", as_pairs(audited), "io"),
     ("set_first_fit", set_first_fit, "ixxx"),
     ("set_best_fit", set_best_fit, "ixxx"),
     ("set_reserve_first", set_reserve_first, "cxxx"),

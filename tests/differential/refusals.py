@@ -19,6 +19,7 @@ ARGS |= {"abk": ["set_first_fit", "set_best_fit", "set_reserve_first", "set_rese
 ARGS |= {"p": ["set_write", "map_write", "bulletin_write"]}
 ARGS_OF = {name: style for style, names in ARGS.items() for name in names}
 ARGS_OF |= {"signed" + name[3:]: style for name, style in ARGS_OF.items() if name.startswith("set") and "signed" + name[3:] in model.LENT}
+PREFIXES = ("set_prefix_blocks", "set_audit_blocks")
 RECORDS = ("start", "item", "later")
 OF_RECORD = ("8<", 9, 10, 8, 11, 12)
 TRIES = 400
@@ -103,7 +104,7 @@ def listed_pairs(name):
 def base_lists(name, rng):
     """Sound inputs with something in them, in words; a bulletin's two sets share nothing."""
     kinds = kinds_of(name)[: sum(letter in "ic" for letter in letters_of(name))]
-    lists = [shapes.fresh(rng, kinds[0], rng.randrange(2, 6))]
+    lists = [shapes.aligned(rng, 3) if name in PREFIXES and rng.random() < 0.5 else shapes.fresh(rng, kinds[0], rng.randrange(2, 6))]
     if is_signed(name):
         lists = [shapes.about_zero(rng, lists[0])]
     for kind in kinds[1:]:
@@ -185,14 +186,19 @@ def output_block(kind, count, position, wants, rng):
     return shapes.room_for(rng, kind, count + rng.choice([0, 0, 1, 3]))
 
 
+def widest(name, lists):
+    """The words of an output with room for whatever these lists give."""
+    ranges = sum(map(len, lists))
+    return 1 + (2 * 126 * ranges if name in PREFIXES else MAP * (2 * ranges + 2))
+
+
 def result_counts(name, lists, args):
     """How many items each output gets, where there is room."""
     kinds = kinds_of(name)
     outputs = len(kinds) - len(lists)
     if outputs == 0:
         return []
-    widest = 1 + MAP * (2 * sum(map(len, lists)) + 2)
-    _, _, after = model.run(name, [shapes.words(items) for items in lists] + [[0] * widest] * outputs, args)
+    _, _, after = model.run(name, [shapes.words(items) for items in lists] + [[0] * widest(name, lists)] * outputs, args)
     return [out[0] for out in after[len(lists) :]]
 
 

@@ -3,8 +3,8 @@
     run.py [--cases N] [--seconds S] [--seed X] [--sample N] [--tally] [--replay FILE] -- DRIVER...
 
 DRIVER... is the command of the C program of driver.c. Without options the seed and the number of cases are fixed. With --cases or
---seconds and no --seed a seed is drawn, and printed first; the cases made for refusals, limits and searches, about 17,300, are always
-run. --sample N runs N cases of the fixed run, drawn by the seed, and asks nothing of the tally. --tally prints what was tried of each
+--seconds and no --seed a seed is drawn, and printed first; the cases made for refusals, limits, searches and prefix blocks, about 18,700,
+are always run. --sample N runs N cases of the fixed run, drawn by the seed, and asks nothing of the tally. --tally prints what was tried of each
 call. --replay runs one case that a mismatch left behind. The exit status is 1 on a mismatch, or if something was not tried.
 """
 
@@ -26,6 +26,7 @@ CASES = 60000
 SEED = "1"
 PAIR_TIMES, SINGLE_TIMES, LIMIT_TIMES, FOREIGN_TIMES = 5, 5, 10, 20
 AT_LEAST = {"call": 10, "refusal": 5, "pair": PAIR_TIMES, "empty answer": 20, "refused foreign form": FOREIGN_TIMES // 2, "searched place": 1}
+AT_LEAST |= {"aligned range": 1, "long output": 10}
 BATCH = 500
 KEPT = "build/differential-mismatch.json"
 NAMES = [name for name, _, _ in model.CALLS]
@@ -36,6 +37,10 @@ MAY_FIND_NOTHING += ["map_look_up", "map_window", "map_site_over_factory"]
 # The calls that search a list for a number, and the places of lists with so many items: four for each item.
 SEARCHING = [name for name in NAMES if name == "member" or refusals.ARGS_OF.get(name) in ("x", "ab", "abv")]
 PLACES = [(count, place) for count in (1, 2, 3, 4, 5, 6, 7, 8, 9, 15, 16, 17) for place in range(4 * count)]
+# The ranges about a prefix block of 2^e numbers, with ends at its own or one beside them; and the long outputs of prefix blocks: which
+# ranges, and how many words more than they need, or as many as a full set has.
+POWERS = [(e, i, j) for e in range(65) for i in (-1, 0, 1) for j in (-1, 0, 1)]
+LONG = [(way, more) for way in generate.MANY for more in (-2, -1, 0, 1, 2, None)]
 # Each reading call with each kind of form that it does not read.
 FOREIGN = [(name, kind) for name in NAMES if refusals.reads_bytes(name) for kind in generate.FORMS if kind != generate.form_kind(name)]
 
@@ -49,7 +54,7 @@ def header_calls():
 
 def jobs(cases):
     """What to try, in short: the wanted refusals of each call, alone and in pairs, the limits, forms of another kind than the one that is
-    read, every place of a list that is searched, and random cases up to so many."""
+    read, every place of a list that is searched, prefix blocks at every power of two and many of them, and random cases up to so many."""
     listed = []
     for name in NAMES:
         listed += [("refusals", name, (x,), i) for x in refusals.refusals_of(name) for i in range(SINGLE_TIMES)]
@@ -57,6 +62,8 @@ def jobs(cases):
         listed += [("limit", name, (), i) for i in range(LIMIT_TIMES)]
     listed += [("foreign", name, (kind,), i) for name, kind in FOREIGN for i in range(FOREIGN_TIMES)]
     listed += [("place", name, place, 0) for name in SEARCHING for place in PLACES]
+    listed += [("power", name, power, 0) for name in refusals.PREFIXES for power in POWERS]
+    listed += [("long", name, long, 0) for name in refusals.PREFIXES for long in LONG]
     listed += [("random", NAMES[i % len(NAMES)], (), i // len(NAMES)) for i in range(max(0, cases - len(listed)))]
     return listed
 
@@ -69,17 +76,19 @@ def case_of(job, seed):
         return refusals.case_for(name, pair, own)
     if sort == "foreign":
         return generate.foreign_case(name, pair[0], own)
-    if sort == "place":
-        return generate.place_case(name, *pair, own)
+    if sort in ("place", "power", "long"):
+        return {"place": generate.place_case, "power": generate.power_case, "long": generate.long_case}[sort](name, *pair, own)
     return generate.limit_case(name, own) if sort == "limit" else generate.random_case(name, own)
 
 
 class Tally:
     """How often each call, each refusal of a call, each ordered pair of refusals and each empty answer was tried, forms of another kind that
-    were refused as such, and each place of a list that was searched."""
+    were refused as such, each place of a list that was searched, prefix blocks at each power of two, and more of them than a set can hold
+    ranges."""
 
     def __init__(self):
         self.calls, self.refusals, self.pairs, self.nothing, self.foreign, self.places = (Counter() for _ in range(6))
+        self.powers, self.long = Counter(), Counter()
 
     def count(self, job, outcome):
         """Counts a case."""
@@ -90,6 +99,10 @@ class Tally:
             self.pairs[name, pair] += 1
         if sort == "place":
             self.places[name, pair] += 1
+        if sort == "power":
+            self.powers[name, pair] += 1
+        if name in refusals.PREFIXES and outcome[0] == 0 and outcome[2][1][0] > model.LIMIT[model.SET]:
+            self.long[name] += 1
         if outcome[0] == 0 and name in MAY_FIND_NOTHING and outcome[1][1] == 0:
             self.nothing[name] += 1
         if sort == "foreign" and outcome[0] == 16 + 10:
@@ -104,6 +117,8 @@ class Tally:
         yield "empty answer", {name: self.nothing[name] for name in MAY_FIND_NOTHING}
         yield "refused foreign form", {key: self.foreign[key] for key in FOREIGN}
         yield "searched place", {(name, place): self.places[name, place] for name in SEARCHING for place in PLACES}
+        yield "aligned range", {(name, power): self.powers[name, power] for name in refusals.PREFIXES for power in POWERS}
+        yield "long output", {name: self.long[name] for name in refusals.PREFIXES}
 
     def missing(self):
         """What was tried too seldom."""

@@ -2,7 +2,9 @@
 
 The line 0..M is cut into 17 or 18 cells, all but one or two of them a single number: the single numbers stand at the line's low end,
 at its high end, at both, or in its middle, and the wide cells are all the rest. A set is then a Python set of cells, a map a dict from
-cells to values, and every answer is found by trying cells one by one. The line of the signed sets is -2^63..2^63 - 1, cut alike.
+cells to values, and every answer is found by trying cells one by one. The line of the signed sets is -2^63..2^63 - 1, cut alike. For
+prefix blocks a short line of 8 or 16 numbers is laid into the long one, at its ends and over all of it, and every list of prefix blocks
+there is tried.
 """
 
 import random
@@ -290,6 +292,86 @@ def check_against_brute_force(rounds, seed):
         check_written([("map", line.block(upper))])
 
 
+def fewest(width):
+    """Of a line of 2^width numbers: every set that blocks can name, as bits, with how few of them do. Every list of blocks is tried, in
+    any order and overlapping or not: from the sets that k of them name, those that one more names with them."""
+    blocks = [(2 ** 2**e - 1) << start for e in range(width + 1) for start in range(0, 2**width, 2**e)]
+    found, last, count = {0: 0}, {0}, 0
+    while last:
+        count += 1
+        last = {named | block for named in last for block in blocks} - found.keys()
+        found |= dict.fromkeys(last, count)
+    return found
+
+
+def runs_of(bits, width):
+    """The runs of a set of numbers of a short line."""
+    line = Line([1] * 2**width + [M + 1 - 2**width])
+    return line.runs({x for x in range(2**width) if bits >> x & 1})
+
+
+def check_pairs(ranges, few):
+    """Both methods give the same prefix blocks of a set, in order and each as it must be; they name the set; there are so few of them."""
+    for name in ("set_prefix_blocks", "set_audit_blocks"):
+        block = [len(ranges)] + [end for each in ranges for end in each]
+        status, _, (_, out) = model.run(name, [block, [9] * (2 * few + 4)], [])
+        expect(f"{name} of {ranges}: status", status, 0)
+        pairs = list(zip(out[1::2], out[2::2]))[: out[0]]
+        expect(f"{name} of {ranges}: the later words", out[2 * out[0] + 1 :], [0] * (2 * few + 3 - 2 * out[0]))
+        expect(f"{name} of {ranges}: multiples", [s % 2**e for s, e in pairs], [0] * len(pairs))
+        joined = []
+        for start, e in pairs:
+            low = joined.pop()[0] if joined and joined[-1][1] + 1 == start else start
+            joined.append([low, start + 2**e - 1])
+        expect(f"{name} of {ranges}: the numbers named", joined, [list(each) for each in ranges])
+        expect(f"{name} of {ranges}: how many", len(pairs), few)
+        if few:
+            expect(f"{name} of {ranges}: no room", written(name, [block, [9] * (2 * few)]), 5)
+
+
+def check_prefixes(sample):
+    """Every set of 8 numbers, and so many of 16: at both ends of the line, anywhere, and with every number made 2^61 or 2^60 of them."""
+    rng = random.Random(20260301)
+    for width, sets in ((3, range(2**8)), (4, [rng.randrange(2**16) for _ in range(sample)])):
+        few = fewest(width)
+        expect("sets of a short line that blocks name", len(few), 2 ** 2**width)
+        for bits in sets:
+            runs, wide = runs_of(bits, width), 2 ** (64 - width)
+            for base in (0, M + 1 - 2**width, rng.getrandbits(64) >> width << width):
+                check_pairs([(base + low, base + high) for low, high in runs], few[bits])
+            check_pairs([(low * wide, (high + 1) * wide - 1) for low, high in runs], few[bits])
+
+
+def check_most_prefixes():
+    """Of every range of a line of 256 numbers: it has at most 2k - 2 prefix blocks, where its length has k binary digits; and some has."""
+    most = {}
+    for low in range(256):
+        for high in range(low, 256):
+            digits = (high - low + 1).bit_length()
+            most[digits] = max(most.get(digits, 0), len(model.prefixes([(low, high)])))
+    expect("the most prefix blocks of a range", most, {1: 1} | {k: 2 * k - 2 for k in range(2, 9)} | {9: 1})
+    expect("of {1..M-1}", (len(model.prefixes([(1, M - 1)])), len(model.audited([(1, M - 1)]))), (126, 126))
+
+
+def check_prefixes_worked():
+    """Worked numbers about prefix blocks, by both methods."""
+    for name in ("set_prefix_blocks", "set_audit_blocks"):
+        expect("all numbers", written(name, [[1, 0, M], [9] * 3]), [1, 0, 64])
+        expect("{5..9}", written(name, [[1, 5, 9], [9] * 7]), [3, 5, 0, 6, 1, 8, 1])
+        expect("{5..9}, an odd last word", written(name, [[1, 5, 9], [9] * 8]), [3, 5, 0, 6, 1, 8, 1, 0])
+        expect("{5..9}, no room", model.run(name, [[1, 5, 9], [9] * 6], [])[:2], (21, (1, 0, 0, 0, 0)))
+        expect("the empty set", written(name, [[0, 4, 4], [9] * 4]), [0] * 4)
+        expect("the empty set, one word", written(name, [[0], [9]]), [0])
+        expect("0, 2..3, M", written(name, [[3, 0, 0, 2, 3, M, M], [9] * 7]), [3, 0, 0, 2, 1, M, 0])
+        due = [(2**e, e) for e in range(63)] + [(M + 1 - 2 ** (e + 1), e) for e in reversed(range(63))]
+        expect("{1..M-1}", written(name, [[1, 1, M - 1], [9] * 253]), [126] + [word for pair in due for word in pair])
+        expect("{1..M-1}, no room", written(name, [[1, 1, M - 1], [9] * 252]), 5)
+        expect("not sound", model.run(name, [[1, 9, 5], []], [])[:2], (19, (0, 0, 0, 0, 0)))
+        expect("no output", model.run(name, [[1, 5, 9], []], [])[:2], (17, (1, 0, 0, 0, 0)))
+        many = [4095] + [word for x in range(4095) for word in (4 * x + 1, 4 * x + 2)]
+        expect("8,190 pairs", written(name, [many, [9] * 16381]), [8190] + [word for end in many[1:] for word in (end, 0)])
+
+
 def check_sets_worked():
     """The worked numbers about sets, A to F, K, L and N."""
     expect("A", written("set_insert", [[0, 8, 8]], [5, 9]), [1, 5, 9])
@@ -350,10 +432,13 @@ def check_signed_worked():
 def main():
     """The model's own check."""
     check_sets_worked()
+    check_prefixes_worked()
+    check_most_prefixes()
     check_signed_worked()
     check_others_worked()
     rounds = int(sys.argv[1]) if len(sys.argv) > 1 else 3000
     check_against_brute_force(rounds, 20240229)
+    check_prefixes(rounds)
     print(f"selfcheck: the model agrees with brute force in {rounds} rounds and with the worked numbers")
 
 

@@ -84,11 +84,11 @@ def valued(rng, ranges):
     return entries
 
 
-def fresh(rng, kind, n):
-    """n sound items, with lengths and gaps that are often the least possible."""
+def fresh(rng, kind, n, steps=None):
+    """n sound items, with lengths and gaps that are often the least possible, below `steps` if that is given."""
     if n == 0:
         return []
-    steps = rng.choice([1, 2, 3, 40, M // (3 * n + 3)])
+    steps = steps or rng.choice([1, 2, 3, 40, M // (3 * n + 3)])
     at, ranges = rng.choice([0, 0, 1, rng.randrange(steps)]), []
     for _ in range(n):
         high = at + rng.randrange(steps)
@@ -96,6 +96,18 @@ def fresh(rng, kind, n):
         at = high + (2 if kind == SET else 1) + rng.choice([0, rng.randrange(steps)])
     ranges = moved(rng, ranges)
     return valued(rng, ranges) if kind == MAP else ranges
+
+
+def aligned(rng, n):
+    """At most n ranges whose ends are at a power of two or a multiple of one, or one beside it; often from 0 on, often up to M."""
+    cuts = {0} if rng.random() < 0.3 else set()
+    cuts |= {M + 1} if rng.random() < 0.3 else set()
+    while len(cuts) < 2 * n:
+        e = rng.randrange(65)
+        cut = rng.choice([1 << e, rng.getrandbits(64) >> e << e]) + rng.choice([-1, 0, 0, 0, 1])
+        cuts.add(max(0, min(M + 1, cut)))
+    cuts = sorted(cuts)
+    return [(low, after - 1) for low, after in zip(cuts[::2], cuts[1::2])]
 
 
 def related(rng, kind, points, n):

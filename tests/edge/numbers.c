@@ -8,6 +8,7 @@ int printf(const char *format, ...);
 enum { MOST = WIMBLORQUE_MOST_RANGES + 1 };
 
 static uint64_t one[WIMBLORQUE_SET_WORDS(MOST) + 8], two[WIMBLORQUE_SET_WORDS(MOST)], map[WIMBLORQUE_MAP_WORDS(MOST) + 8];
+static uint64_t pairs[WIMBLORQUE_PREFIX_WORDS(2 * MOST)];
 static uint8_t bytes[WIMBLORQUE_BULLETIN_BYTES(MOST, MOST)];
 static int wrong;
 
@@ -82,6 +83,47 @@ static void bulletin(size_t r, size_t w) {
            WIMBLORQUE_NO_SPACE);
 }
 
+/* Both calls on prefix blocks, into an output of so many words: the status that is due. */
+static void prefixes(const char *what, size_t n, size_t words, uint64_t due) {
+    expect(what, n, wimblorque_set_prefix_blocks(one, WIMBLORQUE_SET_WORDS(MOST), pairs, words).status, due);
+    expect(what, n, wimblorque_set_audit_blocks(one, WIMBLORQUE_SET_WORDS(MOST), pairs, words).status, due);
+}
+
+/* The words of n prefix blocks: of n numbers that lie apart. */
+static void prefix_sizes(size_t n) {
+    fill_set(one, n, 0);
+    prefixes("prefix words", n, WIMBLORQUE_PREFIX_WORDS(n), WIMBLORQUE_ACCEPTED);
+    expect("prefix capacity", n, WIMBLORQUE_PREFIX_CAPACITY(WIMBLORQUE_PREFIX_WORDS(n)), n);
+    expect("prefix capacity, a word more", n, WIMBLORQUE_PREFIX_CAPACITY(WIMBLORQUE_PREFIX_WORDS(n) + 1), n);
+    if (n > 0) {
+        prefixes("prefix words, a word too few", n, WIMBLORQUE_PREFIX_WORDS(n) - 1, WIMBLORQUE_ROOM);
+    }
+}
+
+/* More prefix blocks than a set has ranges, the most of one range, all numbers in one, and the last number of any. */
+static void prefix_limits(void) {
+    fill_set(one, WIMBLORQUE_MOST_RANGES, 1);
+    for (uint64_t i = 0; i < WIMBLORQUE_MOST_RANGES; i++) {
+        one[2 + 2 * i]++; /* 1..2, 5..6 and so on: two prefix blocks each */
+    }
+    prefixes("over the limit of a set", 0, WIMBLORQUE_PREFIX_WORDS(2 * WIMBLORQUE_MOST_RANGES), WIMBLORQUE_ACCEPTED);
+    prefixes("over it, a word too few", 0, WIMBLORQUE_PREFIX_WORDS(2 * WIMBLORQUE_MOST_RANGES) - 1, WIMBLORQUE_ROOM);
+    one[0] = one[1] = 1;
+    one[2] = UINT64_MAX - 1;
+    prefixes("the most of one range", 1, WIMBLORQUE_PREFIX_WORDS_OF(1), WIMBLORQUE_ACCEPTED);
+    expect("the most of one range", 1, pairs[0], WIMBLORQUE_MOST_PREFIXES);
+    prefixes("the most of one range, a word too few", 1, WIMBLORQUE_PREFIX_WORDS_OF(1) - 1, WIMBLORQUE_ROOM);
+    one[1] = 0;
+    one[2] = UINT64_MAX;
+    prefixes("all numbers", 1, WIMBLORQUE_PREFIX_WORDS(1), WIMBLORQUE_ACCEPTED);
+    expect("the exponent of all numbers", 1, pairs[2], 64);
+    expect("the last of all numbers", 1, wimblorque_prefix_last(pairs[1], pairs[2]), UINT64_MAX);
+    for (uint64_t e = 0, size = 1; e < 64; e++, size *= 2) {
+        expect("the last of a prefix block", e, wimblorque_prefix_last(UINT64_MAX - (size - 1), e), UINT64_MAX);
+        expect("the last of the first one", e, wimblorque_prefix_last(0, e), size - 1);
+    }
+}
+
 /* What a block of so many words has room for: that many items, and not one more. */
 static void capacity(size_t words) {
     const size_t ranges = WIMBLORQUE_SET_CAPACITY(words), entries = WIMBLORQUE_MAP_CAPACITY(words);
@@ -106,17 +148,24 @@ int main(void) {
         bulletin(n, 3 * n);
         capacity(n + 1);
         capacity(WIMBLORQUE_SET_WORDS(WIMBLORQUE_MOST_RANGES) - 10 + n);
+        prefix_sizes(n);
+        prefix_sizes(WIMBLORQUE_MOST_RANGES - n);
     }
+    prefix_limits();
     bulletin(WIMBLORQUE_MOST_RANGES, WIMBLORQUE_MOST_RANGES);
-    expect("capacity of no words", 0, WIMBLORQUE_SET_CAPACITY(0) + WIMBLORQUE_MAP_CAPACITY(0), 0);
+    expect("capacity of no words", 0, WIMBLORQUE_SET_CAPACITY(0) + WIMBLORQUE_MAP_CAPACITY(0) + WIMBLORQUE_PREFIX_CAPACITY(0), 0);
     SAY(WIMBLORQUE_MOST_RANGES);
     SAY(WIMBLORQUE_MOST_ENTRIES);
+    SAY(WIMBLORQUE_MOST_PREFIXES);
     SAY(WIMBLORQUE_SET_WORDS(1000));
     SAY(WIMBLORQUE_MAP_WORDS(1000));
+    SAY(WIMBLORQUE_PREFIX_WORDS(1000));
+    SAY(WIMBLORQUE_PREFIX_WORDS_OF(1000));
     SAY(WIMBLORQUE_SET_CAPACITY(100));
     SAY(WIMBLORQUE_MAP_CAPACITY(100));
     SAY(WIMBLORQUE_SET_CAPACITY(100000));
     SAY(WIMBLORQUE_MAP_CAPACITY(100000));
+    SAY(WIMBLORQUE_PREFIX_CAPACITY(100000));
     SAY(WIMBLORQUE_SET_START_BYTES);
     SAY(WIMBLORQUE_MAP_START_BYTES);
     SAY(WIMBLORQUE_BULLETIN_START_BYTES);

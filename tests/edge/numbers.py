@@ -2,8 +2,8 @@
 
     numbers.py NUMBERS WORDS
 
-NUMBERS and WORDS are files with what the two programs wrote. Limits and capacity are compared with the definitions of `blocks`, the
-sizes of records with the kinds of `records`, the sizes of forms with the proved statements of `demands`; the names of the refusals with the
+NUMBERS and WORDS are files with what the two programs wrote. Limits and capacity are compared with the definitions of `blocks` and
+`prefixes`, the sizes of records with the kinds of `records`, the sizes of forms with the proved statements of `demands`; the names of the refusals with the
 numbers that `answers` gives them and with the header's constants; the version with CHANGELOG.md. The exit status is 1 if one differs.
 """
 
@@ -46,6 +46,10 @@ def sizes_due():
     (range_words, ranges), (entry_words, entries) = only(r"^setLayout = layout (\d+) (\d+)$", blocks), only(r"^mapLayout = layout (\d+) (\d+)$", blocks)
     if "\ncapacity l L = min ((L - 1) / l .width) (l .limit)\n" not in blocks:
         sys.exit("numbers.py: capacity is no longer defined as the header says")
+    pairs = text_of("crates/prefixes/specs/Calls.antt")
+    (pair_words,) = only(r"^pairLayout = layout (\d+) M$", pairs)
+    (whole,) = only(r"^whole = (\d+)$", text_of("crates/tilings/specs/Prefixes.antt"))
+    most = 2 * whole - 2  # of one range of the line: from its low end up the exponents rise, and then they fall, from 0 to 62 and back
     body = {int(kind, 16): int(size) for kind, size in re.findall(r"\(eqb kind (0x\w\w)\) \(some (\d+)\)", records)}
     record = {kind: 5 + size for kind, size in body.items()}  # the mark, the kind and the check are five bytes
     set_form = only(r"readSetCall b out ≡ leaves w → length b ≡ (\d+) \+ (\d+) \* getD w 0 0\)$", laws)
@@ -58,12 +62,16 @@ def sizes_due():
     return {
         "MOST_RANGES": ranges,
         "MOST_ENTRIES": entries,
+        "MOST_PREFIXES": most,
         "SET_WORDS(1000)": 1 + range_words * 1000,
         "MAP_WORDS(1000)": 1 + entry_words * 1000,
+        "PREFIX_WORDS(1000)": 1 + pair_words * 1000,
+        "PREFIX_WORDS_OF(1000)": 1 + pair_words * most * 1000,
         "SET_CAPACITY(100)": min((100 - 1) // range_words, ranges),
         "MAP_CAPACITY(100)": min((100 - 1) // entry_words, entries),
         "SET_CAPACITY(100000)": ranges,
         "MAP_CAPACITY(100000)": entries,
+        "PREFIX_CAPACITY(100000)": (100000 - 1) // pair_words,
         "SET_START_BYTES": record[0x01],
         "MAP_START_BYTES": record[0x02],
         "BULLETIN_START_BYTES": record[0x03],

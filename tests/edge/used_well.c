@@ -1,5 +1,5 @@
-/* No misuse: no compiler may warn of anything here. Two blocks by turns, one block for two inputs, results used, keys cast, both
-   headers. */
+/* No misuse: no compiler may warn of anything here. Two blocks by turns, one block for two inputs, results used, keys cast, prefix
+   blocks, both headers. */
 #include "wimblorque_refusals.h"
 
 int used_well(uint64_t *list, uint64_t *next, const uint64_t *released, const uint64_t *withdrawn, uint8_t *bytes, unsigned n);
@@ -22,6 +22,15 @@ int used_well(uint64_t *list, uint64_t *next, const uint64_t *released, const ui
     }
     if (wimblorque_signed_insert(block, sizeof block / sizeof block[0], -5, n).status != WIMBLORQUE_ACCEPTED) {
         return 4;
+    }
+    static uint64_t pairs[WIMBLORQUE_PREFIX_WORDS_OF(1)];
+    const size_t pair_words = sizeof pairs / sizeof pairs[0];
+    a = wimblorque_set_prefix_blocks(next, WIMBLORQUE_SET_WORDS(1), pairs, pair_words);
+    if (a.status != WIMBLORQUE_ACCEPTED || pairs[0] > WIMBLORQUE_PREFIX_CAPACITY(pair_words) + WIMBLORQUE_PREFIX_WORDS(n)) {
+        return 6;
+    }
+    if (wimblorque_set_audit_blocks(next, 3, pairs, pair_words).status != 0 || wimblorque_prefix_last(pairs[1], pairs[2]) < pairs[1]) {
+        return 7;
     }
     const int64_t least = (int64_t)wimblorque_signed_range_at(block, sizeof block / sizeof block[0], 0).first;
     if (wimblorque_key_of_word(block[1]) != least || wimblorque_word_of_key(least) != block[1]) {

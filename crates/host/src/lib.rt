@@ -6,6 +6,7 @@ ghost use Rattle.sets.specs.Calls.{makeEmptyCall, memberCall, rangeAtCall, size
 ghost use Rattle.sets.specs.Calls.{removeCall, equalCall, withinCall, disjointCall, unionCall, intersectionCall, differenceCall, symmetricDifferenceCall};
 ghost use Rattle.sets.specs.Calls.{complementCall};
 ghost use Rattle.fits.specs.Calls.{firstFitCall, bestFitCall, reserveFirstCall, reserveBestCall};
+ghost use Rattle.prefixes.specs.Calls.{prefixCall, auditCall};
 ghost use Rattle.maps.specs.Calls.{lookUpCall, assignCall, eraseCall, mapWindowAtCall, siteOverFactoryAtCall, overlayCall, restrictionCall, domainCall};
 ghost use Rattle.bulletins.specs.Calls.{applyCall, foldCall};
 ghost use Rattle.forms.specs.Calls.{readSetCall, readMapCall, readBulletinCall, judgeSetCall, memberOfFormCall};
@@ -156,6 +157,22 @@ pub extern "C" fn wimblorque_set_complement(set: &[u64], out: &mut [u64]) -> Tol
     ensures { λ r. ⌜ Tells r (now (out .exit) ∷ []) (complementCall (now (set .entry)) (now (out .entry))) ⌝ }
 {
     told::tell_judged(sets::complement(set, out))
+}
+
+// The fewest prefix blocks that name exactly the numbers of the set, in rising order, into out as pairs (start, e).
+#[no_mangle]
+pub extern "C" fn wimblorque_set_prefix_blocks(set: &[u64], out: &mut [u64]) -> Told
+    ensures { λ r. ⌜ Tells r (now (out .exit) ∷ []) (prefixCall (now (set .entry)) (now (out .entry))) ⌝ }
+{
+    told::tell_judged(prefixes::prefix_blocks(set, out))
+}
+
+// The same prefix blocks by the plain method for audit, from the whole line on, into out.
+#[no_mangle]
+pub extern "C" fn wimblorque_set_audit_blocks(set: &[u64], out: &mut [u64]) -> Told
+    ensures { λ r. ⌜ Tells r (now (out .exit) ∷ []) (auditCall (now (set .entry)) (now (out .entry))) ⌝ }
+{
+    told::tell_judged(prefixes::audit_blocks(set, out))
 }
 
 // The least start of k numbers of the window a..b that are all free.
