@@ -28,13 +28,14 @@ typedef struct job {
     size_t form_length;
     /* a number to ask for, a range to insert into a gap and one to remove, both in the middle of the first set */
     uint64_t x, insert[2], removal[2];
-    /* results */
-    block out, out2, merged;
+    /* results; of prefix blocks, pairs */
+    block out, out2, merged, pairs;
     uint8_t *bytes;
     size_t bytes_length;
-    /* all input words and bytes, and all result words and bytes, in one piece each */
+    /* all input words and bytes, and all result words and bytes, in one piece each; the pairs, which are many times the rest, stand
+       behind the other results, and only the measures that write them are asked about them */
     uint8_t *inputs, *results;
-    size_t inputs_size, results_size;
+    size_t inputs_size, results_size, pairs_size;
     icl_job *icl;
 } job;
 
@@ -52,6 +53,7 @@ typedef struct measure {
     void (*icl)(icl_job *t);
     bool in_place;
     bool bulk;
+    bool pairs;
 } measure;
 
 /* measures.c */

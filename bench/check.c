@@ -12,22 +12,27 @@ typedef struct outcome {
     uint8_t *results;
 } outcome;
 
+/* How many bytes of the results a measure is asked about. */
+static size_t extent(const measure *m, const job *t) {
+    return t->results_size + (m->pairs ? t->pairs_size : 0);
+}
+
 /* Prepares the results as before a call: the first set in place, or words that a call has to write over. */
 static void prepare(const measure *m, job *t) {
-    memset(t->results, 0xA5, t->results_size);
+    memset(t->results, 0xA5, extent(m, t));
     if (m->in_place) {
         memcpy(t->out.words, t->one.words, t->one.length * sizeof(uint64_t));
     }
 }
 
 static outcome outcome_of(const measure *m, const library *lib, job *t) {
-    outcome o = {.results = malloc(t->results_size)};
+    outcome o = {.results = malloc(extent(m, t))};
     prepare(m, t);
     o.answer = m->call(lib, t);
     if (!o.results) {
         exit(1);
     }
-    memcpy(o.results, t->results, t->results_size);
+    memcpy(o.results, t->results, extent(m, t));
     return o;
 }
 
@@ -41,12 +46,12 @@ static void disagree(const measure *m, const job *t, const char *who, const char
 static outcome agreed(const measure *m, job *t, const char *what) {
     outcome proved = outcome_of(m, &proved_library, t), plain = outcome_of(m, &plain_library, t);
     if (memcmp(&proved.answer, &plain.answer, sizeof proved.answer) != 0 ||
-        memcmp(proved.results, plain.results, t->results_size) != 0) {
+        memcmp(proved.results, plain.results, extent(m, t)) != 0) {
         disagree(m, t, "the plain C", what);
     }
     if (proved.answer.status != 0) {
         prepare(m, t);
-        if (memcmp(t->results, proved.results, t->results_size) != 0) {
+        if (memcmp(t->results, proved.results, extent(m, t)) != 0) {
             disagree(m, t, "a refused call", "what was there before");
         }
     }
@@ -92,13 +97,26 @@ static void damage_block(block *b, unsigned how) {
     }
 }
 
+/* Makes the first set the one range low..high. */
+static void one_range(job *t, uint64_t low, uint64_t high) {
+    t->one.words[0] = 1;
+    t->one.words[1] = low;
+    t->one.words[2] = high;
+}
+
+/* Leaves so many words more than the prefix blocks of the first set need. */
+static void fit_pairs(job *t, int more) {
+    plain_library.set_prefix_blocks(t->one.words, t->one.length, t->pairs.words, t->pairs.length);
+    t->pairs.length = (size_t)((int)(2 * t->pairs.words[0]) + 1 + more);
+}
+
 /* Damages an argument, an output or the bytes. */
 static void damage_other(job *t, unsigned how) {
     switch (how) {
     case 0: t->insert[1] = t->insert[0] - 1, t->removal[1] = t->removal[0] - 1; break;
-    case 1: t->out.length = 0, t->merged.length = 0; break;
+    case 1: t->out.length = 0, t->merged.length = 0, t->pairs.length = 0; break;
     case 2: t->out2.length = 0; break;
-    case 3: t->out.length = 3, t->merged.length = 4; break;
+    case 3: t->out.length = 3, t->merged.length = 4, t->pairs.length = 4; break;
     case 4: t->out2.length = 1; break;
     case 5: t->one.length = t->out.length = 1 + 2 * t->ranges; break;
     case 6: t->form_length--; break;
@@ -112,10 +130,15 @@ static void damage_other(job *t, unsigned how) {
     case 14: t->insert[1] = t->removal[0] - 1; break;
     case 15: t->one.words[0] = 0, t->form[4] = 0; break;
     case 16: t->removal[0]++, t->removal[1]--; break;
+    case 17: fit_pairs(t, 0); break;
+    case 18: fit_pairs(t, -1); break;
+    case 19: fit_pairs(t, 1); break;
+    case 20: one_range(t, 0, UINT64_MAX); break;
+    case 21: one_range(t, 1, UINT64_MAX - 1); break;
     }
 }
 
-enum { BLOCKS = 9, BLOCK_DAMAGES = 6, OTHER_DAMAGES = 17, BYTES = 7 + 21 + 21 };
+enum { BLOCKS = 9, BLOCK_DAMAGES = 6, OTHER_DAMAGES = 22, BYTES = 7 + 21 + 21 };
 
 /* Damage number k of a job: to each block in each way, then to the rest, then to each byte of the first records. */
 static void damage(job *t, unsigned k) {

@@ -84,15 +84,17 @@ static block cut(uint8_t **arena, size_t words) {
 }
 
 /* The memory of a job. A set block has room for about 2 ranges in 100 more than it has; so the ranges of two inputs together are
-   more than any output has room for, and the result has to be counted, whatever the size. */
+   more than any output has room for, and the result has to be counted, whatever the size. An output of prefix blocks has the words that
+   the header names as enough, and these are not counted beforehand. */
 static job empty_job(size_t n) {
     size_t entries = entries_for(n), set = 1 + 2 * (n + n / 50 + 2), map = 1 + 3 * (entries + 1);
     size_t overlay = 1 + 3 * (2 * entries + entries / 22 + 1), form = 7 + 21 * n;
-    job t = {.ranges = n, .form_length = form, .bytes_length = form + 8};
+    size_t pairs = WIMBLORQUE_PREFIX_WORDS_OF(n);
+    job t = {.ranges = n, .form_length = form, .bytes_length = form + 8, .pairs_size = pairs * 8};
     t.inputs_size = (8 * set + 2 * map) * 8 + form + 1;
-    t.results_size = (2 * set + overlay) * 8 + t.bytes_length;
+    t.results_size = ((2 * set + overlay) * 8 + t.bytes_length + 7) / 8 * 8;
     t.inputs = calloc(t.inputs_size, 1);
-    t.results = calloc(t.results_size, 1);
+    t.results = calloc(t.results_size + t.pairs_size, 1);
     if (!t.inputs || !t.results) {
         fputs("bench: no memory\n", stderr);
         exit(1);
@@ -109,6 +111,8 @@ static job empty_job(size_t n) {
     t.out2 = cut(&q, set);
     t.merged = cut(&q, overlay);
     t.bytes = q;
+    q = t.results + t.results_size;
+    t.pairs = cut(&q, pairs);
     return t;
 }
 

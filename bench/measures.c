@@ -70,22 +70,32 @@ static wimblorque_answer writing(const library *lib, job *t) {
     return lib->set_write(OF(t->one), t->bytes, t->bytes_length, 0);
 }
 
+static wimblorque_answer prefix_blocks(const library *lib, job *t) {
+    return lib->set_prefix_blocks(OF(t->one), OF(t->pairs));
+}
+
+static wimblorque_answer audit_blocks(const library *lib, job *t) {
+    return lib->set_audit_blocks(OF(t->one), OF(t->pairs));
+}
+
 const measure measures[] = {
-    {"judge", judge, NULL, false, false},
-    {"member", member, icl_member, false, false},
-    {"insert", insert, icl_insert, true, false},
-    {"remove", removal, icl_remove, true, false},
-    {"union", either, icl_union, false, true},
-    {"intersection", both, icl_intersection, false, true},
-    {"difference", difference, icl_difference, false, true},
-    {"symmetric difference", symmetric_difference, icl_symmetric_difference, false, true},
-    {"complement", complement, icl_complement, false, true},
-    {"apply", apply, icl_apply, false, true},
-    {"fold", fold, icl_fold, false, true},
-    {"overlay", overlay, icl_overlay, false, true},
-    {"judge of bytes", judge_of_bytes, NULL, false, false},
-    {"member of bytes", member_of_bytes, NULL, false, false},
-    {"read", reading, NULL, false, true},
-    {"write", writing, NULL, false, true},
+    {"judge", judge, NULL, false, false, false},
+    {"member", member, icl_member, false, false, false},
+    {"insert", insert, icl_insert, true, false, false},
+    {"remove", removal, icl_remove, true, false, false},
+    {"union", either, icl_union, false, true, false},
+    {"intersection", both, icl_intersection, false, true, false},
+    {"difference", difference, icl_difference, false, true, false},
+    {"symmetric difference", symmetric_difference, icl_symmetric_difference, false, true, false},
+    {"complement", complement, icl_complement, false, true, false},
+    {"apply", apply, icl_apply, false, true, false},
+    {"fold", fold, icl_fold, false, true, false},
+    {"overlay", overlay, icl_overlay, false, true, false},
+    {"judge of bytes", judge_of_bytes, NULL, false, false, false},
+    {"member of bytes", member_of_bytes, NULL, false, false, false},
+    {"read", reading, NULL, false, true, false},
+    {"write", writing, NULL, false, true, false},
+    {"prefix blocks", prefix_blocks, NULL, false, true, true},
+    {"audit of blocks", audit_blocks, NULL, false, true, true},
 };
 const size_t measure_count = sizeof measures / sizeof *measures;

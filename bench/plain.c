@@ -326,6 +326,130 @@ static wimblorque_answer set_complement(const uint64_t *a, size_t words, uint64_
     return told(0, 0);
 }
 
+/* ---- prefix blocks ----
+   The block of 2^h numbers in which a range lies, h the least, is the range itself, or has a middle that the range goes across. Below the
+   middle the sizes are the binary digits of the length there, from the least on, and from the middle on those of the length there, from
+   the greatest down. So a range is counted by counting ones. */
+
+/* Prefix blocks as far as they are known, and where they go, if anywhere. */
+typedef struct pairs {
+    uint64_t *out;
+    size_t count;
+} pairs;
+
+static inline void note(pairs *p, uint64_t start, unsigned e) {
+    if (p->out) {
+        p->out[2 * p->count + 1] = start;
+        p->out[2 * p->count + 2] = e;
+    }
+    p->count++;
+}
+
+/* 2^h - 1 */
+static inline uint64_t ones_of(unsigned h) {
+    return h == 64 ? LAST : ((uint64_t)1 << h) - 1;
+}
+
+/* Stores the prefix blocks from low up to the middle and from there up to high. */
+static inline void store_range(pairs *p, uint64_t low, uint64_t middle, uint64_t high) {
+    uint64_t *w = p->out + 2 * p->count + 1, at = low;
+    for (uint64_t left = middle - low; left != 0; left &= left - 1, w += 2) {
+        w[0] = at;
+        w[1] = (unsigned)__builtin_ctzll(left);
+        at += left & -left;
+    }
+    for (uint64_t left = high + 1 - middle; left != 0; w += 2) {
+        unsigned e = 63 - (unsigned)__builtin_clzll(left);
+        w[0] = at;
+        w[1] = e;
+        at += (uint64_t)1 << e;
+        left ^= (uint64_t)1 << e;
+    }
+    p->count = (size_t)(w - p->out) / 2;
+}
+
+static inline void take_range(pairs *p, uint64_t low, uint64_t high) {
+    uint64_t differ = low ^ high;
+    unsigned h = differ == 0 ? 0 : 64 - (unsigned)__builtin_clzll(differ);
+    if (differ == ones_of(h) && (low & differ) == 0) {
+        note(p, low, h);
+        return;
+    }
+    uint64_t middle = high & ~ones_of(h - 1);
+    if (p->out) {
+        store_range(p, low, middle, high);
+    } else {
+        p->count += (size_t)(__builtin_popcountll(middle - low) + __builtin_popcountll(high + 1 - middle));
+    }
+}
+
+/* The prefix blocks of a sound set, into out, or only counted. */
+static inline size_t take_set(const uint64_t *w, uint64_t *out) {
+    pairs p = {out, 0};
+    for (size_t i = 1; i < 2 * w[0]; i += 2) {
+        take_range(&p, w[i], w[i + 1]);
+    }
+    return p.count;
+}
+
+/* An audit as far as it has come: the set, the first word of the first range that ends at or past the block that is asked about, the
+   words behind the last range, and the prefix blocks. */
+typedef struct audit {
+    const uint64_t *range, *end;
+    pairs kept;
+} audit;
+
+/* Audits the block of ones + 1 = 2^e numbers from start on. The second half takes the place of the whole. */
+static void audit_block(audit *t, uint64_t start, unsigned e, uint64_t ones) {
+    while (t->range != t->end && t->range[0] <= start + ones) {
+        if (t->range[0] <= start && start + ones <= t->range[1]) {
+            note(&t->kept, start, e);
+            t->range += t->range[1] == start + ones ? 2 : 0;
+            return;
+        }
+        e--;
+        ones /= 2;
+        audit_block(t, start, e, ones);
+        start += ones + 1;
+    }
+}
+
+/* The same by the audit. */
+static size_t audit_set(const uint64_t *w, uint64_t *out) {
+    audit t = {w + 1, w + 1 + 2 * w[0], {out, 0}};
+    audit_block(&t, 0, 64, LAST);
+    return t.kept.count;
+}
+
+typedef size_t method(const uint64_t *set, uint64_t *out);
+
+static inline wimblorque_answer blocks_into(const uint64_t *w, size_t words, uint64_t *out, size_t out_words, method *found) {
+    uint64_t refusal = judge_set(w, words);
+    if (refusal) {
+        return told(refusal, 0);
+    }
+    if (out_words == 0) {
+        return told(WIMBLORQUE_NO_BLOCK, 1);
+    }
+    /* they are counted beforehand only where the output may be too small */
+    size_t room = (out_words - 1) / 2;
+    if (room < WIMBLORQUE_MOST_PREFIXES * w[0] && room < found(w, NULL)) {
+        return told(WIMBLORQUE_ROOM, 1);
+    }
+    size_t n = found(w, out);
+    out[0] = n;
+    memset(out + 2 * n + 1, 0, (out_words - 2 * n - 1) * sizeof *out);
+    return told(0, 0);
+}
+
+static wimblorque_answer set_prefix_blocks(const uint64_t *w, size_t words, uint64_t *out, size_t out_words) {
+    return blocks_into(w, words, out, out_words, take_set);
+}
+
+static wimblorque_answer set_audit_blocks(const uint64_t *w, size_t words, uint64_t *out, size_t out_words) {
+    return blocks_into(w, words, out, out_words, audit_set);
+}
+
 /* ---- bulletins ---- */
 
 /* Whether two sets share a number. */
@@ -637,6 +761,8 @@ const library plain_library = {
     .set_difference = set_difference,
     .set_symmetric_difference = set_symmetric_difference,
     .set_complement = set_complement,
+    .set_prefix_blocks = set_prefix_blocks,
+    .set_audit_blocks = set_audit_blocks,
     .bulletin_apply = bulletin_apply,
     .bulletin_fold = bulletin_fold,
     .map_overlay = map_overlay,

@@ -10,6 +10,8 @@ CONTENDERS = [("proved", "proved", "#0b5fa5", ""), ("plain", "plain C", "#c2571a
 # The most that a time may be of the plain C's, at the largest random inputs.
 OVER_PLAIN = {"judge": 1.6, "member": 1.2, "insert": 1.5, "union": 1.7, "intersection": 1.7, "difference": 1.7,
               "symmetric difference": 1.7, "apply": 1.7, "judge of bytes": 2.0, "member of bytes": 2.0, "read": 2.0, "write": 2.0}
+# The most that a time may be, in milliseconds, at the largest random inputs.
+MILLISECONDS = {"audit of blocks": 10.0}
 UNDER_ICL = 5.0
 GROWTH = 4.6
 
@@ -63,6 +65,9 @@ def targets(rows):
         plain = verdict(over, OVER_PLAIN[measure], True) if measure in OVER_PLAIN else f"{over:.2f}"
         icl = "–" if not last["icl"] else verdict(under, UNDER_ICL, False) if last["bulk"] == "1" else f"{under:.2f}"
         lines.append(f"| {measure} | {plain} | {icl} | {verdict(last['proved'] / before['proved'], GROWTH, True)} |")
+    for measure, most in MILLISECONDS.items():
+        last = series(rows, "random", measure)[-1]
+        lines += ["", f"The {measure} of {last['ranges']:,} ranges takes, in milliseconds, {verdict(last['proved'] / 1e6, most, True)}."]
     return lines
 
 
