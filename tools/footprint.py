@@ -10,8 +10,8 @@ gives for the module by the same words as an object, whose code must be the arch
 is followed, with what each instruction does to the stack pointer and what it uses below it (on x86-64 a function that calls nothing
 may use 128 bytes there, the red zone); a call adds what the called function takes, and on x86-64 its return address. Counted is all
 that a call puts on the stack, from its own return address on, without the arguments that its caller put there and without what the
-host's own memset takes. A call's code is its own and that of every function it can reach, which is what a linker with --gc-sections
-keeps.
+host's own memset takes. A function that calls itself counts as often as it can be on the stack at once. A call's code is its own and
+that of every function it can reach, which is what a linker with --gc-sections keeps.
 """
 
 import os
@@ -25,11 +25,16 @@ MACHINES = {"x86_64": "x86-64", "aarch64": "64-bit Arm"}
 RETURN_ADDRESS = {"x86_64": 8, "aarch64": 0}
 NEEDED = ["memset"]
 # No more than this, in bytes: near what is measured, so that growth is noticed.
-MOST_CODE = {"x86_64": 26200, "aarch64": 22800}
+MOST_CODE = {"x86_64": 27600, "aarch64": 23700}
 MOST_CONSTANTS = {"x86_64": 520, "aarch64": 920}
 MOST_STACK = {"x86_64": 700, "aarch64": 592}
+# The function that calls itself, how often it can be on the stack at once (its exponent falls from 64 to 0), and the bound for the calls
+# that can reach it.
+TIMES = {"prefixes::audit_block": 65}
+MOST_DEEP_STACK = {"x86_64": 8600, "aarch64": 7600}
 # The calls of README.md's table.
 SHOWN = ["member", "set_member", "set_insert", "set_union", "map_site_over_factory", "set_reserve_best", "bulletin_apply", "set_read", "signed_read"]
+SHOWN += ["set_prefix_blocks", "set_audit_blocks"]
 
 
 # ---- object files
@@ -188,14 +193,16 @@ def measured(machine, text):
         if name not in bodies:
             return RETURN_ADDRESS[machine], set()
         if name not in done:
-            most, reached = 0, {name}
+            most, reached, again = 0, {name}, 0
             for i, depth in depths(machine, bodies[name]).items():
                 words = bodies[name][i]
                 most = max(most, depth + max(0, moved(machine, words)), depth + below(machine, words))
-                if callee(words):
+                if callee(words) == name and name in TIMES:
+                    again = max(again, depth + RETURN_ADDRESS[machine])
+                elif callee(words):
                     more, others = measure(callee(words), (*path, name))
                     most, reached = max(most, depth + more), reached | others
-            done[name] = (RETURN_ADDRESS[machine] + most, reached)
+            done[name] = (RETURN_ADDRESS[machine] + most + again * (TIMES.get(name, 1) - 1), reached)
         return done[name]
 
     return {name: measure(name) for name in bodies}
@@ -219,10 +226,11 @@ def footprint(machine):
     size = {name.removeprefix(".text."): part[3] for name, part in code.items()}
     if set(size) != set(stacks):
         sys.exit(f"footprint: code and text have other functions: {set(size) ^ set(stacks)}")
-    calls = {}
+    calls, deep = {}, set()
     for name, (stack, reached) in stacks.items():
         if name.startswith("wimblorque_"):
             calls[name] = (sum(size[each] for each in reached), stack)
+            deep |= {name} if reached & TIMES.keys() else set()
     constants = sum(part[3] for name, part in loaded.items() if name not in code and name not in data)
     return {
         "code": sum(size.values()),
@@ -230,7 +238,8 @@ def footprint(machine):
         "data": sum(part[3] for part in data.values()),
         "needs": sorted(undefined),
         "calls": calls,
-        "stack": max(stack for _, stack in calls.values()),
+        "stack": max(stack for name, (_, stack) in calls.items() if name not in deep),
+        "deep stack": max(calls[name][1] for name in deep),
     }
 
 
@@ -246,9 +255,9 @@ def table(found):
     rows.append(f"| code, all {len(both[0]['calls'])} calls | " + " | ".join(number(f["code"]) for f in both) + " |")
     rows.append("| constants, read-only | " + " | ".join(number(f["constants"]) for f in both) + " |")
     rows.append("| data and bss | " + " | ".join(number(f["data"]) for f in both) + " |")
-    rows.append("| stack, the most that a call takes | " + " | ".join(number(f["stack"]) for f in both) + " |")
+    rows.append("| stack, the most that a call takes, but for the audit | " + " | ".join(number(f["stack"]) for f in both) + " |")
     for name in SHOWN:
-        cells = [f"{number(f['calls']['wimblorque_' + name][0])} code, {f['calls']['wimblorque_' + name][1]} stack" for f in both]
+        cells = [f"{number(f['calls']['wimblorque_' + name][0])} code, {number(f['calls']['wimblorque_' + name][1])} stack" for f in both]
         rows.append(f"| `wimblorque_{name}` alone | " + " | ".join(cells) + " |")
     return "\n".join(rows)
 
@@ -256,7 +265,7 @@ def table(found):
 def faults(found):
     """Each bound that is passed."""
     for machine, f in found.items():
-        for what, most in (("code", MOST_CODE), ("constants", MOST_CONSTANTS), ("stack", MOST_STACK)):
+        for what, most in (("code", MOST_CODE), ("constants", MOST_CONSTANTS), ("stack", MOST_STACK), ("deep stack", MOST_DEEP_STACK)):
             if f[what] > most[machine]:
                 yield f"{machine}: {what} {f[what]}, more than {most[machine]}"
         if f["data"]:
@@ -281,7 +290,9 @@ def check(found):
     for fault in wrong:
         print("footprint:", fault, file=sys.stderr)
     if not wrong:
-        said = "; ".join(f"{m}: {number(f['code'])} bytes of code, {f['stack']} of stack at most" for m, f in found.items())
+        said = "; ".join(
+            f"{m}: {number(f['code'])} bytes of code, {f['stack']} of stack at most, {number(f['deep stack'])} for the audit" for m, f in found.items()
+        )
         print(f"footprint: no data, no bss, one symbol needed ({NEEDED[0]}); {said}")
     return not wrong
 

@@ -18,12 +18,12 @@ Made by `tools/statements.py`; do not edit. What a reader has to believe, and no
 ## How to read the notation
 
 - `name : A → B → C` declares something that takes an A and a B and gives a C; the lines below it, `name x y = ..`, say what. Application is written without parentheses: `member es x` is `member` of `es` and `x`. A theorem is declared in the same way: it takes what is supposed and gives what follows, so `(x : ℕ) → x ≤ M → P x` reads 'for every number x, if x is at most M, then P of x'.
-- `×` is 'and', `⊎` is 'or', `P → ⊥` is 'not P', `≡` is 'equals'. `ℕ` are the whole numbers from 0 on, without end; `+`, `*` do not wrap; `m - n` is 0 where n is the larger; `/` rounds down.
+- `×` is 'and', `⊎` is 'or', `P → ⊥` is 'not P', `≡` is 'equals'. `ℕ` are the whole numbers from 0 on, without end; `+`, `*` do not wrap; `m - n` is 0 where n is the larger; `/` rounds down, `m % n` is the remainder, `m ^ n` the power.
 - `[]` is the empty list, `x ∷ xs` is x and then the list xs, `xs ++ ys` the one after the other. `length`, `take n`, `drop n` are as usual; `getD w i 0` is element i of w, counted from 0, and 0 past its end; `replicate n x` is x, n times.
 - `none` and `some v` are nothing and the value v. `true`, `false`, `not`, `andb`, `orb` are truth values and what is computed with them; `leb m n`, `ltb m n`, `eqb m n` are the tests ≤, <, =, as truth values; `pick t a b` is a if t is true, and else b.
 - `ℤ` are the whole numbers below 0 too: `pos n` is n and `negsuc n` is -(n + 1); `+ℤ`, `-ℤ` do not wrap; `leZ k l`, `ltZ k l` are the tests ≤ and <, as truth values; `mag k` is n for n and for -(n + 1); `cond t a b` is `pick t a b`.
 - `record R .. where` lists what an R has; `r .field` is that part of r. Of a record that is a statement, each field is one thing that it says.
-- `λ x. e` is the function that gives e for x.
+- `λ x. e` is the function that gives e for x. `Unit` has the one value `tt`: as a statement it says nothing, and a function of it is something that is computed only where it is asked for.
 - In a contract `now (block .entry)` is the list of words lent as `block` when the call begins, `now (block .exit)` what it is afterwards; `r` is the answer. `judgedSays r`, `truthSays r`, .. give the answer's numbers in the table's terms.
 - Two definitions are long and need not be read: `build`, which computes the list of a function (`built` and `canonical` say that it is the one sound list that names exactly that function), and `put`, which is `build` for a change of a..b.
 """
@@ -33,11 +33,12 @@ PARTS = [
     ("The theorems", "what the calls promise, said of their outcomes", [("demands", "specs")]),
     ("Answers and outcomes", "refusals in their order, and what an answer says", [("answers", "specs")]),
     ("The calls", "what each call answers and leaves", [(c, "specs") for c in
-        ("sets", "fits", "maps", "bulletins", "forms", "told", "host", "edits", "searches", "operations")]),
+        ("sets", "fits", "prefixes", "maps", "bulletins", "forms", "told", "host", "edits", "searches", "operations")]),
     ("Blocks of words", "what words say", [("blocks", "specs")]),
     ("Bytes", "forms, runs, records, numbers, the check", [(c, "specs") for c in ("verdicts", "runs", "records", "numbers")]),
     ("Lists of entries", "what a list names", [("entries", "specs")]),
     ("Signed keys", "the words that stand for them", [("keys", "specs")]),
+    ("Prefix blocks", "those of a set, by both methods", [("tilings", "specs")]),
 ]
 # What the code promises itself, and fits for other starts than all; no theorem and no contract of a user's call names it.
 INNER = {"Steps", "Starts"}

@@ -17,15 +17,16 @@ PAGE = os.path.join(antt.ROOT, "docs", "TRACE.md")
 COLUMNS = ["definitions", "theorems", "edits", "tests", "code"]
 # What a requirement needs, by the letter of its number.
 NEEDS = {
-    **{letter: ["definitions", "theorems", "edits", "tests"] for letter in "BRSFMUYKH"},
+    **{letter: ["definitions", "theorems", "edits", "tests"] for letter in "BRSFMUYKPH"},
     "L": ["theorems", "edits", "tests", "code"],
     "D": ["theorems"],
     "E": ["edits"],
     "N": ["tests"],
     "G": ["code"],
 }
-# What one that differs from its kind needs: the program is run; the calls that serve signed sets too have the definitions of plain sets.
-OWN_NEEDS = {"H3": ["tests", "code"], "K4": ["theorems", "edits", "tests"]}
+# What one that differs from its kind needs: the program is run; the calls that serve signed sets too have the definitions of plain sets; that
+# two methods agree is no definition.
+OWN_NEEDS = {"H3": ["tests", "code"], "K4": ["theorems", "edits", "tests"], "P6": ["theorems", "tests"]}
 # Programs and tables of tests, where a line says in a comment which requirement it is about.
 TESTS = [
     "crates/demands/proofs/Table.antt",
