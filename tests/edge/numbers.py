@@ -48,8 +48,7 @@ def sizes_due():
         sys.exit("numbers.py: capacity is no longer defined as the header says")
     pairs = text_of("crates/prefixes/specs/Calls.antt")
     (pair_words,) = only(r"^pairLayout = layout (\d+) M$", pairs)
-    (whole,) = only(r"^whole = (\d+)$", text_of("crates/tilings/specs/Prefixes.antt"))
-    most = 2 * whole - 2  # of one range of the line: from its low end up the exponents rise, and then they fall, from 0 to 62 and back
+    (most,) = only(r"^most = (\d+)$", text_of("crates/tilings/specs/Prefixes.antt"))
     body = {int(kind, 16): int(size) for kind, size in re.findall(r"\(eqb kind (0x\w\w)\) \(some (\d+)\)", records)}
     record = {kind: 5 + size for kind, size in body.items()}  # the mark, the kind and the check are five bytes
     set_form = only(r"readSetCall b out ≡ leaves w → length b ≡ (\d+) \+ (\d+) \* getD w 0 0\)$", laws)
