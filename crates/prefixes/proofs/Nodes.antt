@@ -1,22 +1,21 @@
 -- The nodes of the audit: what the first range that ends at or past a node's start tells of the node, and what its halves are.
-use mathlib.Core.Path.{_≡_, refl, sym, _∙_, ap, ap₂, subst}
+use mathlib.Core.Path.{_≡_, refl, sym, _∙_, ap, subst}
 use mathlib.Core.Logic.{_⊎_, inl, inr}
 use mathlib.Core.Bool.{Bool, true, false}
 use mathlib.Core.List.{List, [], _∷_, _++_}
-use Prim.Native.Nat.{ℕ, zero, suc, _+_, _*_, _-_, _/_, _^_, _≤_, _<_, max}
+use Prim.Native.Nat.{ℕ, suc, _+_, _*_, _-_, _/_, _^_, _≤_, _<_, max}
 use native.Mathlib.Omega.{arith}
 use native.Mathlib.Nat.{pow-suc}
-use native.Mathlib.Decide.{decLt}
 use lib.Pow.{pow-pos}
 use lib.Dec.{leb}
 use lib.ListN.{length, getD}
 use borrow.Author.Count.{below-more}
 use borrow.Author.Tests.{leb-true, leb-false}
 use Rattle.entries.specs.Entries.{Entry, valueAt}
-use Rattle.entries.specs.Build.{pick, andb}
+use Rattle.entries.specs.Build.{andb}
 use Rattle.entries.specs.Sets.{M, pastM, has, member}
-use Rattle.entries.proofs.Index.{rises, sound-ok}
-use Rattle.entries.proofs.Values.{true≢false}
+use Rattle.entries.proofs.Index.{sound-ok}
+use Rattle.entries.proofs.Values.{and-true}
 use Rattle.entries.proofs.Append.{value-index, value-gap}
 use Rattle.entries.proofs.Windows.{Passed}
 use Rattle.entries.proofs.Finding.{behind-free}
@@ -35,10 +34,6 @@ use Rattle.prefixes.proofs.Noting.{all-append}
 not-both : (s t : Bool) → andb s t ≡ false → (s ≡ false) ⊎ (t ≡ false)
 not-both true t q = inr q
 not-both false t q = inl refl
-
-both-hold : (s t : Bool) → andb s t ≡ true → (s ≡ true) × (t ≡ true)
-both-hold true t q = (refl, q)
-both-hold false t q = absurd (true≢false (sym q))
 
 module _ {w : List ℕ} {start e ones at : ℕ} (g : Node w start e ones at) where
   abbrev es : List Entry
@@ -105,10 +100,10 @@ module _ {w : List ℕ} {start e ones at : ℕ} (g : Node w start e ones at) whe
       -- WHOLLY IN, and kept
       module _ (inner : andb (leb low start) (leb (start + ones) high) ≡ true) where
         from-low : low ≤ start
-        from-low = leb-true low start (both-hold (leb low start) (leb (start + ones) high) inner .0)
+        from-low = leb-true low start (and-true (leb low start) (leb (start + ones) high) inner .0)
 
         to-high : start + ones ≤ high
-        to-high = leb-true (start + ones) high (both-hold (leb low start) (leb (start + ones) high) inner .1)
+        to-high = leb-true (start + ones) high (and-true (leb low start) (leb (start + ones) high) inner .1)
 
         is-in : whollyIn es e start ≡ true
         is-in = full-in es (g .block .sound) e start in-line (λ y a b. in-range y (omega (arith, from-low)) (omega (arith, to-high, g .size)))
