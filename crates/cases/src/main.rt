@@ -1,4 +1,4 @@
-// Runs the worked numbers that are not in the proved table, and published examples of Fletcher's check; writes what each gave.
+// Runs the worked numbers that are not in the proved table, and published examples of both checks; writes what each gave.
 use answers::Judged;
 use answers::Refusal;
 use answers::Truth;
@@ -59,19 +59,31 @@ fn no_block(words: &[u64], block: &mut [u64]) {
     );
 }
 
-// The check bytes of the range record of a set of one range.
-fn range_check(name: &[u8], low: u64, high: u64) {
+// Two bytes in hexadecimal, to the end of the line.
+fn two(b: u64, a: u64) {
+    io::print_hex(1, b, 2);
+    io::write_all(1, b" ");
+    io::print_hex(1, a, 2);
+    io::write_all(1, b"\n");
+}
+
+// The check bytes of the range record of a set of one range, as it is written: with the new mark.
+fn new_check(name: &[u8], low: u64, high: u64) {
     let block = [1, low, high];
     let mut bytes = [0u8; 28];
     io::write_all(1, name);
     match forms::write_set(&block, &mut bytes, 0) {
-        Written::Length(_) => {
-            io::print_hex(1, wide(bytes[26]), 2);
-            io::write_all(1, b" ");
-            io::print_hex(1, wide(bytes[27]), 2);
-            io::write_all(1, b"\n");
-        }
+        Written::Length(_) => two(wide(bytes[26]), wide(bytes[27])),
         Written::Refused(f) => refused(f),
+    }
+}
+
+// The check bytes that these bytes of kind and body have in a record with the old mark.
+fn old_check(name: &[u8], text: &[u8]) {
+    if text.len() <= 33 {
+        io::write_all(1, name);
+        let check = checks::check_of(text, checks::OLD_MARK);
+        two(check / 256, check % 256);
     }
 }
 
@@ -80,24 +92,34 @@ fn wide(x: u8) -> u64 {
     x as u64
 }
 
-// The check of a published example.
-fn published(name: &[u8], text: &[u8]) {
+// The check of a published example, as a record with this mark has it.
+fn published(name: &[u8], text: &[u8], mark: u16) {
     if text.len() <= 33 {
         io::write_all(1, name);
-        io::print_hex(1, numbers::check_of(text, verdicts::MARK), 4);
+        io::print_hex(1, checks::check_of(text, mark), 4);
         io::write_all(1, b"\n");
     }
 }
 
-// [N-O, Y11] The cases in the order of the file stdout; among them the checks of the records of 0..0 and 0..M, and published ones.
+// [N-O, Y11, C1] The cases in the order of the file stdout; among them the checks of the records of 0..0 and 0..M under both marks, and
+// published ones.
 fn main() {
     let empty = [0u64; 1];
     let mut block = [0u64; 1];
     no_input(&empty, &mut block);
     no_block(&empty, &mut block);
-    range_check(b"O check of 0..0: ", 0, 0);
-    range_check(b"O check of 0..M: ", 0, blocks::M);
-    published(b"abcde: ", b"abcde");
-    published(b"abcdef: ", b"abcdef");
-    published(b"abcdefgh: ", b"abcdefgh");
+    old_check(
+        b"O old check of 0..0: ",
+        b"\x10\x00\x00\x00\x00\x00\x00\x00\x00\x00\x00\x00\x00\x00\x00\x00\x00",
+    );
+    old_check(
+        b"O old check of 0..M: ",
+        b"\x10\x00\x00\x00\x00\x00\x00\x00\x00\xff\xff\xff\xff\xff\xff\xff\xff",
+    );
+    new_check(b"O new check of 0..0: ", 0, 0);
+    new_check(b"O new check of 0..M: ", 0, blocks::M);
+    published(b"abcde: ", b"abcde", checks::OLD_MARK);
+    published(b"abcdef: ", b"abcdef", checks::OLD_MARK);
+    published(b"abcdefgh: ", b"abcdefgh", checks::OLD_MARK);
+    published(b"123456789: ", b"123456789", checks::NEW_MARK);
 }

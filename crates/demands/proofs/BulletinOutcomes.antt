@@ -18,6 +18,7 @@ use Rattle.runs.specs.Runs.{lengths}
 use Rattle.runs.proofs.Several.{shapes}
 use Rattle.verdicts.specs.declared.Form.{Form}
 use Rattle.verdicts.specs.Steps.{FormKind}
+use Rattle.checks.specs.Check.{newMark}
 use Rattle.verdicts.specs.Forms.{ofSet, ofMap, ofBulletin, ofSigned, formOf, sharing, sizeOf as bytesIn}
 use Rattle.verdicts.proofs.Whole.{set-kind, map-kind, bulletin-kind, signed-kind, size}
 use Rattle.forms.specs.Calls.{heldIn, inputs, noSpace, blockRefusals, writeCall}
@@ -98,9 +99,9 @@ pub write-overlap-exactly : WriteOverlapExactly
 unfolding writeCall
 write-overlap-exactly released withdrawn bytes p =
     iff-by (refused-one 14 0 (overlapping r w) (input 0 setLayout released ∷ input 1 setLayout withdrawn ∷ [])
-    (at 0 (applies (noSpace p (length (formOf ofBulletin (r ∷ w ∷ []))) (length bytes)) 15) ∷ [])
+    (at 0 (applies (noSpace p (length (formOf newMark ofBulletin (r ∷ w ∷ []))) (length bytes)) 15) ∷ [])
     (on released, (on withdrawn, tt)) (overlap-only r w)
-    (applied (Other 14) (noSpace p (length (formOf ofBulletin (r ∷ w ∷ []))) (length bytes)) 15 (λ e. omega arith), tt) (bytes ∷ []) _ _)
+    (applied (Other 14) (noSpace p (length (formOf newMark ofBulletin (r ∷ w ∷ []))) (length bytes)) 15 (λ e. omega arith), tt) (bytes ∷ []) _ _)
     (λ h. (h .0 .0, h .0 .1 .0, λ c. h .1 (apart-overlap r w c)))
     (λ h. ((h .0, (h .1, tt)), λ z. h .2 (overlap-apart r w z)))
   where
@@ -182,12 +183,12 @@ module _ (f : Form) (k : FormKind f) (ws : List (List ℕ)) (m : length ws ≡ f
     (to : Clear (blockRefusals f ws) → Q) (from : Q → Clear (blockRefusals f ws)) (n : ℕ) (e : bytesIn f (lengths (heldIn (f .layout) ws)) ≡ n)
     (bytes : List ℕ) (p : ℕ) where
   abbrev bytesOf : ℕ
-  bytesOf = length (formOf f (heldIn (f .layout) ws))
+  bytesOf = length (formOf newMark f (heldIn (f .layout) ws))
 
   -- how many bytes the form takes
   form-size : Clear (blockRefusals f ws) → bytesOf ≡ n
   form-size c =
-      size f k (heldIn (f .layout) ws) (many-held (f .layout) ws ∙ m)
+      size f k newMark (heldIn (f .layout) ws) (many-held (f .layout) ws ∙ m)
       (shapes (f .layout .width) (f .layout .limit) (heldIn (f .layout) ws)
       (held-fine (f .layout) (k .first .two) 0 ws (clear-split (inputs (f .layout) 0 ws) _ c .0)))
       ∙ e

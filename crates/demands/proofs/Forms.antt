@@ -17,16 +17,17 @@ use Rattle.runs.proofs.Several.{shapes}
 use Rattle.blocks.proofs.Words.{items-length}
 use Rattle.blocks.proofs.Canonical.{entries-stored}
 use Rattle.numbers.specs.Numbers.{Bytes, patch}
+use Rattle.checks.specs.Check.{newMark}
 use Rattle.runs.specs.Runs.{lengths, Fine}
 use Rattle.verdicts.specs.declared.Form.{Form}
 use Rattle.verdicts.specs.Steps.{FormKind}
 use Rattle.verdicts.specs.Forms.{formEntries, formRefusals, outRefusals, ofSet, ofMap, ofBulletin, ofSigned, formOf, overlap, sizeOf}
-use Rattle.verdicts.proofs.Whole.{set-kind, map-kind, bulletin-kind, signed-kind, size}
+use Rattle.verdicts.proofs.Whole.{set-kind, map-kind, bulletin-kind, signed-kind, mark-back, back, whole, size}
 use Rattle.forms.specs.Calls.{storedIn, readCall, readSetCall, oneNumber, firstOf, memberOfFormCall, heldIn, inputs, blockRefusals, writeRefusals, writtenAt}
 use Rattle.forms.specs.Calls.{writeCall, writeSetCall, writeMapCall, writeBulletinCall, writeSignedCall}
 use Rattle.forms.proofs.Forms.{accepted-formed, formed-accepted, read-written, written-read, held-fine, many-held}
-use Rattle.demands.specs.Bytes.{OfFour, of-set, of-map, of-bulletin, of-signed, Read, ReadExactly, ReadWritten, WrittenRead, BytesKeep, HostQuestion}
-use Rattle.demands.specs.Bytes.{WriteSizes}
+use Rattle.demands.specs.Bytes.{OfFour, of-set, of-map, of-bulletin, of-signed, Read, ReadExactly, BothRead, ReadWritten, WrittenRead}
+use Rattle.demands.specs.Bytes.{WriteSizes, BytesKeep, HostQuestion}
 
 -- the laws of every form hold of the four
 pub kind-of : {f : Form} → OfFour f → FormKind f
@@ -60,6 +61,18 @@ module _ (f : Form) (k : FormKind f) (b : List ℕ) (y : Bytes b) (outs ws : Lis
 pub read-exactly : ReadExactly
 read-exactly f t b y outs ws = record { to = was-read f (kind-of t) b y outs ws; from = is-read f (kind-of t) b y outs ws }
 
+-- OLD FORMS AND NEW
+pub both-read : BothRead
+unfolding readCall
+both-read f t mark o runs many fine apart outs room =
+    let b = formOf mark f runs in
+    let h = shapes (f .layout .width) (f .layout .limit) runs fine in
+    let fs = outRefusals (f .layout) (lengths outs) (lengths runs) in
+    ap (λ (es : List (List Entry)). inTurn (formRefusals f b ++ outRefusals (f .layout) (lengths outs) (lengths es)) outs
+    (outcome (given []) (storedIn outs es))) (back f (kind-of t) mark runs many h)
+    ∙ clear-turn (formRefusals f b ++ fs) outs (outcome (given []) (storedIn outs runs))
+    (clear-both (formRefusals f b) fs (whole f (kind-of t) mark runs many h (mark-back mark f runs o) fine apart) room)
+
 pub read-and-written : ReadWritten
 read-and-written f t b outs ws bytes p y n e h = read-written f (kind-of t) b outs ws bytes p y n e h
 
@@ -76,7 +89,7 @@ read-keeps f b outs =
 write-keeps : (f : Form) (ws : List (List ℕ)) (bytes : List ℕ) (p : ℕ) → Keeps (bytes ∷ []) (writeCall f ws bytes p)
 unfolding writeCall
 write-keeps f ws bytes p =
-    let form = formOf f (heldIn (f .layout) ws) in
+    let form = formOf newMark f (heldIn (f .layout) ws) in
     turn-keeps (writeRefusals f ws (length form) (length bytes) p) (bytes ∷ []) (writtenAt p form bytes) tt
 
 pub bytes-keep : BytesKeep
@@ -139,37 +152,37 @@ host-question b x y = (given-by, refused-by)
 -- WRITING: the length by the counts of the blocks, and the bytes
 module _ (f : Form) (k : FormKind f) (ws : List (List ℕ)) (bytes bytes′ : List ℕ) (p n : ℕ) where
   written : length ws ≡ f .runs → writeCall f ws bytes p ≡ outcome (given (n ∷ [])) (bytes′ ∷ [])
-      → (n ≡ sizeOf f (lengths (heldIn (f .layout) ws))) × (bytes′ ≡ patch p (formOf f (heldIn (f .layout) ws)) bytes)
+      → (n ≡ sizeOf f (lengths (heldIn (f .layout) ws))) × (bytes′ ≡ patch p (formOf newMark f (heldIn (f .layout) ws)) bytes)
   unfolding writeCall
   written m e =
       let es = heldIn (f .layout) ws in
-      let g = formOf f es in
+      let g = formOf newMark f es in
       let t = turn-accepted (writeRefusals f ws (length g) (length bytes) p) (bytes ∷ []) (writtenAt p g bytes) (n ∷ []) (bytes′ ∷ []) e in
       let a = clear-split (blockRefusals f ws) _ (t .0) in
       let i = clear-split (inputs (f .layout) 0 ws) (overlap es ∷ []) (a .0) in
       let h = shapes (f .layout .width) (f .layout .limit) es (held-fine (f .layout) (k .first .two) 0 ws (i .0)) in
       let x : length g ≡ n = cc in
       let z : bytes′ ≡ patch p g bytes = cc in
-      (sym x ∙ size f k es (many-held (f .layout) ws ∙ m) h, z)
+      (sym x ∙ size f k newMark es (many-held (f .layout) ws ∙ m) h, z)
 
 pub write-sizes : WriteSizes
 write-sizes p n bytes bytes′ = (of-sets, of-maps, of-bulletins, of-signeds)
   where
     of-sets : (w : List ℕ) → writeSetCall w bytes p ≡ outcome (given (n ∷ [])) (bytes′ ∷ [])
-        → (n ≡ 7 + 21 * getD w 0 0) × (bytes′ ≡ patch p (formOf ofSet (entriesOf 2 w ∷ [])) bytes)
+        → (n ≡ 7 + 21 * getD w 0 0) × (bytes′ ≡ patch p (formOf newMark ofSet (entriesOf 2 w ∷ [])) bytes)
     of-sets w e = let k = written ofSet set-kind (w ∷ []) bytes bytes′ p n refl e in (omega (arith, k .0, items-length 2 (getD w 0 0) (drop 1 w)), k .1)
 
     of-maps : (w : List ℕ) → writeMapCall w bytes p ≡ outcome (given (n ∷ [])) (bytes′ ∷ [])
-        → (n ≡ 7 + 29 * getD w 0 0) × (bytes′ ≡ patch p (formOf ofMap (entriesOf 3 w ∷ [])) bytes)
+        → (n ≡ 7 + 29 * getD w 0 0) × (bytes′ ≡ patch p (formOf newMark ofMap (entriesOf 3 w ∷ [])) bytes)
     of-maps w e = let k = written ofMap map-kind (w ∷ []) bytes bytes′ p n refl e in (omega (arith, k .0, items-length 3 (getD w 0 0) (drop 1 w)), k .1)
 
     of-bulletins : (r w : List ℕ) → writeBulletinCall r w bytes p ≡ outcome (given (n ∷ [])) (bytes′ ∷ [])
-        → (n ≡ 9 + 21 * (getD r 0 0 + getD w 0 0)) × (bytes′ ≡ patch p (formOf ofBulletin (entriesOf 2 r ∷ entriesOf 2 w ∷ [])) bytes)
+        → (n ≡ 9 + 21 * (getD r 0 0 + getD w 0 0)) × (bytes′ ≡ patch p (formOf newMark ofBulletin (entriesOf 2 r ∷ entriesOf 2 w ∷ [])) bytes)
     of-bulletins r w e =
         let k = written ofBulletin bulletin-kind (r ∷ w ∷ []) bytes bytes′ p n refl e in
         (omega (arith, k .0, items-length 2 (getD r 0 0) (drop 1 r), items-length 2 (getD w 0 0) (drop 1 w)), k .1)
 
     of-signeds : (w : List ℕ) → writeSignedCall w bytes p ≡ outcome (given (n ∷ [])) (bytes′ ∷ [])
-        → (n ≡ 7 + 21 * getD w 0 0) × (bytes′ ≡ patch p (formOf ofSigned (entriesOf 2 w ∷ [])) bytes)
+        → (n ≡ 7 + 21 * getD w 0 0) × (bytes′ ≡ patch p (formOf newMark ofSigned (entriesOf 2 w ∷ [])) bytes)
     of-signeds w e =
         let k = written ofSigned signed-kind (w ∷ []) bytes bytes′ p n refl e in (omega (arith, k .0, items-length 2 (getD w 0 0) (drop 1 w)), k .1)

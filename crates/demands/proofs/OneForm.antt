@@ -12,16 +12,18 @@ use Rattle.blocks.specs.Blocks.{setLayout, mapLayout, wordsOf, verdict, Lent}
 use Rattle.blocks.proofs.Words.{items-length, lent-block}
 use Rattle.blocks.proofs.Refusing.{some-words, room-fits}
 use Rattle.blocks.proofs.Canonical.{entries-stored, sound-stored}
-use Rattle.numbers.specs.Numbers.{Bytes, past2}
+use Rattle.numbers.specs.Numbers.{Bytes, past2, patch}
+use Rattle.checks.specs.Check.{newMark}
 use Rattle.runs.specs.Runs.{lengths, Fine}
 use Rattle.answers.proofs.Turns.{clear-split}
 use Rattle.runs.proofs.Several.{shapes}
 use Rattle.verdicts.specs.declared.Form.{Form}
-use Rattle.verdicts.specs.Forms.{ofSet, ofMap, ofBulletin, ofSigned, formOf, sizeOf, overlap, noBlocks, noRooms}
+use Rattle.verdicts.specs.Forms.{ofSet, ofMap, ofBulletin, ofSigned, markOf, formOf, sizeOf, overlap, noBlocks, noRooms}
 use Rattle.verdicts.proofs.Whole.{size}
 use Rattle.forms.specs.Calls.{storedIn, readCall, readSetCall, readMapCall, readBulletinCall, readSignedCall, heldIn, inputs, noSpace, writtenAt, writeCall}
+use Rattle.forms.proofs.Forms.{read-written}
 use Rattle.demands.specs.Plain.{In, leaves}
-use Rattle.demands.specs.Bytes.{OfFour, of-set, of-map, of-bulletin, of-signed, WholeForm, ReadSizes, OneSetForm, OneMapForm, OneBulletinForm}
+use Rattle.demands.specs.Bytes.{OfFour, of-set, of-map, of-bulletin, of-signed, GivesBack, WholeForm, ReadSizes, OneSetForm, OneMapForm, OneBulletinForm}
 use Rattle.demands.specs.Bytes.{OneSignedForm, OneSetWritten, OneMapWritten, OneSignedWritten, OneBulletinWritten}
 use Rattle.demands.proofs.Signed.{all-keys}
 use Rattle.demands.proofs.Stored.{one-set, one-map}
@@ -52,7 +54,7 @@ module _ (l : Layout) (two : 2 ≤ l .width) (small : l .limit < past2) where
 -- READING leaves such blocks; the bytes are the form of what they say, and as many as its size
 module _ (f : Form) (t : OfFour f) where
   read-blocks : (b : List ℕ) (outs ws : List (List ℕ)) → Bytes b → length outs ≡ f .runs → readCall f b outs ≡ outcome (given []) ws
-      → Each (Good (f .layout)) ws × (b ≡ formOf f (heldIn (f .layout) ws)) × (length b ≡ sizeOf f (lengths (heldIn (f .layout) ws)))
+      → Each (Good (f .layout)) ws × (b ≡ formOf (markOf b) f (heldIn (f .layout) ws)) × (length b ≡ sizeOf f (lengths (heldIn (f .layout) ws)))
   read-blocks b outs ws y many e =
       let k = kind-of t in
       let r = read-exactly f t b y outs ws .to e in
@@ -62,19 +64,25 @@ module _ (f : Form) (t : OfFour f) where
       (g .lent) in
       let said : r .runs ≡ heldIn (f .layout) ws = sym (h .1) ∙ ap (heldIn (f .layout)) (sym (r .left)) in (
         subst (Each (Good (f .layout))) (sym (r .left)) (h .0),
-        g .form ∙ ap (formOf f) said,
-        ap length (g .form) ∙ size f k (r .runs) (g .many) (shapes (f .layout .width) (f .layout .limit) (r .runs) (g .fine))
+        g .form ∙ ap (formOf (markOf b) f) said,
+        ap length (g .form) ∙ size f k (markOf b) (r .runs) (g .many) (shapes (f .layout .width) (f .layout .limit) (r .runs) (g .fine))
             ∙ ap (λ (runs : List (List Entry)). sizeOf f (lengths runs)) said,
       )
 
-  -- so blocks that say the same were read from the same bytes
-  one-form : (b b′ : List ℕ) (outs outs′ ws ws′ : List (List ℕ)) → Bytes b → Bytes b′ → length outs ≡ f .runs → length outs′ ≡ f .runs
-      → readCall f b outs ≡ outcome (given []) ws → readCall f b′ outs′ ≡ outcome (given []) ws′
+  -- so blocks that say the same were read from the same bytes, if these bear the same mark
+  one-form : (b b′ : List ℕ) (outs outs′ ws ws′ : List (List ℕ)) → Bytes b → Bytes b′ → markOf b ≡ markOf b′ → length outs ≡ f .runs
+      → length outs′ ≡ f .runs → readCall f b outs ≡ outcome (given []) ws → readCall f b′ outs′ ≡ outcome (given []) ws′
       → (Each (Good (f .layout)) ws → Each (Good (f .layout)) ws′ → heldIn (f .layout) ws ≡ heldIn (f .layout) ws′) → b ≡ b′
-  one-form b b′ outs outs′ ws ws′ y y′ m m′ e e′ same =
+  one-form b b′ outs outs′ ws ws′ y y′ o m m′ e e′ same =
       let r = read-blocks b outs ws y m e in
       let r′ = read-blocks b′ outs′ ws′ y′ m′ e′ in
-      r .1 ∙ ap (formOf f) (same (r .0) (r′ .0)) ∙ sym (r′ .1)
+      r .1 ∙ ap₂ (λ (mark : ℕ) (runs : List (List Entry)). formOf mark f runs) o (same (r .0) (r′ .0)) ∙ sym (r′ .1)
+
+pub gives-back : GivesBack
+gives-back f t b outs ws bytes p y many o e h =
+    read-written f (kind-of t) b outs ws bytes p y many e h
+    ∙ ap (λ (x : List ℕ). outcome (given (length b ∷ [])) (patch p x bytes ∷ []))
+    (sym (read-blocks f t b outs ws y many e .1 ∙ ap (λ (mark : ℕ). formOf mark f (heldIn (f .layout) ws)) o))
 
 pub whole-form : WholeForm
 whole-form f t b y outs ws many e = read-blocks f t b outs ws y many e .1
@@ -101,24 +109,24 @@ read-sizes b y = (of-sets, of-maps, of-bulletins, of-signeds)
     of-signeds out w e = omega (arith, read-blocks ofSigned of-signed b (out ∷ []) (w ∷ []) y refl e .2, items-length 2 (getD w 0 0) (drop 1 w))
 
 pub one-set-form : OneSetForm
-one-set-form b b′ out out′ w w′ y y′ e e′ h =
-    one-form ofSet of-set b b′ (out ∷ []) (out′ ∷ []) (w ∷ []) (w′ ∷ []) y y′ refl refl e e′
+one-set-form b b′ out out′ w w′ y y′ o e e′ h =
+    one-form ofSet of-set b b′ (out ∷ []) (out′ ∷ []) (w ∷ []) (w′ ∷ []) y y′ o refl refl e e′
     (λ p q. ap (λ (es : List Entry). es ∷ []) (one-set w w′ (p .0 .0) (q .0 .0) (p .0 .1) (q .0 .1) h))
 
 pub one-map-form : OneMapForm
-one-map-form b b′ out out′ w w′ y y′ e e′ h =
-    one-form ofMap of-map b b′ (out ∷ []) (out′ ∷ []) (w ∷ []) (w′ ∷ []) y y′ refl refl e e′
+one-map-form b b′ out out′ w w′ y y′ o e e′ h =
+    one-form ofMap of-map b b′ (out ∷ []) (out′ ∷ []) (w ∷ []) (w′ ∷ []) y y′ o refl refl e e′
     (λ p q. ap (λ (es : List Entry). es ∷ []) (one-map w w′ (p .0 .0) (q .0 .0) (p .0 .1) (q .0 .1) h))
 
 pub one-bulletin-form : OneBulletinForm
-one-bulletin-form b b′ outR outW outR′ outW′ r w r′ w′ y y′ e e′ h g =
-    one-form ofBulletin of-bulletin b b′ (outR ∷ outW ∷ []) (outR′ ∷ outW′ ∷ []) (r ∷ w ∷ []) (r′ ∷ w′ ∷ []) y y′ refl refl e e′
+one-bulletin-form b b′ outR outW outR′ outW′ r w r′ w′ y y′ o e e′ h g =
+    one-form ofBulletin of-bulletin b b′ (outR ∷ outW ∷ []) (outR′ ∷ outW′ ∷ []) (r ∷ w ∷ []) (r′ ∷ w′ ∷ []) y y′ o refl refl e e′
     (λ p q. ap₂ (λ (es fs : List Entry). es ∷ fs ∷ []) (one-set r r′ (p .0 .0) (q .0 .0) (p .0 .1) (q .0 .1) h)
     (one-set w w′ (p .1 .0 .0) (q .1 .0 .0) (p .1 .0 .1) (q .1 .0 .1) g))
 
 pub one-signed-form : OneSignedForm
-one-signed-form b b′ out out′ w w′ y y′ e e′ h =
-    one-form ofSigned of-signed b b′ (out ∷ []) (out′ ∷ []) (w ∷ []) (w′ ∷ []) y y′ refl refl e e′
+one-signed-form b b′ out out′ w w′ y y′ o e e′ h =
+    one-form ofSigned of-signed b b′ (out ∷ []) (out′ ∷ []) (w ∷ []) (w′ ∷ []) y y′ o refl refl e e′
     (λ p q. ap (λ (es : List Entry). es ∷ []) (one-set w w′ (p .0 .0) (q .0 .0) (p .0 .1) (q .0 .1) (all-keys (λ x. In w x ≡ In w′ x) .from h)))
 
 -- WRITING looks at the verdicts on the blocks, and at what they say
@@ -127,8 +135,8 @@ one-written : (f : Form) (ws ws′ : List (List ℕ)) (bytes : List ℕ) (p : �
 unfolding writeCall
 one-written f ws ws′ bytes p i h =
     ap₂ (λ (fs : List Finding) (runs : List (List Entry)).
-    inTurn (fs ++ (overlap runs ∷ []) ++ (at 0 (applies (noSpace p (length (formOf f runs)) (length bytes)) 15) ∷ [])) (bytes ∷ [])
-    (writtenAt p (formOf f runs) bytes)) i h
+    inTurn (fs ++ (overlap runs ∷ []) ++ (at 0 (applies (noSpace p (length (formOf newMark f runs)) (length bytes)) 15) ∷ [])) (bytes ∷ [])
+    (writtenAt p (formOf newMark f runs) bytes)) i h
 
 -- the verdicts on two sound blocks are one
 alike : (l : Layout) (q : ℕ) (w w′ : List ℕ) → verdict l w ≡ 0 → verdict l w′ ≡ 0 → at q (verdict l w) ≡ at q (verdict l w′)

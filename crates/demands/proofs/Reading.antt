@@ -16,18 +16,19 @@ use Rattle.answers.specs.declared.Finding.{Finding}
 use Rattle.answers.specs.Steps.{Named}
 use Rattle.answers.proofs.Turns.{refused-named, turn-accepted, clear-split, clear-both}
 use Rattle.numbers.specs.Numbers.{Bytes, num2, be8}
-use Rattle.numbers.specs.Check.{checkOf}
-use Rattle.records.specs.Records.{bodyLength, recordOf, saying, bodyVerdict, recordVerdict, inOrder, entryIn, allWithin}
+use Rattle.checks.specs.Check.{oldMark, newMark, checkOf}
+use Rattle.records.proofs.Heads.{record-inv}
+use Rattle.records.specs.Records.{bodyLength, startVerdict, recordOf, saying, bodyVerdict, recordVerdict, inOrder, entryIn, allWithin}
 use Rattle.runs.specs.Runs.{lengths, runsIn, runRefusals, runsRefusals}
 use Rattle.runs.proofs.Several.{many-lengths}
 use Rattle.verdicts.specs.declared.Form.{Form}
-use Rattle.verdicts.specs.Forms.{formMark, ofSet, kindsOf, startSize, formCounts, formEntries, sizeOf, sharing, trailing, overlap, formRefusals}
+use Rattle.verdicts.specs.Forms.{markOf, ofSet, kindsOf, startSize, formCounts, formEntries, sizeOf, sharing, trailing, overlap, formRefusals}
 use Rattle.verdicts.specs.Forms.{noBlocks, noRooms, outRefusals}
-use Rattle.verdicts.proofs.Whole.{set-kind}
-use Rattle.forms.specs.Calls.{storedIn, readCall, memberOfFormCall}
+use Rattle.forms.specs.Calls.{storedIn, readCall}
 use Rattle.forms.proofs.Forms.{accepted-formed, formed-accepted}
 use Rattle.demands.specs.Bytes.{OfFour, of-set, of-map, of-bulletin, of-signed, lastOfBytes, IsForm, ReadRefusals, HostRefuses, NoRoomFor, ReadRoom}
-use Rattle.demands.specs.Bytes.{OtherStart, OtherItem, KeyRecord}
+use Rattle.demands.specs.Bytes.{OtherMark, MixedMarks, OtherStart, OtherItem, KeyRecord}
+use Rattle.demands.specs.Damage.{BytesRefused}
 use Rattle.demands.specs.Plain.{Iff, Lacks}
 use Rattle.demands.proofs.Findings.{Where, Numbered, chosen, not-any, applied, numbered-both, numbered-so, named-number, named-applies, named-split}
 use Rattle.demands.proofs.Rooms.{Not5, words-numbers, rooms-numbers, clear-words, words-clear, refused-room}
@@ -77,10 +78,10 @@ module _ (last : ℕ) (high : 13 ≤ last) where
   form-numbers : (f : Form) (b : List ℕ) → Where (From8 last) (applies (sharing (formEntries f b)) 14) → Numbered (From8 last) (formRefusals f b)
   unfolding formRefusals
   form-numbers f b o = (
-    record-numbers (f .mark) (f .start) (allWithin (f .layout .limit) (formCounts f b)) b,
-    numbered-both (From8 last) (runsRefusals (f .mark) (f .layout .width) (startSize f) (kindsOf f) (formCounts f b) (drop (startSize f) b))
+    record-numbers (markOf b) (f .start) (allWithin (f .layout .limit) (formCounts f b)) b,
+    numbered-both (From8 last) (runsRefusals (markOf b) (f .layout .width) (startSize f) (kindsOf f) (formCounts f b) (drop (startSize f) b))
         (trailing (sizeOf f (formCounts f b)) b ∷ overlap (formEntries f b) ∷ [])
-        (runs-numbers (f .mark) (f .layout .width) (startSize f) (kindsOf f) (formCounts f b) (drop (startSize f) b))
+        (runs-numbers (markOf b) (f .layout .width) (startSize f) (kindsOf f) (formCounts f b) (drop (startSize f) b))
         (applied (From8 last) (ltb (sizeOf f (formCounts f b)) (length b)) 13 (omega arith, omega arith), (o, tt)),
   )
 
@@ -120,30 +121,33 @@ read-refusals f t b y outs after n p e =
           record { runs = formEntries f b; form = accepted-formed f (kind-of t) b y (m .0) },
         )
 
--- with no outputs, what reading accepts is a form
-form-alone : (b : List ℕ) → Bytes b → (xs : List ℕ) (after : List (List ℕ)) → readCall ofSet b [] ≡ outcome (given xs) after → IsForm ofSet b
+-- bytes that are no form are refused, whatever the outputs are
+pub no-form : (f : Form) → OfFour f → (b : List ℕ) → Bytes b → (IsForm f b → ⊥) → (outs : List (List ℕ)) → BytesRefused f b outs
 unfolding readCall
-form-alone b y xs after e =
-    let rs = outRefusals (ofSet .layout) [] (lengths (formEntries ofSet b)) in
-    let t = turn-accepted (formRefusals ofSet b ++ rs) [] (outcome (given []) (storedIn [] (formEntries ofSet b))) xs after e in
-    record { runs = formEntries ofSet b; form = accepted-formed ofSet set-kind b y (clear-split (formRefusals ofSet b) rs (t .0) .0) }
+no-form f t b y not outs = go (readCall f b outs) refl
+  where
+    rs : List Finding
+    rs = outRefusals (f .layout) (lengths outs) (lengths (formEntries f b))
+
+    told : (n p : ℕ) → readCall f b outs ≡ refuse n p outs
+        → ((8 ≤ n) × (n ≤ lastOfBytes f) × (IsForm f b → ⊥)) ⊎ (((n ≡ 1) ⊎ (n ≡ 5)) × IsForm f b) → BytesRefused f b outs
+    told n p e (inl m) = record { number = n; place = p; from8 = m .0; to-last = m .1; refused = e }
+    told n p e (inr m) = absurd (not (m .1))
+
+    go : (o : Outcome) → readCall f b outs ≡ o → BytesRefused f b outs
+    go (outcome (given xs) after) e =
+        let a = turn-accepted (formRefusals f b ++ rs) outs (outcome (given []) (storedIn outs (formEntries f b))) xs after e in
+        absurd (not (record { runs = formEntries f b; form = accepted-formed f (kind-of t) b y (clear-split (formRefusals f b) rs (a .0) .0) }))
+    go (outcome (refused n p) after) e =
+        let d : readCall f b outs ≡ refuse n p outs = e ∙ ap (outcome (refused n p)) (subst (Keeps outs) e (bytes-keep .0 f b outs)) in
+        told n p d (read-refusals f t b y outs outs n p d)
 
 -- THE C HOST'S QUESTION of bytes that are no form
 pub host-refuses : HostRefuses
-host-refuses b x y not = go (readCall ofSet b []) refl
-  where
-    told : (n p : ℕ) → readCall ofSet b [] ≡ refuse n p []
-        → ((8 ≤ n) × (n ≤ lastOfBytes ofSet) × (IsForm ofSet b → ⊥)) ⊎ (((n ≡ 1) ⊎ (n ≡ 5)) × IsForm ofSet b)
-        → (16 + 8 ≤ memberOfFormCall b x) × (memberOfFormCall b x ≤ 16 + 13)
-    told n p e (inl m) = let k = host-question b x y .1 n p e in (omega (arith, k, m .0), omega (arith, k, m .1))
-    told n p e (inr m) = absurd (not (m .1))
-
-    go : (o : Outcome) → readCall ofSet b [] ≡ o → (16 + 8 ≤ memberOfFormCall b x) × (memberOfFormCall b x ≤ 16 + 13)
-    go (outcome (given xs) after) e = absurd (not (form-alone b y xs after e))
-    go (outcome (refused n p) after) e =
-        let k : after ≡ [] = subst (Keeps []) e (bytes-keep .0 ofSet b []) in
-        let d : readCall ofSet b [] ≡ refuse n p [] = e ∙ ap (outcome (refused n p)) k in
-        told n p d (read-refusals ofSet of-set b y [] [] n p d)
+host-refuses b x y not =
+    let r = no-form ofSet of-set b y not [] in
+    let k = host-question b x y .1 (r .number) (r .place) (r .refused) in
+    (omega (arith, k, r .from8), omega (arith, k, r .to-last))
 
 -- the counts of what the bytes say are as many as the runs
 as-many : (f : Form) → OfFour f → (b : List ℕ) → length (lengths (formEntries f b)) ≡ f .runs
@@ -205,6 +209,21 @@ read-room f t b y outs many i = record { to = to; from = from }
           subst (λ (es : List (List Entry)). Lacks (f .layout) ls (lengths es) i) (sym (a .1)) (h .short),
         )
 
+-- THE MARK: a record whose mark is not the one that is due
+unmarked : (mark due : ℕ) (content : Bool) (b : List ℕ) → 3 ≤ length b → (num2 b 0 ≡ mark → ⊥) → recordVerdict mark due content b ≡ 9
+unfolding recordVerdict
+unmarked mark due content b h n = rw (le-ltb (length b) 3 h, ne-eqb (num2 b 0) mark n)
+
+-- bytes with neither mark are to be read with the new one
+neither : (b : List ℕ) → (num2 b 0 ≡ oldMark → ⊥) → markOf b ≡ newMark
+unfolding markOf
+neither b n = rw (ne-eqb (num2 b 0) oldMark n)
+
+pub other-mark : OtherMark
+unfolding readCall formRefusals
+other-mark f t b outs h o n =
+    rw (unmarked (markOf b) (f .start) (allWithin (f .layout .limit) (formCounts f b)) b h (λ e. n (e ∙ neither b o)))
+
 -- THE KIND: a record whose kind is not the one that is due
 other-kind : (mark due : ℕ) (content : Bool) (b : List ℕ) → 3 ≤ length b → num2 b 0 ≡ mark → (getD b 2 0 ≡ due → ⊥) → recordVerdict mark due content b ≡ 10
 unfolding recordVerdict
@@ -212,23 +231,39 @@ other-kind mark due content b h m n = rw (le-ltb (length b) 3 h, eq-eqb (num2 b 
 
 pub other-start : OtherStart
 unfolding readCall formRefusals
-other-start f t b outs h m n = rw (other-kind (f .mark) (f .start) (allWithin (f .layout .limit) (formCounts f b)) b h m n)
+other-start f t b outs h m n = rw (other-kind (markOf b) (f .start) (allWithin (f .layout .limit) (formCounts f b)) b h m n)
 
--- the first item, where there is one
-first-item : (mark s p kind n : ℕ) (kinds counts b : List ℕ) (gs hs : List Finding) (lent : List (List ℕ)) (o : Outcome) → 0 < n → 3 ≤ length b
-    → num2 b 0 ≡ mark → (getD b 2 0 ≡ kind → ⊥) → inTurn ((runsRefusals mark s p (kind ∷ kinds) (n ∷ counts) b ++ gs) ++ hs) lent o ≡ refuse 10 p lent
+-- the first item, where there is one, by the number of its refusal
+first-item : (mark s p kind n v : ℕ) (kinds counts b : List ℕ) (gs hs : List Finding) (lent : List (List ℕ)) (o : Outcome) → 0 < n
+    → recordVerdict mark kind (inOrder none (entryIn kind s b)) b ≡ suc v
+    → inTurn ((runsRefusals mark s p (kind ∷ kinds) (n ∷ counts) b ++ gs) ++ hs) lent o ≡ refuse (suc v) p lent
 unfolding runsRefusals runRefusals
-first-item mark s p kind zero kinds counts b gs hs lent o z h m n = absurd (omega arith)
-first-item mark s p kind (suc k) kinds counts b gs hs lent o z h m n = rw (other-kind mark kind (inOrder none (entryIn kind s b)) b h m n)
+first-item mark s p kind zero v kinds counts b gs hs lent o z e = absurd (omega arith)
+first-item mark s p kind (suc k) v kinds counts b gs hs lent o z e = rw e
 
 pub other-item : OtherItem
 unfolding readCall formRefusals
-other-item f of-set b outs v z h m n = rw v (first-item _ _ _ _ _ _ _ _ _ _ _ _ z h m n)
-other-item f of-map b outs v z h m n = rw v (first-item _ _ _ _ _ _ _ _ _ _ _ _ z h m n)
-other-item f of-bulletin b outs v z h m n = rw v (first-item _ _ _ _ _ _ _ _ _ _ _ _ z h m n)
-other-item f of-signed b outs v z h m n = rw v (first-item _ _ _ _ _ _ _ _ _ _ _ _ z h m n)
+other-item f of-set b outs v z h m n = rw v (first-item _ _ _ _ _ 9 _ _ _ _ _ _ _ z (other-kind _ _ _ _ h m n))
+other-item f of-map b outs v z h m n = rw v (first-item _ _ _ _ _ 9 _ _ _ _ _ _ _ z (other-kind _ _ _ _ h m n))
+other-item f of-bulletin b outs v z h m n = rw v (first-item _ _ _ _ _ 9 _ _ _ _ _ _ _ z (other-kind _ _ _ _ h m n))
+other-item f of-signed b outs v z h m n = rw v (first-item _ _ _ _ _ 9 _ _ _ _ _ _ _ z (other-kind _ _ _ _ h m n))
+
+-- an item behind a good start, whose mark is not the start's
+module _ (f : Form) (t : OfFour f) (b : List ℕ) (v : startVerdict (markOf b) (f .start) (f .runs) (f .layout .limit) b ≡ 0) (d : List ℕ)
+    (h : 3 ≤ length d) (n : num2 d 0 ≡ num2 b 0 → ⊥) where
+  not-marked : (due : ℕ) (content : Bool) → recordVerdict (markOf b) due content d ≡ 9
+  not-marked due content =
+      let w = record-inv (markOf b) (f .start) b (allWithin (f .layout .limit) (formCounts f b)) (2 * f .runs) (kind-of t .start .body) v .0 in
+      unmarked (markOf b) due content d h (λ e. n (e ∙ sym (w .marked)))
+
+pub mixed-marks : MixedMarks
+unfolding readCall formRefusals
+mixed-marks f of-set b outs v z h n = rw v (first-item _ _ _ _ _ 8 _ _ _ _ _ _ _ z (not-marked f of-set b v _ h n _ _))
+mixed-marks f of-map b outs v z h n = rw v (first-item _ _ _ _ _ 8 _ _ _ _ _ _ _ z (not-marked f of-map b v _ h n _ _))
+mixed-marks f of-bulletin b outs v z h n = rw v (first-item _ _ _ _ _ 8 _ _ _ _ _ _ _ z (not-marked f of-bulletin b v _ h n _ _))
+mixed-marks f of-signed b outs v z h n = rw v (first-item _ _ _ _ _ 8 _ _ _ _ _ _ _ z (not-marked f of-signed b v _ h n _ _))
 
 -- THE BYTES OF KEYS
 pub key-record : KeyRecord
 unfolding saying
-key-record low high i j = ap₂ (λ (x y : ℕ). recordOf formMark 0x14 (be8 x ++ (be8 y ++ []))) (turned-word low i) (turned-word high j)
+key-record mark low high i j = ap₂ (λ (x y : ℕ). recordOf mark 0x14 (be8 x ++ (be8 y ++ []))) (turned-word low i) (turned-word high j)

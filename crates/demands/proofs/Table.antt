@@ -34,10 +34,10 @@ use Rattle.sets.specs.Calls.{equalCall, withinCall, disjointCall, intersectionC
 use Rattle.maps.specs.Calls.{lookUpCall, eraseCall, overlayCall, restrictionCall, domainCall, mapWindowCall, mapWindowAtCall, mapWindowRefusalCall}
 use Rattle.maps.specs.Calls.{decidingSays, siteOverFactoryCall, siteOverFactoryAtCall, siteRefusalCall}
 use Rattle.bulletins.specs.Calls.{applyCall, foldCall}
-use Rattle.numbers.specs.Check.{fletcher, checkOf}
+use Rattle.checks.specs.Check.{fletcher, crcBit, crcByte, crcFrom, checkOf}
 use Rattle.records.specs.Records.{bodyLength, said, saying, recordVerdict}
 use Rattle.runs.specs.Runs.{runOf, entriesIn, runRefusals, runsOf, runsIn, runsRefusals}
-use Rattle.verdicts.specs.Forms.{formOf, formEntries, formRefusals}
+use Rattle.verdicts.specs.Forms.{markOf, formOf, formEntries, formRefusals}
 use Rattle.forms.specs.Calls.{readCall, writeCall, readSetCall, writeSetCall, readMapCall, writeMapCall, readBulletinCall, writeBulletinCall}
 use Rattle.forms.specs.Calls.{readSignedCall, writeSignedCall}
 
@@ -162,6 +162,62 @@ touchingKeys =
     ∷ 0xC5 ∷ 0x3A ∷ 0x14 ∷ 0xFF ∷ 0xFF ∷ 0xFF ∷ 0xFF ∷ 0xFF ∷ 0xFF ∷ 0xFF ∷ 0xFB ∷ 0xFF ∷ 0xFF ∷ 0xFF ∷ 0xFF ∷ 0xFF ∷ 0xFF ∷ 0xFF ∷ 0xFF ∷ 0x31 ∷ 0x10
     ∷ 0xC5 ∷ 0x3A ∷ 0x14 ∷ 0 ∷ 0 ∷ 0 ∷ 0 ∷ 0 ∷ 0 ∷ 0 ∷ 0 ∷ 0 ∷ 0 ∷ 0 ∷ 0 ∷ 0 ∷ 0 ∷ 0 ∷ 3 ∷ 0x58 ∷ 0x17 ∷ []
 
+-- [C1] the same sets, map, bulletin and sets of keys in the new form, and {0..0} and {0..M} in both: case O
+abbrev Hnew : List ℕ
+Hnew =
+    0xC5 ∷ 0x3B ∷ 1 ∷ 0 ∷ 1 ∷ 0xEB ∷ 0x8D
+    ∷ 0xC5 ∷ 0x3B ∷ 0x10 ∷ 0 ∷ 0 ∷ 0 ∷ 0 ∷ 0 ∷ 0 ∷ 0 ∷ 5 ∷ 0 ∷ 0 ∷ 0 ∷ 0 ∷ 0 ∷ 0 ∷ 0 ∷ 9 ∷ 0x3F ∷ 8 ∷ []
+
+abbrev Inew : List ℕ
+Inew = 0xC5 ∷ 0x3B ∷ 1 ∷ 0 ∷ 0 ∷ 0xFB ∷ 0xAC ∷ []
+
+abbrev oneEntryNew : List ℕ
+oneEntryNew =
+    0xC5 ∷ 0x3B ∷ 2 ∷ 0 ∷ 1 ∷ 0xB2 ∷ 0xDD
+    ∷ 0xC5 ∷ 0x3B ∷ 0x11 ∷ 0 ∷ 0 ∷ 0 ∷ 0 ∷ 0 ∷ 0 ∷ 0 ∷ 0 ∷ 0 ∷ 0 ∷ 0 ∷ 0 ∷ 0 ∷ 0 ∷ 0 ∷ 9 ∷ 0 ∷ 0 ∷ 0 ∷ 0 ∷ 0 ∷ 0 ∷ 0 ∷ 1 ∷ 0x0A ∷ 0x4C ∷ []
+
+abbrev oneEachNew : List ℕ
+oneEachNew =
+    0xC5 ∷ 0x3B ∷ 3 ∷ 0 ∷ 1 ∷ 0 ∷ 1 ∷ 0xD8 ∷ 0xCF
+    ∷ 0xC5 ∷ 0x3B ∷ 0x12 ∷ 0 ∷ 0 ∷ 0 ∷ 0 ∷ 0 ∷ 0 ∷ 0 ∷ 1 ∷ 0 ∷ 0 ∷ 0 ∷ 0 ∷ 0 ∷ 0 ∷ 0 ∷ 4 ∷ 0x53 ∷ 0x8E
+    ∷ 0xC5 ∷ 0x3B ∷ 0x13 ∷ 0 ∷ 0 ∷ 0 ∷ 0 ∷ 0 ∷ 0 ∷ 0 ∷ 9 ∷ 0 ∷ 0 ∷ 0 ∷ 0 ∷ 0 ∷ 0 ∷ 0 ∷ 9 ∷ 0xBB ∷ 0x3E ∷ []
+
+abbrev keyBytesNew : List ℕ
+keyBytesNew =
+    0xC5 ∷ 0x3B ∷ 4 ∷ 0 ∷ 1 ∷ 0 ∷ 0x7D
+    ∷ 0xC5 ∷ 0x3B ∷ 0x14 ∷ 0xFF ∷ 0xFF ∷ 0xFF ∷ 0xFF ∷ 0xFF ∷ 0xFF ∷ 0xFF ∷ 0xFB ∷ 0 ∷ 0 ∷ 0 ∷ 0 ∷ 0 ∷ 0 ∷ 0 ∷ 3 ∷ 0x90 ∷ 0x49 ∷ []
+
+abbrev allButOneNew : List ℕ
+allButOneNew =
+    0xC5 ∷ 0x3B ∷ 4 ∷ 0 ∷ 2 ∷ 0x30 ∷ 0x1E
+    ∷ 0xC5 ∷ 0x3B ∷ 0x14 ∷ 0x80 ∷ 0 ∷ 0 ∷ 0 ∷ 0 ∷ 0 ∷ 0 ∷ 0 ∷ 0xFF ∷ 0xFF ∷ 0xFF ∷ 0xFF ∷ 0xFF ∷ 0xFF ∷ 0xFF ∷ 0xFE ∷ 0x24 ∷ 0xD4
+    ∷ 0xC5 ∷ 0x3B ∷ 0x14 ∷ 0 ∷ 0 ∷ 0 ∷ 0 ∷ 0 ∷ 0 ∷ 0 ∷ 0 ∷ 0x7F ∷ 0xFF ∷ 0xFF ∷ 0xFF ∷ 0xFF ∷ 0xFF ∷ 0xFF ∷ 0xFF ∷ 0xC1 ∷ 5 ∷ []
+
+abbrev onlyZero : List ℕ
+onlyZero =
+    0xC5 ∷ 0x3A ∷ 1 ∷ 0 ∷ 1 ∷ 4 ∷ 2
+    ∷ 0xC5 ∷ 0x3A ∷ 0x10 ∷ 0 ∷ 0 ∷ 0 ∷ 0 ∷ 0 ∷ 0 ∷ 0 ∷ 0 ∷ 0 ∷ 0 ∷ 0 ∷ 0 ∷ 0 ∷ 0 ∷ 0 ∷ 0 ∷ 0x11 ∷ 0x10 ∷ []
+
+abbrev onlyZeroNew : List ℕ
+onlyZeroNew =
+    0xC5 ∷ 0x3B ∷ 1 ∷ 0 ∷ 1 ∷ 0xEB ∷ 0x8D
+    ∷ 0xC5 ∷ 0x3B ∷ 0x10 ∷ 0 ∷ 0 ∷ 0 ∷ 0 ∷ 0 ∷ 0 ∷ 0 ∷ 0 ∷ 0 ∷ 0 ∷ 0 ∷ 0 ∷ 0 ∷ 0 ∷ 0 ∷ 0 ∷ 0xD9 ∷ 0xED ∷ []
+
+abbrev wholeLine : List ℕ
+wholeLine =
+    0xC5 ∷ 0x3A ∷ 1 ∷ 0 ∷ 1 ∷ 4 ∷ 2
+    ∷ 0xC5 ∷ 0x3A ∷ 0x10 ∷ 0 ∷ 0 ∷ 0 ∷ 0 ∷ 0 ∷ 0 ∷ 0 ∷ 0 ∷ 0xFF ∷ 0xFF ∷ 0xFF ∷ 0xFF ∷ 0xFF ∷ 0xFF ∷ 0xFF ∷ 0xFF ∷ 0x11 ∷ 0x10 ∷ []
+
+abbrev wholeLineNew : List ℕ
+wholeLineNew =
+    0xC5 ∷ 0x3B ∷ 1 ∷ 0 ∷ 1 ∷ 0xEB ∷ 0x8D
+    ∷ 0xC5 ∷ 0x3B ∷ 0x10 ∷ 0 ∷ 0 ∷ 0 ∷ 0 ∷ 0 ∷ 0 ∷ 0 ∷ 0 ∷ 0xFF ∷ 0xFF ∷ 0xFF ∷ 0xFF ∷ 0xFF ∷ 0xFF ∷ 0xFF ∷ 0xFF ∷ 0x7F ∷ 0x0C ∷ []
+
+-- what is left of a block that was read, written at the front of 28 bytes
+abbrev rewritten : Outcome → Outcome
+rewritten (outcome a []) = answer []
+rewritten (outcome a (w ∷ ws)) = writeSetCall w (replicate 28 7) 0
+
 abbrev table : List Case
 table =
     -- [N-A, B1, B2] empty, insert 5..9
@@ -193,19 +249,44 @@ table =
     -- [N-G] {0..9 is 1}: assign 2 to 3..5 gives three entries; then assign 1 to 3..5 gives {0..9 is 1}
     ∷ case (assignCall (1 ∷ 0 ∷ 9 ∷ 1 ∷ 0 ∷ 0 ∷ 0 ∷ 0 ∷ 0 ∷ 0 ∷ []) 3 5 2) (accepted (3 ∷ 0 ∷ 2 ∷ 1 ∷ 3 ∷ 5 ∷ 2 ∷ 6 ∷ 9 ∷ 1 ∷ []))
     ∷ case (assignCall (3 ∷ 0 ∷ 2 ∷ 1 ∷ 3 ∷ 5 ∷ 2 ∷ 6 ∷ 9 ∷ 1 ∷ []) 3 5 1) (accepted (1 ∷ 0 ∷ 9 ∷ 1 ∷ 0 ∷ 0 ∷ 0 ∷ 0 ∷ 0 ∷ 0 ∷ []))
-    -- [N-H, R11, Y1, Y2, Y3, Y6, Y10, Y11, Y16] {5..9}, read and written; with its last byte 1F refused 11 at 7
+    -- [N-H, R11, Y1, Y2, Y3, Y6, Y10, Y11, C6] {5..9} in the old form, read; with its last byte 1F refused 11 at 7
     ∷ case (readSetCall H (7 ∷ 7 ∷ 7 ∷ 7 ∷ 7 ∷ [])) (accepted (1 ∷ 5 ∷ 9 ∷ 0 ∷ 0 ∷ []))
-    ∷ case (writeSetCall (1 ∷ 5 ∷ 9 ∷ []) (replicate 30 7) 1) (outcome (given (28 ∷ [])) ((7 ∷ (H ++ (7 ∷ []))) ∷ []))
     ∷ case (readSetCall (take 27 H ++ (0x1F ∷ [])) (7 ∷ 7 ∷ 7 ∷ [])) (refusing 11 7 (7 ∷ 7 ∷ 7 ∷ []))
-    -- [N-I] the empty set, read and written
+    -- [N-H, Y16, C1, C2] in the new form, read and written; with its last byte 09 refused 11 at 7
+    ∷ case (readSetCall Hnew (7 ∷ 7 ∷ 7 ∷ 7 ∷ 7 ∷ [])) (accepted (1 ∷ 5 ∷ 9 ∷ 0 ∷ 0 ∷ []))
+    ∷ case (writeSetCall (1 ∷ 5 ∷ 9 ∷ []) (replicate 30 7) 1) (outcome (given (28 ∷ [])) ((7 ∷ (Hnew ++ (7 ∷ []))) ∷ []))
+    ∷ case (readSetCall (take 27 Hnew ++ (9 ∷ [])) (7 ∷ 7 ∷ 7 ∷ [])) (refusing 11 7 (7 ∷ 7 ∷ 7 ∷ []))
+    -- [C5] the old form read and written gives the new form, and so does the new one
+    ∷ case (rewritten (readSetCall H (7 ∷ 7 ∷ 7 ∷ []))) (outcome (given (28 ∷ [])) (Hnew ∷ []))
+    ∷ case (rewritten (readSetCall Hnew (7 ∷ 7 ∷ 7 ∷ []))) (outcome (given (28 ∷ [])) (Hnew ∷ []))
+    -- [R9, C3] an old start with a new range, the reverse, a third mark in the range, refused 9 at 7; in the start, 9 at 0; the new mark before
+    -- the rest of the old form is another check, 11 at 0
+    ∷ case (readSetCall (take 7 H ++ drop 7 Hnew) (7 ∷ [])) (refusing 9 7 (7 ∷ []))
+    ∷ case (readSetCall (take 7 Hnew ++ drop 7 H) (7 ∷ [])) (refusing 9 7 (7 ∷ []))
+    ∷ case (readSetCall (take 7 Hnew ++ (0xC5 ∷ 0x3C ∷ drop 9 Hnew)) (7 ∷ [])) (refusing 9 7 (7 ∷ []))
+    ∷ case (readSetCall (0xC5 ∷ 0x3C ∷ drop 2 Hnew) (7 ∷ [])) (refusing 9 0 (7 ∷ []))
+    ∷ case (readSetCall (0xC5 ∷ 0x3B ∷ drop 2 H) (7 ∷ [])) (refusing 11 0 (7 ∷ []))
+    -- [N-I] the empty set in the old form, read; in the new form, read and written
     ∷ case (readSetCall I (7 ∷ [])) (accepted (0 ∷ []))
-    ∷ case (writeSetCall (0 ∷ []) (replicate 7 7) 0) (outcome (given (7 ∷ [])) (I ∷ []))
-    -- [Y4, Y7, Y10] the bytes of a map, read and written
+    ∷ case (readSetCall Inew (7 ∷ [])) (accepted (0 ∷ []))
+    ∷ case (writeSetCall (0 ∷ []) (replicate 7 7) 0) (outcome (given (7 ∷ [])) (Inew ∷ []))
+    -- [N-O, C1] {0..0} and {0..M}: one check in the old form, two in the new
+    ∷ case (readSetCall onlyZero (7 ∷ 7 ∷ 7 ∷ [])) (accepted (1 ∷ 0 ∷ 0 ∷ []))
+    ∷ case (readSetCall wholeLine (7 ∷ 7 ∷ 7 ∷ [])) (accepted (1 ∷ 0 ∷ M ∷ []))
+    ∷ case (answer (drop 26 onlyZero ++ drop 26 wholeLine)) (answer (0x11 ∷ 0x10 ∷ 0x11 ∷ 0x10 ∷ []))
+    ∷ case (writeSetCall (1 ∷ 0 ∷ 0 ∷ []) (replicate 28 7) 0) (outcome (given (28 ∷ [])) (onlyZeroNew ∷ []))
+    ∷ case (writeSetCall (1 ∷ 0 ∷ M ∷ []) (replicate 28 7) 0) (outcome (given (28 ∷ [])) (wholeLineNew ∷ []))
+    ∷ case (answer (drop 26 onlyZeroNew ++ drop 26 wholeLineNew)) (answer (0xD9 ∷ 0xED ∷ 0x7F ∷ 0x0C ∷ []))
+    -- [Y4, Y7, Y10, C2, C6] the bytes of a map, old and new, read, and the new written
     ∷ case (readMapCall oneEntry (7 ∷ 7 ∷ 7 ∷ 7 ∷ 7 ∷ [])) (accepted (1 ∷ 0 ∷ 9 ∷ 1 ∷ 0 ∷ []))
-    ∷ case (writeMapCall (1 ∷ 0 ∷ 9 ∷ 1 ∷ []) (replicate 36 7) 0) (outcome (given (36 ∷ [])) (oneEntry ∷ []))
-    -- [Y5, Y8, Y10, R15] the bytes of a bulletin, read and written, and written where there is one byte too few
+    ∷ case (readMapCall oneEntryNew (7 ∷ 7 ∷ 7 ∷ 7 ∷ 7 ∷ [])) (accepted (1 ∷ 0 ∷ 9 ∷ 1 ∷ 0 ∷ []))
+    ∷ case (writeMapCall (1 ∷ 0 ∷ 9 ∷ 1 ∷ []) (replicate 36 7) 0) (outcome (given (36 ∷ [])) (oneEntryNew ∷ []))
+    -- [Y5, Y8, Y10, R15, C2, C6] the bytes of a bulletin, old and new, read, and the new written, also where there is one byte too few; a third
+    -- record with the other mark
     ∷ case (readBulletinCall oneEach (7 ∷ 7 ∷ 7 ∷ []) (7 ∷ 7 ∷ 7 ∷ [])) (outcome (given []) ((1 ∷ 1 ∷ 4 ∷ []) ∷ (1 ∷ 9 ∷ 9 ∷ []) ∷ []))
-    ∷ case (writeBulletinCall (1 ∷ 1 ∷ 4 ∷ []) (1 ∷ 9 ∷ 9 ∷ []) (replicate 51 7) 0) (outcome (given (51 ∷ [])) (oneEach ∷ []))
+    ∷ case (readBulletinCall oneEachNew (7 ∷ 7 ∷ 7 ∷ []) (7 ∷ 7 ∷ 7 ∷ [])) (outcome (given []) ((1 ∷ 1 ∷ 4 ∷ []) ∷ (1 ∷ 9 ∷ 9 ∷ []) ∷ []))
+    ∷ case (readBulletinCall (take 30 oneEachNew ++ drop 30 oneEach) (7 ∷ []) (7 ∷ [])) (outcome (refused 9 30) ((7 ∷ []) ∷ (7 ∷ []) ∷ []))
+    ∷ case (writeBulletinCall (1 ∷ 1 ∷ 4 ∷ []) (1 ∷ 9 ∷ 9 ∷ []) (replicate 51 7) 0) (outcome (given (51 ∷ [])) (oneEachNew ∷ []))
     ∷ case (writeBulletinCall (1 ∷ 1 ∷ 4 ∷ []) (1 ∷ 9 ∷ 9 ∷ []) (replicate 51 7) 1) (refusing 15 0 (replicate 51 7))
     -- [Y9, R10, Y12] kinds that there are not, and a map's bytes where a set is asked for: refused 10 at 0
     ∷ case (readSetCall (0xC5 ∷ 0x3A ∷ 0 ∷ drop 3 H) (7 ∷ [])) (refusing 10 0 (7 ∷ []))
@@ -345,9 +426,10 @@ table =
     ∷ case (answer (wordOf (keyOf 7) ∷ turned 0 ∷ turned M ∷ turned (2 ^ 63) ∷ [])) (answer (7 ∷ wordOf (pos 0) ∷ wordOf (less 1) ∷ wordOf leastKey ∷ []))
     -- [K6] bytes of signed sets, read and written; order and touching are those of the keys
     ∷ case (readSignedCall keyBytes (7 ∷ 7 ∷ 7 ∷ 7 ∷ [])) (accepted (K ++ (0 ∷ [])))
-    ∷ case (writeSignedCall K (replicate 30 7) 1) (outcome (given (28 ∷ [])) ((7 ∷ (keyBytes ++ (7 ∷ []))) ∷ []))
+    ∷ case (readSignedCall keyBytesNew (7 ∷ 7 ∷ 7 ∷ 7 ∷ [])) (accepted (K ++ (0 ∷ [])))
+    ∷ case (writeSignedCall K (replicate 30 7) 1) (outcome (given (28 ∷ [])) ((7 ∷ (keyBytesNew ++ (7 ∷ []))) ∷ []))
     ∷ case (readSignedCall allButOne (7 ∷ 7 ∷ 7 ∷ 7 ∷ 7 ∷ [])) (accepted (2 ∷ 0 ∷ 9223372036854775806 ∷ 9223372036854775808 ∷ M ∷ []))
-    ∷ case (writeSignedCall (2 ∷ 0 ∷ 9223372036854775806 ∷ 9223372036854775808 ∷ M ∷ []) (replicate 49 7) 0) (outcome (given (49 ∷ [])) (allButOne ∷ []))
+    ∷ case (writeSignedCall (2 ∷ 0 ∷ 9223372036854775806 ∷ 9223372036854775808 ∷ M ∷ []) (replicate 49 7) 0) (outcome (given (49 ∷ [])) (allButOneNew ∷ []))
     ∷ case (readSignedCall byTheirBytes (7 ∷ [])) (refusing 12 28 (7 ∷ []))
     ∷ case (readSignedCall touchingKeys (7 ∷ [])) (refusing 12 28 (7 ∷ []))
     -- [K7] the bytes of a signed set are none of a plain set, a map or a bulletin, and theirs are none of a signed set
@@ -391,7 +473,7 @@ table =
 pub worked : wrong 0 table ≡ []
 unfolding editCall verdict put blockOf memberCall sizeCall leastNonMemberCall unionCall complementCall complement union intersection difference
     fitCall reserveCall placeIn gaps shareb applyCall foldCall readCall writeCall formOf formRefusals formEntries runsOf runsIn runsRefusals
-    runOf runRefusals entriesIn said saying recordVerdict bodyLength checkOf fletcher
+    runOf runRefusals entriesIn said saying recordVerdict bodyLength markOf checkOf fletcher crcFrom crcByte crcBit
     makeEmptyCall rangeAtCall leastMemberCall windowCall windowAtCall windowRefusalCall equalCall withinCall disjointCall intersectionCall
     differenceCall symmetricDifferenceCall symmetricDifference lookUpCall overlayCall overlay restrictionCall restriction domainCall domain
     siteOverFactoryCall siteOverFactoryAtCall siteRefusalCall

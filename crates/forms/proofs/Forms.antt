@@ -2,6 +2,7 @@
 use Prim.Native.Nat.{ℕ, suc, _+_, _-_, _<_, _≤_}
 use mathlib.Core.List.{List, [], _∷_, _++_}
 use mathlib.Core.Bool.{Bool, true, false}
+use mathlib.Core.Logic.{inr}
 use mathlib.Core.Path.{_≡_, refl, sym, subst, ap, ap₂, _∙_}
 use native.Mathlib.Omega.{arith}
 use lib.Dec.{ltb}
@@ -20,13 +21,14 @@ use Rattle.blocks.proofs.Canonical.{entries-stored, sound-stored}
 use Rattle.blocks.proofs.Judging.{verdict-sound, room-words}
 use Rattle.blocks.proofs.Refusing.{some-words, room-fits}
 use Rattle.numbers.specs.Numbers.{Bytes, over, patch}
+use Rattle.checks.specs.Check.{newMark}
 use Rattle.runs.specs.Runs.{lengths, Fine}
 use Rattle.runs.proofs.Several.{shapes}
 use Rattle.verdicts.specs.declared.Form.{Form}
-use Rattle.verdicts.specs.Forms.{formOf, sizeOf, formEntries, sharing, overlap, formRefusals, noBlocks, noRooms, outRefusals, Formed}
+use Rattle.verdicts.specs.Forms.{markOf, formOf, sizeOf, formEntries, sharing, overlap, formRefusals, noBlocks, noRooms, outRefusals, Formed}
 use Rattle.forms.specs.Calls.{storedIn, readCall, heldIn, inputs, noSpace, blockRefusals, writeRefusals, writtenAt, writeCall}
 use Rattle.verdicts.specs.Steps.{FormKind}
-use Rattle.verdicts.proofs.Whole.{made, back, whole, size}
+use Rattle.verdicts.proofs.Whole.{mark-back, made, back, whole, size}
 
 -- an output that has words is not refused with 1; one of a capacity c not with 5 for n items exactly where they are within it
 pub has-words : (words : ℕ) → 0 < words → noBlock words ≡ 0
@@ -93,25 +95,26 @@ module _ (f : Form) (k : FormKind f) where
   pub formed-accepted : (b : List ℕ) (runs : List (List Entry)) → Formed f b runs → Clear (formRefusals f b) × (formEntries f b ≡ runs)
   formed-accepted b runs g =
       let h = shapes (f .layout .width) (f .layout .limit) runs (g .fine) in (
-        subst (λ (x : List ℕ). Clear (formRefusals f x)) (sym (g .form)) (whole f k runs (g .many) h (g .fine) (g .apart)),
-        ap (formEntries f) (g .form) ∙ back f k runs (g .many) h,
+        subst (λ (x : List ℕ). Clear (formRefusals f x)) (sym (g .form))
+            (whole f k (markOf b) runs (g .many) h (ap markOf (sym (g .form))) (g .fine) (g .apart)),
+        ap (formEntries f) (g .form) ∙ back f k (markOf b) runs (g .many) h,
       )
 
   -- «Sizes»
   pub accepted-size : (b : List ℕ) → Bytes b → Clear (formRefusals f b) → length b ≡ sizeOf f (lengths (formEntries f b))
   accepted-size b y c =
       let g = made f k b y c in
-      ap length (g .form) ∙ size f k (formEntries f b) (g .many) (shapes (f .layout .width) (f .layout .limit) (formEntries f b) (g .fine))
+      ap length (g .form) ∙ size f k (markOf b) (formEntries f b) (g .many) (shapes (f .layout .width) (f .layout .limit) (formEntries f b) (g .fine))
 
-  -- one byte form names one list for each run; that these have one byte form is `formOf`
-  pub one-form : (runs others : List (List Entry)) → length runs ≡ f .runs → length others ≡ f .runs → Each (Shaped (f .layout .width)) runs
-      → Each (Shaped (f .layout .width)) others → formOf f runs ≡ formOf f others → runs ≡ others
-  one-form runs others n m h g e = sym (back f k runs n h) ∙ ap (formEntries f) e ∙ back f k others m g
+  -- under one mark, one byte form names one list for each run; that these have one byte form is `formOf`
+  pub one-form : (mark : ℕ) (runs others : List (List Entry)) → length runs ≡ f .runs → length others ≡ f .runs → Each (Shaped (f .layout .width)) runs
+      → Each (Shaped (f .layout .width)) others → formOf mark f runs ≡ formOf mark f others → runs ≡ others
+  one-form mark runs others n m h g e = sym (back f k mark runs n h) ∙ ap (formEntries f) e ∙ back f k mark others m g
 
-  -- what was read, written into enough bytes, gives back the bytes read
+  -- what was read, written into enough bytes, gives the new form of the same runs, as long as the bytes read
   pub read-written : (b : List ℕ) (outs ws : List (List ℕ)) (bytes : List ℕ) (p : ℕ) → Bytes b → length outs ≡ f .runs
       → readCall f b outs ≡ outcome (given []) ws → p + length b ≤ length bytes
-      → writeCall f ws bytes p ≡ outcome (given (length b ∷ [])) (patch p b bytes ∷ [])
+      → writeCall f ws bytes p ≡ outcome (given (length b ∷ [])) (patch p (formOf newMark f (heldIn (f .layout) ws)) bytes ∷ [])
   unfolding readCall writeCall
   read-written b outs ws bytes p y n e h =
       let es = formEntries f b in
@@ -125,12 +128,15 @@ module _ (f : Form) (k : FormKind f) where
       ap (heldIn (f .layout)) (sym w) ∙ held-stored (f .layout) (k .first .two) outs es l (shapes (f .layout .width) (f .layout .limit) es (g .fine)) in
       let v : Clear (inputs (f .layout) 0 ws) =
       subst (λ (x : List (List ℕ)). Clear (inputs (f .layout) 0 x)) w (inputs-stored (f .layout) (k .first .two) 0 0 0 outs es (d .0) (d .1) (g .fine)) in
-      let form : formOf f (heldIn (f .layout) ws) ≡ b = ap (formOf f) i ∙ sym (g .form) in
+      let x = formOf newMark f (heldIn (f .layout) ws) in
+      let long : length x ≡ length b =
+      ap (λ (r : List (List Entry)). length (formOf newMark f r)) i
+      ∙ size f k newMark es (g .many) (shapes (f .layout .width) (f .layout .limit) es (g .fine)) ∙ sym (accepted-size b y (c .0)) in
       let o : applies (sharing (heldIn (f .layout) ws)) 14 ≡ 0 = ap (λ (x : List (List Entry)). applies (sharing x) 14) i ∙ rw (g .apart) in
-      let u = space-there p (length b) (length bytes) (omega arith) (omega arith) in
-      ap (λ (x : List ℕ). inTurn (writeRefusals f ws (length x) (length bytes) p) (bytes ∷ []) (writtenAt p x bytes)) form
-      ∙ clear-turn (writeRefusals f ws (length b) (length bytes) p) (bytes ∷ []) (writtenAt p b bytes)
+      let u = space-there p (length x) (length bytes) (omega arith) (omega arith) in
+      clear-turn (writeRefusals f ws (length x) (length bytes) p) (bytes ∷ []) (writtenAt p x bytes)
       (clear-both (blockRefusals f ws) _ (clear-both (inputs (f .layout) 0 ws) (overlap (heldIn (f .layout) ws) ∷ []) v (o, tt)) (u, tt))
+      ∙ ap (λ (n : ℕ). outcome (given (n ∷ [])) (patch p x bytes ∷ [])) long
 
   -- what was written, read into enough words, gives the same words, and 0 to the end
   pub written-read : (ws : List (List ℕ)) (bytes bytes' : List ℕ) (outs : List (List ℕ)) (p n : ℕ) → length ws ≡ f .runs
@@ -140,7 +146,7 @@ module _ (f : Form) (k : FormKind f) where
   unfolding readCall writeCall
   written-read ws bytes bytes' outs p n m e c =
       let es = heldIn (f .layout) ws in
-      let g = formOf f es in
+      let g = formOf newMark f es in
       let t = turn-accepted (writeRefusals f ws (length g) (length bytes) p) (bytes ∷ []) (writtenAt p g bytes) (n ∷ []) (bytes' ∷ []) e in
       let a = clear-split (blockRefusals f ws) _ (t .0) in
       let i = clear-split (inputs (f .layout) 0 ws) (overlap es ∷ []) (a .0) in
@@ -154,8 +160,8 @@ module _ (f : Form) (k : FormKind f) where
       ∙ ap (take (length g)) (drop-at (take p bytes) (over g (drop p bytes)) p (length-take-le p bytes (u .0)))
       ∙ take-at g (drop (length g) (drop p bytes)) (length g) refl in
       let r = many-held (f .layout) ws ∙ m in
-      let v = whole f k es r h d (applies-clear (sharing es) 13 (i .1 .0)) in
-      let q = back f k es r h in
+      let v = whole f k newMark es r h (mark-back newMark f es (inr refl)) d (applies-clear (sharing es) 13 (i .1 .0)) in
+      let q = back f k newMark es r h in
       ap (λ (y : List ℕ). inTurn (formRefusals f y ++ outRefusals (f .layout) (lengths outs) (lengths (formEntries f y))) outs
       (outcome (given []) (storedIn outs (formEntries f y)))) part
       ∙ ap (λ (y : List (List Entry)). inTurn (formRefusals f g ++ outRefusals (f .layout) (lengths outs) (lengths y)) outs

@@ -30,6 +30,7 @@ use Rattle.runs.specs.Runs.{runOf, total, lengths, runsOf}
 use Rattle.runs.proofs.Turns.{length-record}
 use Rattle.runs.proofs.Running.{length-run}
 use Rattle.verdicts.specs.declared.Form.{Form}
+use Rattle.checks.specs.Check.{newMark}
 use Rattle.verdicts.specs.Forms.{formOf, startSize, overlap}
 use Rattle.forms.specs.Calls.{heldIn, inputs, noSpace, blockRefusals, writtenAt, writeCall}
 use Rattle.verdicts.specs.Steps.{Shape, lone, pair, FormKind, eachOf, itemSize, secondAt}
@@ -63,8 +64,8 @@ form-pair mark st a c r es fs e =
 
 -- the start was written, then a run of n items of the block w, then one of m items of the block w2
 module _ (f : Form) (n m : ℕ) (w w2 b : List ℕ) (k : Puts f n m w w2 b) (x y : ℕ) (ex : x ≡ n) (ey : y ≡ m) (b1 u : List ℕ)
-    (e : b1 ≡ over (startRecord (f .mark) (f .start) (countsOf (f .runs) x y)) b)
-    (q : u ≡ over (runOf (f .mark) (f .first) (itemsOf (f .layout .width) n (take (length w - 1) (drop 1 w)))) (take (length b1 - startSize f) (drop
+    (e : b1 ≡ over (startRecord newMark (f .start) (countsOf (f .runs) x y)) b)
+    (q : u ≡ over (runOf newMark (f .first) (itemsOf (f .layout .width) n (take (length w - 1) (drop 1 w)))) (take (length b1 - startSize f) (drop
     (startSize f) b1))) where
   abbrev es : List Entry
   es = itemsOf (f .layout .width) n (drop 1 w)
@@ -73,30 +74,30 @@ module _ (f : Form) (n m : ℕ) (w w2 b : List ℕ) (k : Puts f n m w w2 b) (x y
   fs = itemsOf (f .layout .width) m (drop 1 w2)
 
   abbrev S : List ℕ
-  S = startRecord (f .mark) (f .start) (countsOf (f .runs) (length es) (length fs))
+  S = startRecord newMark (f .start) (countsOf (f .runs) (length es) (length fs))
 
   abbrev R : List ℕ
-  R = runOf (f .mark) (f .first) es
+  R = runOf newMark (f .first) es
 
   start-length : length S ≡ startSize f
   start-length =
       omega (
         arith,
-        length-record (f .mark) (f .start) (countBytes (countsOf (f .runs) (length es) (length fs))),
+        length-record newMark (f .start) (countBytes (countsOf (f .runs) (length es) (length fs))),
         counts-length (f .runs) (length es) (length fs) (k .kind .start .one) (k .kind .start .two),
       )
 
   first-put : putMid (startSize f) (length b1 - startSize f) b1 u ≡ over (S ++ R) b
   first-put =
       mid-over S R b b1 u (startSize f) start-length
-      (e ∙ ap₂ (λ (i j : ℕ). over (startRecord (f .mark) (f .start) (countsOf (f .runs) i j)) b)
+      (e ∙ ap₂ (λ (i j : ℕ). over (startRecord newMark (f .start) (countsOf (f .runs) i j)) b)
       (ex ∙ sym (items-length (f .layout .width) n (drop 1 w))) (ey ∙ sym (items-length (f .layout .width) m (drop 1 w2))))
-      (q ∙ ap (λ (l : List ℕ). over (runOf (f .mark) (f .first) (itemsOf (f .layout .width) n l)) (take (length b1 - startSize f) (drop (startSize f) b1)))
+      (q ∙ ap (λ (l : List ℕ). over (runOf newMark (f .first) (itemsOf (f .layout .width) n l)) (take (length b1 - startSize f) (drop (startSize f) b1)))
       (tail-part 1 w))
 
-  pub one-put : f .runs ≡ 1 → putMid (startSize f) (length b1 - startSize f) b1 u ≡ over (formOf f (eachOf f es fs)) b
+  pub one-put : f .runs ≡ 1 → putMid (startSize f) (length b1 - startSize f) b1 u ≡ over (formOf newMark f (eachOf f es fs)) b
   unfolding formOf
-  one-put z = first-put ∙ ap (λ (l : List ℕ). over l b) (form-lone (f .mark) (f .start) (f .first) (f .second) (f .runs) es fs z)
+  one-put z = first-put ∙ ap (λ (l : List ℕ). over l b) (form-lone newMark (f .start) (f .first) (f .second) (f .runs) es fs z)
 
   first-length : length (S ++ R) ≡ secondAt f n
   first-length =
@@ -105,23 +106,23 @@ module _ (f : Form) (n m : ℕ) (w w2 b : List ℕ) (k : Puts f n m w w2 b) (x y
       ∙ omega (
         arith,
         start-length,
-        length-run (f .mark) (f .first) (f .layout .width) (k .kind .first) es h,
+        length-run newMark (f .first) (f .layout .width) (k .kind .first) es h,
         ap (λ (i : ℕ). itemSize f * i) (items-length
             (f .layout .width) n (drop 1 w)),
       )
 
   pub two-put : (f .runs ≡ 1 → ⊥) → (v : List ℕ)
       → (let b2 = putMid (startSize f) (length b1 - startSize f) b1 u in
-      v ≡ over (runOf (f .mark) (f .second) (itemsOf (f .layout .width) m (take (length w2 - 1) (drop 1 w2)))) (take (length b2 - secondAt f n) (drop
+      v ≡ over (runOf newMark (f .second) (itemsOf (f .layout .width) m (take (length w2 - 1) (drop 1 w2)))) (take (length b2 - secondAt f n) (drop
       (secondAt f n) b2))
-      → putMid (secondAt f n) (length b2 - secondAt f n) b2 v ≡ over (formOf f (eachOf f es fs)) b)
+      → putMid (secondAt f n) (length b2 - secondAt f n) b2 v ≡ over (formOf newMark f (eachOf f es fs)) b)
   unfolding formOf
   two-put nz v o =
       let b2 = putMid (startSize f) (length b1 - startSize f) b1 u in
-      mid-over (S ++ R) (runOf (f .mark) (f .second) fs) b b2 v (secondAt f n) first-length first-put
-      (o ∙ ap (λ (l : List ℕ). over (runOf (f .mark) (f .second) (itemsOf (f .layout .width) m l)) (take (length b2 - secondAt f n) (drop
+      mid-over (S ++ R) (runOf newMark (f .second) fs) b b2 v (secondAt f n) first-length first-put
+      (o ∙ ap (λ (l : List ℕ). over (runOf newMark (f .second) (itemsOf (f .layout .width) m l)) (take (length b2 - secondAt f n) (drop
       (secondAt f n) b2))) (tail-part 1 w2))
-      ∙ ap (λ (l : List ℕ). over l b) (form-pair (f .mark) (f .start) (f .first) (f .second) (f .runs) es fs (not-one (f .runs) (f .layout)
+      ∙ ap (λ (l : List ℕ). over l b) (form-pair newMark (f .start) (f .first) (f .second) (f .runs) es fs (not-one (f .runs) (f .layout)
       (k .kind .shape) nz .0))
 
 -- the blocks, one or two: over the number of runs r
@@ -188,7 +189,7 @@ module _ (layout : Layout) (r : ℕ) (x y : List ℕ) (h : Shape r layout) (v : 
 
 -- writing from the blocks x and y, whose first refusal is v: refused with it
 abbrev pub written-from : Form → List ℕ → List ℕ → List ℕ
-written-from f x y = formOf f (heldIn (f .layout) (eachOf f x y))
+written-from f x y = formOf newMark f (heldIn (f .layout) (eachOf f x y))
 
 abbrev no-space : Form → List ℕ → List ℕ → List ℕ → ℕ → List Finding
 no-space f x y bytes p = at 0 (applies (noSpace p (length (written-from f x y)) (length bytes)) 15) ∷ []
@@ -260,7 +261,7 @@ module _ {f : Form} {x y : List ℕ} {v : Finding} (h : Passed f x y v) where
     long =
         let s = f .layout .width in
         let c = clear-split (inputs (f .layout) 0 ws) (overlap (heldIn (f .layout) ws) ∷ []) (h .first .clear (h .clear)) .0 in
-        size f (h .kind) (heldIn (f .layout) ws) (many-held (f .layout) ws ∙ as-many (f .runs) (f .layout) x y (h .kind .shape))
+        size f (h .kind) newMark (heldIn (f .layout) ws) (many-held (f .layout) ws ∙ as-many (f .runs) (f .layout) x y (h .kind .shape))
         (shapes s (f .layout .limit) (heldIn (f .layout) ws) (held-fine (f .layout) (h .kind .first .two) 0 ws c))
         ∙ ap (λ (r : List (List Entry)). startSize f + itemSize f * total (lengths r)) held-are
         ∙ ap (λ (t : ℕ). startSize f + itemSize f * t)
@@ -300,7 +301,7 @@ module _ {f : Form} {x y : List ℕ} {v : Finding} (h : Passed f x y v) where
           room-too = room-second;
         }
 
-        pub write-good : (o : List ℕ) → o ≡ over (formOf f held) (take (length bytes - p) (drop p bytes))
+        pub write-good : (o : List ℕ) → o ≡ over (formOf newMark f held) (take (length bytes - p) (drop p bytes))
             → outcome (writtenSays (written.Length (startSize f + itemSize f * (n + m)))) (putMid p (length bytes - p) bytes o ∷ [])
             ≡ writeCall f ws bytes p
         unfolding writeCall
@@ -308,4 +309,4 @@ module _ {f : Form} {x y : List ℕ} {v : Finding} (h : Passed f x y v) where
             given-by (blockRefusals f ws ++ no-space f x y bytes p) (at 0 0) (all-passed 0 (rw z)) (bytes ∷ []) (writtenAt p g bytes)
             (outcome (given ((startSize f + itemSize f * (n + m)) ∷ [])) (putMid p (length bytes - p) bytes o ∷ [])) refl
             (ap₂ (λ (i : ℕ) (l : List ℕ). outcome (given (i ∷ [])) (l ∷ [])) (sym long)
-            (mid-patch p g bytes o (q ∙ ap (λ (r : List (List Entry)). over (formOf f r) (take (length bytes - p) (drop p bytes))) (sym held-are))))
+            (mid-patch p g bytes o (q ∙ ap (λ (r : List (List Entry)). over (formOf newMark f r) (take (length bytes - p) (drop p bytes))) (sym held-are))))

@@ -13,6 +13,7 @@ use Rattle.blocks.specs.Blocks.{entriesOf, blockOf}
 use Rattle.blocks.specs.Calls.{input}
 use Rattle.blocks.specs.declared.Layout.{Layout}
 use Rattle.numbers.specs.Numbers.{patch}
+use Rattle.checks.specs.Check.{newMark}
 use Rattle.verdicts.specs.declared.Form.{Form}
 use Rattle.forms.specs.declared.FormRead.{FormRead}
 use Rattle.forms.specs.declared.FormRead.the-variants as read
@@ -69,11 +70,11 @@ writeRefusals f ws size len p = blockRefusals f ws ++ (at 0 (applies (noSpace p 
 abbrev pub writtenAt : ℕ → List ℕ → List ℕ → Outcome
 writtenAt p form bytes = outcome (given (length form ∷ [])) (patch p form bytes ∷ [])
 
--- [Y16] «Writing takes a byte buffer and a place p»: from blocks, one for each run
+-- [Y16, C2] «Writing takes a byte buffer and a place p»: from blocks, one for each run. «Writers now write only these», of the new mark
 unfoldable pub writeCall : Form → List (List ℕ) → List ℕ → ℕ → Outcome
 writeCall f ws bytes p =
-    inTurn (writeRefusals f ws (length (formOf f (heldIn (f .layout) ws))) (length bytes) p) (bytes ∷ [])
-    (writtenAt p (formOf f (heldIn (f .layout) ws)) bytes)
+    inTurn (writeRefusals f ws (length (formOf newMark f (heldIn (f .layout) ws))) (length bytes) p) (bytes ∷ [])
+    (writtenAt p (formOf newMark f (heldIn (f .layout) ws)) bytes)
 
 abbrev pub writeSetCall : List ℕ → List ℕ → ℕ → Outcome
 writeSetCall w bytes p = writeCall ofSet (w ∷ []) bytes p

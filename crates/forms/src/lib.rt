@@ -8,6 +8,7 @@ ghost use Rattle.answers.specs.Says.{judgedSays, writtenSays};
 ghost use Rattle.answers.specs.Steps.{FirstOf};
 ghost use Rattle.blocks.specs.Blocks.{itemsOf};
 ghost use Rattle.numbers.specs.Numbers.{over};
+ghost use Rattle.checks.specs.Check.{newMark};
 ghost use Rattle.verdicts.specs.Forms.{formOf};
 ghost use Rattle.forms.specs.Calls.{storedIn, readCall, readSetCall, readMapCall, readBulletinCall};
 ghost use Rattle.forms.specs.Calls.{blockRefusals, noSpace, writeCall, writeSetCall, writeMapCall, writeBulletinCall};
@@ -152,28 +153,27 @@ fn no_space(p: usize, size: usize, len: usize) -> bool
     len - p < size
 }
 
-// Writes the form of the n and m items of the blocks at the front of the bytes.
+// Writes the form of the n and m items of the blocks, with the new mark, at the front of the bytes.
 fn put_form(first: &[u64], n: usize, second: &[u64], m: usize, bytes: &mut [u8], form: Form)
     requires { ⌜ Puts form n m (now first) (now second) (now bytes) ⌝ }
-    ensures { λ _. ⌜ now (bytes .exit) ≡ over (formOf form (eachOf form (itemsOf (form .layout .width) n (drop 1 (now (first .entry)))) (itemsOf
+    ensures { λ _. ⌜ now (bytes .exit) ≡ over (formOf newMark form (eachOf form (itemsOf (form .layout .width) n (drop 1 (now (first .entry)))) (itemsOf
         (form .layout .width) m (drop 1 (now (second .entry)))))) (now (bytes .entry)) ⌝ }
 {
     let s = form.layout.width;
     let from = 2 * form.runs + 5;
     records::write_start(
         bytes,
-        form.mark,
         form.start,
         form.runs,
         blocks::narrow(n),
         blocks::narrow(m),
     );
-    runs::write_run(&first[1..], s, n, form.mark, form.first, &mut bytes[from..]);
+    runs::write_run(&first[1..], s, n, form.first, &mut bytes[from..]);
     if form.runs == 1 {
         return;
     }
     let p = from + (8 * s + 5) * n;
-    runs::write_run(&second[1..], s, m, form.mark, form.second, &mut bytes[p..]);
+    runs::write_run(&second[1..], s, m, form.second, &mut bytes[p..]);
 }
 
 // Writes a form, from a block for each run, into the bytes from place p on. A refused call changes nothing.

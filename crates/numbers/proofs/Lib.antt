@@ -1,4 +1,2 @@
 pub mod Patch
 pub mod Numbers
-pub mod Summing
-pub mod Cases

@@ -45,6 +45,12 @@ pub words-more : (n : ℕ) (b : List ℕ) (q : ℕ) → 0 < n → wordsIn n b q 
 words-more zero b q h = absurd (omega arith)
 words-more (suc n) b q h = let m : suc n - 1 ≡ n = omega arith in rw m
 
+-- byte after byte
+pub num8-bytes : (b : List ℕ) (q s t u v w x y z : ℕ) → s ≡ getD b q 0 → t ≡ getD b (q + 1) 0 → u ≡ getD b (q + 2) 0 → v ≡ getD b (q + 3) 0
+    → w ≡ getD b (q + 4) 0 → x ≡ getD b (q + 5) 0 → y ≡ getD b (q + 6) 0 → z ≡ getD b (q + 7) 0
+    → ((((((s * 256 + t) * 256 + u) * 256 + v) * 256 + w) * 256 + x) * 256 + y) * 256 + z ≡ num8 b q
+num8-bytes b q s t u v w x y z es et eu ev ew ex ey ez = simp add-assoc (omega arith)
+
 -- read back from its bytes
 pub num8-back : (v : ℕ) (r : List ℕ) → num8 (be8 v ++ r) 0 ≡ v
 num8-back v r = simp div-add-mod'

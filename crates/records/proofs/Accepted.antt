@@ -9,7 +9,7 @@ use lib.Seq.{drop-drop, take-at, drop-at, take-all}
 use Rattle.entries.specs.Entries.{Entry, entry}
 use Rattle.blocks.specs.Blocks.{itemOf}
 use Rattle.numbers.specs.Numbers.{Bytes, num2, be2, wordsIn, wordBytes, countsIn, countBytes}
-use Rattle.numbers.specs.Check.{checkOf}
+use Rattle.checks.specs.Check.{checkOf}
 use Rattle.records.specs.Records.{recordOf, startRecord, entryWords, saying, said, itemRecord, entryIn}
 use Rattle.records.proofs.Said.{says, same-saying}
 use Rattle.records.proofs.Heads.{Whole, kind-body}

@@ -11,12 +11,10 @@ use borrow.Author.Tests.{eqb-true, eqb-false}
 use Rattle.keys.specs.Keys.{turned}
 use Rattle.blocks.specs.Blocks.{itemOf}
 use Rattle.numbers.specs.Numbers.{wordsIn, wordBytes, over}
-use Rattle.numbers.specs.Steps.{Laid}
-use Rattle.numbers.specs.declared.Sums.{Sums}
 use Rattle.numbers.proofs.Patch.{tail-part}
 use Rattle.numbers.proofs.Numbers.{words-drop, length-words, length-bytes}
 use Rattle.records.specs.Records.{bodyLength, said, saying, entryWords, entryIn}
-use Rattle.records.specs.Steps.{ItemKind, Turns}
+use Rattle.records.specs.Steps.{ItemKind, Turns, Laid}
 use Rattle.records.proofs.Said.{said-plain, saying-plain, plain-kind, says, same-saying}
 use Rattle.records.proofs.Items.{item-words}
 
@@ -63,8 +61,8 @@ module _ (kind s : ℕ) (b out y : List ℕ) (two : 2 ≤ s) (e : y ≡ over (wo
       ∙ ap (λ (n : ℕ). entryWords (entryIn kind s b) ++ drop n out) l
 
 -- writing: the words of the record of an item, and how many bytes they are
-pub laid-as : {mark kind : ℕ} {before after : List ℕ} {r : Sums} (us vs : List ℕ) → us ≡ vs → Laid mark kind (wordBytes us) before after r
-    → Laid mark kind (wordBytes vs) before after r
+pub laid-as : {kind r : ℕ} {before after : List ℕ} (us vs : List ℕ) → us ≡ vs → Laid kind (wordBytes us) before after r
+    → Laid kind (wordBytes vs) before after r
 laid-as us vs e l = rw e at l
 
 pub put-plain : (kind : ℕ) (ws : List ℕ) → (kind ≡ 0x14 → ⊥) → 2 ≤ length ws → ws ≡ entryWords (saying kind (itemOf (length ws) ws))

@@ -13,7 +13,7 @@ use borrow.Author.Tests.{eqb-true, eqb-false, ltb-false, eq-eqb, ne-eqb, lt-ltb,
 use Rattle.entries.specs.Build.{pick}
 use Rattle.answers.specs.Answers.{lastNumber}
 use Rattle.numbers.specs.Numbers.{num2}
-use Rattle.numbers.specs.Check.{checkOf}
+use Rattle.checks.specs.Check.{checkOf}
 use Rattle.records.specs.Records.{bodyLength, bodyVerdict, recordVerdict}
 use Rattle.records.specs.Steps.{Front}
 

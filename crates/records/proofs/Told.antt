@@ -1,4 +1,4 @@
--- The check that the code sums, of counts and of an item, is that of the record; and the verdict that it leads to.
+-- The check that the code takes, of counts and of an item, is that of the record; and the verdict that it leads to.
 use Prim.Native.Nat.{ℕ, _+_, _*_}
 use mathlib.Core.List.{List, [], _∷_, _++_}
 use mathlib.Core.Bool.{Bool}
@@ -8,9 +8,10 @@ use lib.Dec.{leb, eqb}
 use Rattle.entries.specs.Entries.{Entry}
 use Rattle.entries.specs.Build.{pick, andb}
 use Rattle.numbers.specs.Numbers.{Bytes, num2, be2, be8, countsIn, countBytes}
-use Rattle.numbers.specs.Check.{checkOf}
-use Rattle.numbers.specs.Steps.{goOn, Begun, After}
-use Rattle.numbers.specs.declared.Sums.{Sums}
+use Rattle.checks.specs.Check.{fletcher, crcStart, crcByte, crcFrom, crc, checkOf}
+use Rattle.checks.specs.Steps.{goOn, Begun, After}
+use Rattle.checks.specs.declared.Sums.{Sums}
+use Rattle.checks.proofs.Marks.{crc-on, crc-kind}
 use Rattle.records.specs.Records.{allWithin, startVerdict, entryIn, inOrder, itemVerdict}
 use Rattle.records.specs.Reads.{countsOf, secondCount, itemHere, itemSaid, entryOf}
 use Rattle.records.specs.Steps.{StartKind, ItemKind, Front, itemBytes}
@@ -18,29 +19,47 @@ use Rattle.records.specs.declared.Item.{Item}
 use Rattle.records.proofs.Heads.{record-told}
 use Rattle.records.proofs.Items.{start-body, start-content, item-body, item-content}
 
--- the sums over the kind and counts
-module _ (mark kind n m k : ℕ) (s0 s1 : Sums) (b : Begun mark kind s0) (f : After (be2 n) s0 s1) where
-  pub sums-one : k ≡ 1 → goOn s1 [] ≡ checkOf mark (kind ∷ countBytes (countsOf k n m))
-  sums-one e = rw e (sym (b .on (be2 n ++ []) ∙ f .on []))
+-- a way of going on from what stands for the kind and some bytes: from the sums, from a register, from a word
+module _ {S : Type 0} (go : S → List ℕ → ℕ) (check : List ℕ → ℕ) (kind : ℕ) where
+  abbrev pub Begins : List ℕ → S → Type 0
+  Begins xs r = (ys : List ℕ) → check (kind ∷ (xs ++ ys)) ≡ go r ys
 
-  pub sums-both : (s2 : Sums) → After (be2 m) s1 s2 → k ≡ 2 → goOn s2 [] ≡ checkOf mark (kind ∷ countBytes (countsOf k n m))
-  sums-both s2 g e = rw e (sym (b .on (be2 n ++ (be2 m ++ [])) ∙ f .on (be2 m ++ []) ∙ g .on []))
+  abbrev pub GoesOn : List ℕ → S → S → Type 0
+  GoesOn xs s r = (ys : List ℕ) → go s (xs ++ ys) ≡ go r ys
 
--- the sums over the kind and the words of an item
-module _ (mark kind : ℕ) (i : Item) (s : ℕ) (s0 s1 s2 : Sums) (k : Begun mark kind s0) (l : After (be8 (i .low)) s0 s1) (h : After (be8
-    (i .high)) s1 s2) where
-  ends-on : (ys : List ℕ) → checkOf mark (kind ∷ (be8 (i .low) ++ (be8 (i .high) ++ ys))) ≡ goOn s2 ys
-  ends-on ys = k .on (be8 (i .low) ++ (be8 (i .high) ++ ys)) ∙ l .on (be8 (i .high) ++ ys) ∙ h .on ys
+  -- over counts
+  module _ (n m k : ℕ) (s1 : S) (f : Begins (be2 n) s1) where
+    pub one-count : k ≡ 1 → go s1 [] ≡ check (kind ∷ countBytes (countsOf k n m))
+    one-count e = rw e (sym (f []))
 
-  pub sums-two : s ≡ 2 → goOn s2 [] ≡ checkOf mark (kind ∷ itemBytes s i)
-  sums-two e = rw e (sym (ends-on []))
+    pub both-counts : (s2 : S) → GoesOn (be2 m) s1 s2 → k ≡ 2 → go s2 [] ≡ check (kind ∷ countBytes (countsOf k n m))
+    both-counts s2 g e = rw e (sym (f (be2 m ++ []) ∙ g []))
 
-  module _ (s3 : Sums) (v : After (be8 (i .value)) s2 s3) where
-    pub sums-three : s ≡ 3 → goOn s3 [] ≡ checkOf mark (kind ∷ itemBytes s i)
-    sums-three e = rw e (sym (ends-on (be8 (i .value) ++ []) ∙ v .on []))
+  -- over the words of an item
+  module _ (i : Item) (s : ℕ) (s1 s2 : S) (l : Begins (be8 (i .low)) s1) (h : GoesOn (be8 (i .high)) s1 s2) where
+    ends-on : (ys : List ℕ) → check (kind ∷ (be8 (i .low) ++ (be8 (i .high) ++ ys))) ≡ go s2 ys
+    ends-on ys = l (be8 (i .high) ++ ys) ∙ h ys
 
-    pub sums-four : (s4 : Sums) → After (be8 (i .second)) s3 s4 → s ≡ 4 → goOn s4 [] ≡ checkOf mark (kind ∷ itemBytes s i)
-    sums-four s4 w e = rw e (sym (ends-on (be8 (i .value) ++ (be8 (i .second) ++ [])) ∙ v .on (be8 (i .second) ++ []) ∙ w .on []))
+    pub two-words : s ≡ 2 → go s2 [] ≡ check (kind ∷ itemBytes s i)
+    two-words e = rw e (sym (ends-on []))
+
+    module _ (s3 : S) (v : GoesOn (be8 (i .value)) s2 s3) where
+      pub three-words : s ≡ 3 → go s3 [] ≡ check (kind ∷ itemBytes s i)
+      three-words e = rw e (sym (ends-on (be8 (i .value) ++ []) ∙ v []))
+
+      pub four-words : (s4 : S) → GoesOn (be8 (i .second)) s3 s4 → s ≡ 4 → go s4 [] ≡ check (kind ∷ itemBytes s i)
+      four-words s4 w e = rw e (sym (ends-on (be8 (i .value) ++ (be8 (i .second) ++ [])) ∙ v (be8 (i .second) ++ []) ∙ w []))
+
+-- the sums over the kind, and a number behind
+pub sums-begin : (kind : ℕ) (xs : List ℕ) (s r : Sums) → Begun kind s → After xs s r → Begins goOn (fletcher 0 0) kind xs r
+sums-begin kind xs s r b f ys = b .on (xs ++ ys) ∙ f .on ys
+
+-- a register that is the CRC so far, and one over the kind and a number behind
+pub crc-next : (xs : List ℕ) (s r : ℕ) → r ≡ crcFrom s xs → (ys : List ℕ) → crcFrom s (xs ++ ys) ≡ crcFrom r ys
+crc-next xs s r e ys = crc-on s xs ys ∙ ap (λ (z : ℕ). crcFrom z ys) (sym e)
+
+pub crc-begin : (kind s : ℕ) → s ≡ crcByte crcStart kind → (ys : List ℕ) → crc (kind ∷ ys) ≡ crcFrom s ys
+crc-begin kind s e ys = crc-kind kind ys ∙ ap (λ (z : ℕ). crcFrom z ys) (sym e)
 
 -- the verdict r on a record whose front is good, by the comparison t of its check, which is summed to x, and the test u of its content
 module _ (mark due : ℕ) (b : List ℕ) (f : Front mark due b) (y : Bytes b) (x : ℕ) (t u : Bool) (r : ℕ) (v : r ≡ pick t (pick u 0 12) 11) where

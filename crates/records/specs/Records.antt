@@ -11,7 +11,7 @@ use Rattle.entries.specs.Entries.{Entry, entry}
 use Rattle.entries.specs.Build.{pick, andb}
 use Rattle.blocks.specs.Blocks.{itemOf, afterb}
 use Rattle.numbers.specs.Numbers.{num2, be2, wordsIn, wordBytes, countsIn, countBytes}
-use Rattle.numbers.specs.Check.{checkOf}
+use Rattle.checks.specs.Check.{checkOf}
 
 -- [Y3, Y4, Y5, Y6, Y7, Y8, Y9, K6] «kind | body», the body's length; 0x00 and every other kind, from 0x05 to 0x0F and from 0x15 to 0xFF, is unknown
 unfoldable pub bodyLength : ℕ → Option ℕ

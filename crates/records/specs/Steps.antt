@@ -1,12 +1,13 @@
 -- What the steps of the code promise each other. No public promise names these.
-use Prim.Native.Nat.{ℕ, _+_, _*_, _≤_}
+use Prim.Native.Nat.{ℕ, _+_, _*_, _≤_, _<_}
 use mathlib.Core.Path.{_≡_}
 use mathlib.Core.Bool.{Bool}
 use mathlib.Core.Option.{some}
-use mathlib.Core.List.{List}
+use mathlib.Core.List.{List, _∷_}
 use lib.Dec.{eqb}
 use lib.ListN.{length, getD}
-use Rattle.numbers.specs.Numbers.{num2, wordBytes}
+use Rattle.numbers.specs.Numbers.{past2, num2, wordBytes, over}
+use Rattle.checks.specs.Check.{crc}
 use Rattle.records.specs.Records.{bodyLength, endOf, recordVerdict, entryWords}
 use Rattle.records.specs.Reads.{entryOf}
 use Rattle.records.specs.declared.Item.{Item}
@@ -34,6 +35,12 @@ Turns kind turns = turns ≡ eqb kind 0x14
 -- the bytes of the words of an item
 abbrev pub itemBytes : ℕ → Item → List ℕ
 itemBytes s i = wordBytes (entryWords (entryOf s i))
+
+-- the bytes xs written over the front, and the CRC of the kind and them
+pub record Laid (kind : ℕ) (xs before after : List ℕ) (r : ℕ) : Type 0 where
+  pub bytes : after ≡ over xs before
+  pub check : r ≡ crc (kind ∷ xs)
+  pub small : r < past2
 
 -- a record of the kind that is due as far as its length
 pub record Front (mark due : ℕ) (b : List ℕ) : Type 0 where

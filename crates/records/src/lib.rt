@@ -1,4 +1,4 @@
-// One record of the byte form, read or written: the kinds, a start and an item. The mark is an argument of every function.
+// One record of the byte form: the kinds, a start and an item, read with either mark, written with the new one.
 ghost use mathlib.Core.Path.{_≡_};
 ghost use mathlib.Core.List.{[], _∷_, _++_};
 ghost use Prim.Native.Nat.{_+_, _*_, _≤_, _<_};
@@ -7,13 +7,13 @@ ghost use lib.ListN.{length};
 ghost use Rattle.entries.specs.Build.{pick, andb, sameWords};
 ghost use Rattle.blocks.specs.Blocks.{afterb, itemOf};
 ghost use Rattle.numbers.specs.Numbers.{past2, num2, num8, be2, wordBytes, countBytes, over};
-ghost use Rattle.numbers.specs.Check.{checkOf};
-ghost use Rattle.numbers.specs.Steps.{goOn, Laid};
+ghost use Rattle.checks.specs.Check.{newMark, fletcher, crc, checkOf};
+ghost use Rattle.checks.specs.Steps.{goOn, onWord};
 ghost use Rattle.records.specs.Records.{bodyLength, entryWords, entryIn, saying, itemRecord, startRecord, startVerdict, inOrder, itemVerdict};
 ghost use Rattle.records.specs.Reads.{bodyRead, startRead, itemRead, startNumber, itemNumber, countsOf, secondCount, itemHere, entryOf, previous};
 ghost use Rattle.records.specs.Reads.{itemSaid};
-ghost use Rattle.records.specs.Steps.{StartKind, ItemKind, Turns, itemBytes, Fronted};
-use numbers::Sums;
+ghost use Rattle.records.specs.Steps.{StartKind, ItemKind, Turns, itemBytes, Fronted, Laid};
+use checks::Sums;
 
 // The length of a kind's body.
 pub enum Body {
@@ -81,14 +81,12 @@ fn read_front(bytes: &[u8], mark: u16, due: u8) -> u8
     0
 }
 
-// Whether the check at place q is that of the sums.
-fn is_told(bytes: &[u8], q: usize, s: Sums, mark: u16) -> bool
+// Whether the check that stands at place q is this one.
+fn is_told(bytes: &[u8], q: usize, check: u64) -> bool
     requires { ⌜ q + 2 ≤ length (now bytes) ⌝ }
-    ensures { λ r. ⌜ r ≡ eqb (goOn s []) (num2 (now (bytes .entry)) q) ⌝ }
+    ensures { λ r. ⌜ r ≡ eqb check (num2 (now (bytes .entry)) q) ⌝ }
 {
-    let sum = numbers::check_from(s, mark);
-    let told = numbers::get2(bytes, q);
-    sum == told
+    check == numbers::get2(bytes, q)
 }
 
 // The verdict on a record whose front is good: 11 where its check is not as told, 12 where its content breaks a rule, else 0.
@@ -116,15 +114,38 @@ pub fn second_count(bytes: &[u8], k: usize) -> u64
 }
 
 // The sums over the kind and the k counts of a start.
-fn start_sums(kind: u8, mark: u16, k: usize, n: u64, m: u64) -> Sums
+fn start_sums(kind: u8, k: usize, n: u64, m: u64) -> Sums
     requires { ⌜ (1 ≤ k) × (k ≤ 2) × (n < past2) × (m < past2) ⌝ }
-    ensures { λ r. ⌜ goOn r [] ≡ checkOf mark (kind ∷ countBytes (countsOf k n m)) ⌝ }
+    ensures { λ r. ⌜ goOn r [] ≡ fletcher 0 0 (kind ∷ countBytes (countsOf k n m)) ⌝ }
 {
-    let one = numbers::sum2(numbers::sums_from(kind, mark), n);
+    let one = checks::sum2(checks::sums_from(kind), n);
     if k == 1 {
         return one;
     }
-    numbers::sum2(one, m)
+    checks::sum2(one, m)
+}
+
+// The CRC of the kind and the k counts of a start.
+fn start_crc(kind: u8, k: usize, n: u64, m: u64) -> u64
+    requires { ⌜ (1 ≤ k) × (k ≤ 2) × (n < past2) × (m < past2) ⌝ }
+    ensures { λ r. ⌜ (r ≡ crc (kind ∷ countBytes (countsOf k n m))) × (r < past2) ⌝ }
+{
+    let one = checks::crc2(checks::crc_from(kind), n);
+    if k == 1 {
+        return one;
+    }
+    checks::crc2(one, m)
+}
+
+// The check of a start with k counts, in a record with this mark.
+fn start_check(kind: u8, mark: u16, k: usize, n: u64, m: u64) -> u64
+    requires { ⌜ (1 ≤ k) × (k ≤ 2) × (n < past2) × (m < past2) ⌝ }
+    ensures { λ r. ⌜ r ≡ checkOf mark (kind ∷ countBytes (countsOf k n m)) ⌝ }
+{
+    if mark == checks::OLD_MARK {
+        return checks::check_from(start_sums(kind, k, n, m));
+    }
+    start_crc(kind, k, n, m)
 }
 
 // Whether both counts are within the limit.
@@ -148,7 +169,7 @@ pub fn read_start(bytes: &[u8], mark: u16, due: u8, k: usize, limit: usize) -> S
     }
     let x = numbers::get2(bytes, 3);
     let y = second_count(bytes, k);
-    let told = is_told(bytes, 2 * k + 3, start_sums(due, mark, k, x, y), mark);
+    let told = is_told(bytes, 2 * k + 3, start_check(due, mark, k, x, y));
     let n = blocks::wide(x);
     let m = blocks::wide(y);
     let v = rest_verdict(told, within(n, m, limit));
@@ -202,20 +223,48 @@ fn item_said(kind: u8, item: Item) -> Item
 }
 
 // The sums over the kind and the s words of an item.
-fn item_sums(kind: u8, mark: u16, item: Item, s: usize) -> Sums
+fn item_sums(kind: u8, item: Item, s: usize) -> Sums
     requires { ⌜ (2 ≤ s) × (s ≤ 4) ⌝ }
-    ensures { λ r. ⌜ goOn r [] ≡ checkOf mark (kind ∷ itemBytes s item) ⌝ }
+    ensures { λ r. ⌜ goOn r [] ≡ fletcher 0 0 (kind ∷ itemBytes s item) ⌝ }
 {
-    let low = numbers::sum8(numbers::sums_from(kind, mark), item.low);
-    let high = numbers::sum8(low, item.high);
+    let low = checks::sum8(checks::sums_from(kind), item.low);
+    let high = checks::sum8(low, item.high);
     if s == 2 {
         return high;
     }
-    let value = numbers::sum8(high, item.value);
+    let value = checks::sum8(high, item.value);
     if s == 3 {
         return value;
     }
-    numbers::sum8(value, item.second)
+    checks::sum8(value, item.second)
+}
+
+// The word that stands for the kind and the s words of an item, whose CRC is to be taken.
+fn item_word(kind: u8, item: Item, s: usize) -> u64
+    requires { ⌜ (2 ≤ s) × (s ≤ 4) ⌝ }
+    ensures { λ r. ⌜ onWord r [] ≡ crc (kind ∷ itemBytes s item) ⌝ }
+{
+    let low = checks::joined(checks::crc_from(kind), item.low);
+    let high = checks::mixed(low, item.high);
+    if s == 2 {
+        return high;
+    }
+    let value = checks::mixed(high, item.value);
+    if s == 3 {
+        return value;
+    }
+    checks::mixed(value, item.second)
+}
+
+// The check of an item of s words, in a record with this mark.
+fn item_check(kind: u8, mark: u16, item: Item, s: usize) -> u64
+    requires { ⌜ (2 ≤ s) × (s ≤ 4) ⌝ }
+    ensures { λ r. ⌜ r ≡ checkOf mark (kind ∷ itemBytes s item) ⌝ }
+{
+    if mark == checks::OLD_MARK {
+        return checks::check_from(item_sums(kind, item, s));
+    }
+    checks::reduced(item_word(kind, item, s))
 }
 
 // Whether two items of s words have the same value.
@@ -277,7 +326,7 @@ pub fn read_item(bytes: &[u8], mark: u16, kind: u8, s: usize, first: bool, befor
         return ItemRead::Bad(h);
     }
     let words = item_here(bytes, s);
-    if is_told(bytes, 8 * s + 3, item_sums(kind, mark, words, s), mark) {
+    if is_told(bytes, 8 * s + 3, item_check(kind, mark, words, s)) {
         let item = item_said(kind, words);
         if in_order(item, first, before, s) {
             return ItemRead::Good(item);
@@ -307,12 +356,12 @@ pub fn item_number(a: ItemRead) -> u8
     }
 }
 
-// Writes the mark and the kind.
-fn put_head(bytes: &mut [u8], mark: u16, kind: u8)
+// Writes the new mark and the kind.
+fn put_head(bytes: &mut [u8], kind: u8)
     requires { ⌜ 3 ≤ length (now bytes) ⌝ }
-    ensures { λ _. ⌜ now (bytes .exit) ≡ over (be2 mark ++ (kind ∷ [])) (now (bytes .entry)) ⌝ }
+    ensures { λ _. ⌜ now (bytes .exit) ≡ over (be2 newMark ++ (kind ∷ [])) (now (bytes .entry)) ⌝ }
 {
-    numbers::put2(bytes, numbers::wide2(mark));
+    numbers::put2(bytes, numbers::wide2(checks::NEW_MARK));
     numbers::put_byte(&mut bytes[2..], kind);
 }
 
@@ -328,16 +377,16 @@ fn put_counts(bytes: &mut [u8], k: usize, n: u64, m: u64)
     numbers::put2(&mut bytes[2..], m);
 }
 
-// Writes a start record with k counts.
-pub fn write_start(bytes: &mut [u8], mark: u16, kind: u8, k: usize, n: u64, m: u64)
+// Writes a start record with k counts, with the new mark and check.
+pub fn write_start(bytes: &mut [u8], kind: u8, k: usize, n: u64, m: u64)
     requires { ⌜ (1 ≤ k) × (k ≤ 2) × (n < past2) × (m < past2) × (2 * k + 5 ≤ length (now bytes)) ⌝ }
-    ensures { λ _. ⌜ now (bytes .exit) ≡ over (startRecord mark kind (countsOf k n m)) (now (bytes .entry)) ⌝ }
+    ensures { λ _. ⌜ now (bytes .exit) ≡ over (startRecord newMark kind (countsOf k n m)) (now (bytes .entry)) ⌝ }
 {
-    put_head(bytes, mark, kind);
+    put_head(bytes, kind);
     put_counts(&mut bytes[3..], k, n, m);
-    let sums = start_sums(kind, mark, k, n, m);
+    let check = start_crc(kind, k, n, m);
     let q = 2 * k + 3;
-    numbers::put2(&mut bytes[q..], numbers::check_from(sums, mark));
+    numbers::put2(&mut bytes[q..], check);
 }
 
 // Fills the front of out with the s words of the item that the record at the front of the bytes says; `turns` is whether its kind turns the
@@ -353,26 +402,35 @@ pub fn fill_item(bytes: &[u8], kind: u8, turns: bool, s: usize, out: &mut [u64])
     }
 }
 
-// Writes the body of an item record whose item has these words, and answers the sums over the kind and the body.
-fn put_item(bytes: &mut [u8], words: &[u64], kind: u8, turns: bool, mark: u16) -> Sums
+// Writes the words one after the other, and answers the CRC of the kind and their bytes.
+fn put_checked(bytes: &mut [u8], words: &[u64], kind: u8) -> u64
+    requires { ⌜ (1 ≤ length (now words)) × (8 * length (now words) ≤ length (now bytes)) ⌝ }
+    ensures { λ r. ⌜ Laid kind (wordBytes (now (words .entry))) (now (bytes .entry)) (now (bytes .exit)) r ⌝ }
+{
+    numbers::put_words(bytes, words);
+    checks::crc_words(kind, words)
+}
+
+// Writes the body of an item record whose item has these words, and answers the CRC of the kind and the body.
+fn put_item(bytes: &mut [u8], words: &[u64], kind: u8, turns: bool) -> u64
     requires { ⌜ Turns kind turns × ItemKind kind (length (now words)) × (8 * length (now words) ≤ length (now bytes)) ⌝ }
-    ensures { λ r. ⌜ Laid mark kind (wordBytes (entryWords (saying kind (itemOf (length (now (words .entry))) (now (words .entry))))))
+    ensures { λ r. ⌜ Laid kind (wordBytes (entryWords (saying kind (itemOf (length (now (words .entry))) (now (words .entry))))))
         (now (bytes .entry)) (now (bytes .exit)) r ⌝ }
 {
     if turns {
         let ends = [keys::turned(words[0]), keys::turned(words[1])];
-        return numbers::put_words(bytes, &ends, kind, mark);
+        return put_checked(bytes, &ends, kind);
     }
-    numbers::put_words(bytes, words, kind, mark)
+    put_checked(bytes, words, kind)
 }
 
-// Writes the record of the item that has these words; `turns` is whether its kind turns the ends.
-pub fn write_item(bytes: &mut [u8], mark: u16, kind: u8, turns: bool, words: &[u64])
+// Writes the record of the item that has these words, with the new mark and check; `turns` is whether its kind turns the ends.
+pub fn write_item(bytes: &mut [u8], kind: u8, turns: bool, words: &[u64])
     requires { ⌜ Turns kind turns × ItemKind kind (length (now words)) × (8 * length (now words) + 5 ≤ length (now bytes)) ⌝ }
-    ensures { λ _. ⌜ now (bytes .exit) ≡ over (itemRecord mark kind (itemOf (length (now (words .entry))) (now (words .entry)))) (now (bytes .entry)) ⌝ }
+    ensures { λ _. ⌜ now (bytes .exit) ≡ over (itemRecord newMark kind (itemOf (length (now (words .entry))) (now (words .entry)))) (now (bytes .entry)) ⌝ }
 {
-    put_head(bytes, mark, kind);
-    let sums = put_item(&mut bytes[3..], words, kind, turns, mark);
+    put_head(bytes, kind);
+    let check = put_item(&mut bytes[3..], words, kind, turns);
     let q = 8 * words.len() + 3;
-    numbers::put2(&mut bytes[q..], numbers::check_from(sums, mark));
+    numbers::put2(&mut bytes[q..], check);
 }

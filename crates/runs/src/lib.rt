@@ -5,6 +5,7 @@ ghost use Prim.Native.Nat.{_+_, _*_, _≤_};
 ghost use lib.ListN.{length, drop};
 ghost use Rattle.blocks.specs.Blocks.{itemsOf, wordsOf, blockOf};
 ghost use Rattle.numbers.specs.Numbers.{over};
+ghost use Rattle.checks.specs.Check.{newMark};
 ghost use Rattle.records.specs.Steps.{ItemKind, Turns};
 ghost use Rattle.runs.specs.Runs.{runOf, entriesIn};
 ghost use Rattle.runs.specs.Steps.{RunJudged, Fills};
@@ -77,24 +78,16 @@ fn fill_run(bytes: &[u8], kind: u8, s: usize, n: usize, out: &mut [u64])
     fill_records(bytes, kind, false, s, n, out);
 }
 
-// [G4] Writes the n items whose words begin at the front of words as item records, at the front of the bytes.
-fn write_records(
-    words: &[u64],
-    s: usize,
-    n: usize,
-    mark: u16,
-    kind: u8,
-    turns: bool,
-    bytes: &mut [u8],
-)
+// [G4] Writes the n items whose words begin at the front of words as item records with the new mark, at the front of the bytes.
+fn write_records(words: &[u64], s: usize, n: usize, kind: u8, turns: bool, bytes: &mut [u8])
     requires { ⌜ Turns kind turns × ItemKind kind s × Fills s n (now bytes) (now words) ⌝ }
-    ensures { λ _. ⌜ now (bytes .exit) ≡ over (runOf mark kind (itemsOf s n (now (words .entry)))) (now (bytes .entry)) ⌝ }
+    ensures { λ _. ⌜ now (bytes .exit) ≡ over (runOf newMark kind (itemsOf s n (now (words .entry)))) (now (bytes .entry)) ⌝ }
 {
     let mut left = n;
     let mut q: usize = 0;
     let mut w: usize = 0;
     while 0 < left {
-        records::write_item(&mut bytes[q..], mark, kind, turns, &words[w..w + s]);
+        records::write_item(&mut bytes[q..], kind, turns, &words[w..w + s]);
         q += 8 * s + 5;
         w += s;
         left -= 1;
@@ -103,19 +96,19 @@ fn write_records(
 
 // The same, with signed ranges told apart, whose ends are turned, and plain ones: where every item has two words, the compiler knows how
 // many bytes a record has.
-pub fn write_run(words: &[u64], s: usize, n: usize, mark: u16, kind: u8, bytes: &mut [u8])
+pub fn write_run(words: &[u64], s: usize, n: usize, kind: u8, bytes: &mut [u8])
     requires { ⌜ ItemKind kind s × Fills s n (now bytes) (now words) ⌝ }
-    ensures { λ _. ⌜ now (bytes .exit) ≡ over (runOf mark kind (itemsOf s n (now (words .entry)))) (now (bytes .entry)) ⌝ }
+    ensures { λ _. ⌜ now (bytes .exit) ≡ over (runOf newMark kind (itemsOf s n (now (words .entry)))) (now (bytes .entry)) ⌝ }
 {
     if kind == records::SIGNED {
-        write_records(words, s, n, mark, kind, true, bytes);
+        write_records(words, s, n, kind, true, bytes);
         return;
     }
     if s == 2 {
-        write_records(words, 2, n, mark, kind, false, bytes);
+        write_records(words, 2, n, kind, false, bytes);
         return;
     }
-    write_records(words, s, n, mark, kind, false, bytes);
+    write_records(words, s, n, kind, false, bytes);
 }
 
 // Writes word 0.

@@ -29,7 +29,7 @@ use Rattle.runs.specs.Runs.{entriesIn, runRefusals, total, runsIn, runsRefusals
 use Rattle.runs.specs.Steps.{RunJudged}
 use Rattle.runs.proofs.Running.{bytes-drop, run-inv}
 use Rattle.verdicts.specs.declared.Form.{Form}
-use Rattle.verdicts.specs.Forms.{kindsOf, startSize, sizeOf, formCounts, formEntries, sharing, trailing, overlap, formRefusals}
+use Rattle.verdicts.specs.Forms.{markOf, kindsOf, startSize, sizeOf, formCounts, formEntries, sharing, trailing, overlap, formRefusals}
 use Rattle.verdicts.specs.Steps.{Shape, lone, pair, FormKind, eachOf, itemSize, secondAt, runsHere, behindStart, OneRun}
 
 -- one run or two: over the number of runs r and the layout l
@@ -91,31 +91,31 @@ module _ (f : Form) (k : FormKind f) (b : List ℕ) where
   size-here =
       ap (λ (t : ℕ). startSize f + itemSize f * t) (two-counts (f .runs) (f .layout) b (k .shape)) ∙ omega (arith, mul-add (itemSize f) n₀ m₀)
 
-  behind-start : formRefusals f b ≡ at 0 (startVerdict (f .mark) (f .start) (f .runs) (f .layout .limit) b) ∷ behindStart f n₀ m₀ b
+  behind-start : formRefusals f b ≡ at 0 (startVerdict (markOf b) (f .start) (f .runs) (f .layout .limit) b) ∷ behindStart (markOf b) f n₀ m₀ b
   unfolding formRefusals
   behind-start =
-      let A = runRefusals (f .mark) (f .first) (f .layout .width) n₀ (startSize f) none (drop (startSize f) b) in
-      let B = runRefusals (f .mark) (f .second) (f .layout .width) m₀ (secondAt f n₀) none (drop (secondAt f n₀) b) in
+      let A = runRefusals (markOf b) (f .first) (f .layout .width) n₀ (startSize f) none (drop (startSize f) b) in
+      let B = runRefusals (markOf b) (f .second) (f .layout .width) m₀ (secondAt f n₀) none (drop (secondAt f n₀) b) in
       let E = trailing (secondAt f n₀ + itemSize f * m₀) b ∷ overlap (runsHere f n₀ m₀ b) ∷ [] in
-      let runs : runsRefusals (f .mark) (f .layout .width) (startSize f) (kindsOf f) (formCounts f b) (drop (startSize f) b) ≡ A ++ B =
-      two-refusals (f .mark) (f .layout) (f .runs) (f .first) (f .second) (startSize f) b (drop (startSize f) b) (k .shape)
-      ∙ ap (λ (x : List ℕ). A ++ runRefusals (f .mark) (f .second) (f .layout .width) m₀ (secondAt f n₀) none x) (drop-drop (itemSize f * n₀)
+      let runs : runsRefusals (markOf b) (f .layout .width) (startSize f) (kindsOf f) (formCounts f b) (drop (startSize f) b) ≡ A ++ B =
+      two-refusals (markOf b) (f .layout) (f .runs) (f .first) (f .second) (startSize f) b (drop (startSize f) b) (k .shape)
+      ∙ ap (λ (x : List ℕ). A ++ runRefusals (markOf b) (f .second) (f .layout .width) m₀ (secondAt f n₀) none x) (drop-drop (itemSize f * n₀)
       (startSize f) b) in
       let ends : trailing (sizeOf f (formCounts f b)) b ∷ overlap (formEntries f b) ∷ [] ≡ E =
       ap₂ (λ (p : ℕ) (es : List (List Entry)). trailing p b ∷ overlap es ∷ []) size-here entries-here in
-      ap (λ (l : List Finding). at 0 (startVerdict (f .mark) (f .start) (f .runs) (f .layout .limit) b) ∷ l) (ap₂ _++_ runs ends ∙ append-assoc A B E)
+      ap (λ (l : List Finding). at 0 (startVerdict (markOf b) (f .start) (f .runs) (f .layout .limit) b) ∷ l) (ap₂ _++_ runs ends ∙ append-assoc A B E)
 
   -- by the answer of the start
-  module _ (a : StartRead) (e : a ≡ startRead (startVerdict (f .mark) (f .start) (f .runs) (f .layout .limit) b) n₀ m₀) where
+  module _ (a : StartRead) (e : a ≡ startRead (startVerdict (markOf b) (f .start) (f .runs) (f .layout .limit) b) n₀ m₀) where
     abbrev due : ℕ
-    due = startVerdict (f .mark) (f .start) (f .runs) (f .layout .limit) b
+    due = startVerdict (markOf b) (f .start) (f .runs) (f .layout .limit) b
 
     pub start-bad : (v x : ℕ) → a ≡ start.Bad v → x ≡ startNumber a → FirstOf (formRefusals f b) (at 0 x)
     start-bad v x g w =
         let t = told-bad due v n₀ m₀ a e g in
         let i : x ≡ due = w ∙ ap startNumber g ∙ t .0 in
         subst (λ (l : List Finding). FirstOf l (at 0 x)) (sym behind-start)
-        (stops x due 0 (behindStart f n₀ m₀ b) i (record-small (f .mark) (f .start) b (allWithin (f .layout .limit) (formCounts f b))) (λ z. t .1
+        (stops x due 0 (behindStart (markOf b) f n₀ m₀ b) i (record-small (markOf b) (f .start) b (allWithin (f .layout .limit) (formCounts f b))) (λ z. t .1
         (sym i ∙ z)))
 
     module _ (n m : ℕ) (g : a ≡ start.Good n m) where
@@ -123,20 +123,21 @@ module _ (f : Form) (k : FormKind f) (b : List ℕ) where
       t = told-good due n m n₀ m₀ a e g
 
       pub start-fits : startSize f ≤ length b
-      start-fits = record-inv (f .mark) (f .start) b (allWithin (f .layout .limit) (formCounts f b)) (2 * f .runs) (k .start .body) (t .0) .0 .long
+      start-fits = record-inv (markOf b) (f .start) b (allWithin (f .layout .limit) (formCounts f b)) (2 * f .runs) (k .start .body) (t .0) .0 .long
 
-      pub start-passed : (r : Finding) → FirstOf (behindStart f n m b) r → FirstOf (formRefusals f b) r
-      start-passed r h =
+      pub start-passed : (mark : ℕ) → mark ≡ markOf b → (r : Finding) → FirstOf (behindStart mark f n m b) r → FirstOf (formRefusals f b) r
+      start-passed mark q r h =
+          let u : behindStart mark f n m b ≡ behindStart (markOf b) f n₀ m₀ b = rw (q, t .1, t .2) in
           subst (λ (l : List Finding). FirstOf l r) (sym behind-start)
-          (passes due 0 (behindStart f n₀ m₀ b) r (t .0) (subst (λ (l : List Finding). FirstOf l r) (ap₂ (λ (i j : ℕ). behindStart f i j b) (t .1) (t .2)) h))
+          (passes due 0 (behindStart (markOf b) f n₀ m₀ b) r (t .0) (subst (λ (l : List Finding). FirstOf l r) u h))
 
 -- the first refusal behind the start, from the answers x and y for the runs
-module _ (f : Form) (n m : ℕ) (b : List ℕ) (x : Finding) (fx : RunJudged (f .mark) (f .first) (f .layout .width) n (startSize f) b x) where
+module _ (mark : ℕ) (f : Form) (n m : ℕ) (b : List ℕ) (x : Finding) (fx : RunJudged mark (f .first) (f .layout .width) n (startSize f) b x) where
   abbrev A : List Finding
-  A = runRefusals (f .mark) (f .first) (f .layout .width) n (startSize f) none (drop (startSize f) b)
+  A = runRefusals mark (f .first) (f .layout .width) n (startSize f) none (drop (startSize f) b)
 
   abbrev B : List Finding
-  B = runRefusals (f .mark) (f .second) (f .layout .width) m (secondAt f n) none (drop (secondAt f n) b)
+  B = runRefusals mark (f .second) (f .layout .width) m (secondAt f n) none (drop (secondAt f n) b)
 
   abbrev behind : ℕ
   behind = secondAt f n + itemSize f * m
@@ -144,24 +145,24 @@ module _ (f : Form) (n m : ℕ) (b : List ℕ) (x : Finding) (fx : RunJudged (f 
   abbrev E : List Finding
   E = trailing behind b ∷ overlap (runsHere f n m b) ∷ []
 
-  pub first-bad : (x .number ≡ 0 → ⊥) → FirstOf (behindStart f n m b) x
+  pub first-bad : (x .number ≡ 0 → ⊥) → FirstOf (behindStart mark f n m b) x
   first-bad nz = stops-in A (B ++ E) x (fx .first) nz
 
-  module _ (zx : x .number ≡ 0) (y : Finding) (fy : RunJudged (f .mark) (f .second) (f .layout .width) m (x .place) b y) where
+  module _ (zx : x .number ≡ 0) (y : Finding) (fy : RunJudged mark (f .second) (f .layout .width) m (x .place) b y) where
     fB : FirstOf B y
-    fB = subst (λ (p : ℕ). FirstOf (runRefusals (f .mark) (f .second) (f .layout .width) m p none (drop p b)) y) (fx .behind zx) (fy .first)
+    fB = subst (λ (p : ℕ). FirstOf (runRefusals mark (f .second) (f .layout .width) m p none (drop p b)) y) (fx .behind zx) (fy .first)
 
-    pub second-bad : (y .number ≡ 0 → ⊥) → FirstOf (behindStart f n m b) y
+    pub second-bad : (y .number ≡ 0 → ⊥) → FirstOf (behindStart mark f n m b) y
     second-bad nz = passes-in A (B ++ E) x y (fx .first) zx (stops-in B E y fB nz)
 
     module _ (zy : y .number ≡ 0) where
       place : y .place ≡ behind
       place = fy .behind zy ∙ ap (λ (p : ℕ). p + itemSize f * m) (fx .behind zx)
 
-      runs-passed : (r : Finding) → FirstOf E r → FirstOf (behindStart f n m b) r
+      runs-passed : (r : Finding) → FirstOf E r → FirstOf (behindStart mark f n m b) r
       runs-passed r e = passes-in A (B ++ E) x r (fx .first) zx (passes-in B E y r fB zy e)
 
-      pub trails : y .place < length b → FirstOf (behindStart f n m b) (at (y .place) 13)
+      pub trails : y .place < length b → FirstOf (behindStart mark f n m b) (at (y .place) 13)
       trails l =
           let q : 13 ≡ applies (ltb behind (length b)) 13 = rw (lt-ltb behind (length b) (omega (arith, place))) in
           runs-passed (at (y .place) 13)
@@ -170,7 +171,7 @@ module _ (f : Form) (n m : ℕ) (b : List ℕ) (x : Finding) (fx : RunJudged (f 
           (λ z. omega arith)))
 
       -- nothing trails: 14 or nothing
-      pub last-is : length b ≤ y .place → (v : ℕ) → v ≡ applies (sharing (runsHere f n m b)) 14 → FirstOf (behindStart f n m b) (at 0 v)
+      pub last-is : length b ≤ y .place → (v : ℕ) → v ≡ applies (sharing (runsHere f n m b)) 14 → FirstOf (behindStart mark f n m b) (at 0 v)
       last-is l v q =
           runs-passed (at 0 v)
           (passes (applies (ltb behind (length b)) 13) behind (overlap (runsHere f n m b) ∷ []) (at 0 v) (rw (le-ltb behind (length b) (omega
@@ -181,9 +182,9 @@ module _ (f : Form) (n m : ℕ) (b : List ℕ) (x : Finding) (fx : RunJudged (f 
       pub to-share : FormKind f → Bytes b → (f .runs ≡ 1 → ⊥) → OneRun (f .first) (startSize f) n b × OneRun (f .second) (x .place) m b
       to-share k u nz =
           let t : f .layout .width ≡ 2 = ap (λ (l : Layout). l .width) (not-one (f .runs) (f .layout) (k .shape) nz .1) in
-          let p = run-inv (f .mark) (f .first) (f .layout .width) (k .first) n (startSize f) none (drop (startSize f) b) (bytes-drop (startSize f) b u)
+          let p = run-inv mark (f .first) (f .layout .width) (k .first) n (startSize f) none (drop (startSize f) b) (bytes-drop (startSize f) b u)
           (fx .first .clear zx) in
-          let q = run-inv (f .mark) (f .second) (f .layout .width) (k .second) m (x .place) none (drop (x .place) b) (bytes-drop (x .place) b u)
+          let q = run-inv mark (f .second) (f .layout .width) (k .second) m (x .place) none (drop (x .place) b) (bytes-drop (x .place) b u)
           (fy .first .clear zy) in (
             record {
               held = rw t at (subst (λ (i : ℕ). i ≤ length b) (fx .behind zx) (fx .within zx));

@@ -45,10 +45,10 @@ runsHere f n m b = eachOf f (entriesIn (f .first) (f .layout .width) n (drop (st
     (secondAt f n) b))
 
 -- the refusals behind the start
-abbrev pub behindStart : Form → ℕ → ℕ → List ℕ → List Finding
-behindStart f n m b =
-    runRefusals (f .mark) (f .first) (f .layout .width) n (startSize f) none (drop (startSize f) b)
-    ++ (runRefusals (f .mark) (f .second) (f .layout .width) m (secondAt f n) none (drop (secondAt f n) b)
+abbrev pub behindStart : ℕ → Form → ℕ → ℕ → List ℕ → List Finding
+behindStart mark f n m b =
+    runRefusals mark (f .first) (f .layout .width) n (startSize f) none (drop (startSize f) b)
+    ++ (runRefusals mark (f .second) (f .layout .width) m (secondAt f n) none (drop (secondAt f n) b)
     ++ (trailing (secondAt f n + itemSize f * m) b ∷ overlap (runsHere f n m b) ∷ []))
 
 -- n range records stand from place p on, their ranges are sound, and their kind holds words as they are

@@ -11,16 +11,15 @@ ghost use Rattle.answers.specs.Steps.{FirstOf};
 ghost use Rattle.blocks.specs.Blocks.{capacity};
 ghost use Rattle.searches.specs.Steps.{Rises, First};
 ghost use Rattle.runs.specs.Runs.{entriesIn};
-ghost use Rattle.verdicts.specs.Forms.{startSize, formRefusals, outRefusals};
+ghost use Rattle.verdicts.specs.Forms.{markOf, startSize, formRefusals, outRefusals};
 ghost use Rattle.verdicts.specs.Steps.{FormKind, OneRun, highIn, eachOf, behindStart};
 use answers::Finding;
 use blocks::Layout;
 use records::StartRead;
 
-// A form: the mark of its records, the kind of its start, the kind of the items of its first run and of its second, how many runs it
-// has, one or two, and the layout of the block that holds a run.
+// A form: the kind of its start, the kind of the items of its first run and of its second, how many runs it has, one or two, and the
+// layout of the block that holds a run. Its records bear either mark, all the same one.
 pub struct Form {
-    pub mark: u16,
     pub start: u8,
     pub first: u8,
     pub second: u8,
@@ -28,12 +27,8 @@ pub struct Form {
     pub layout: Layout,
 }
 
-// The mark of every record.
-pub const MARK: u16 = 0xC53A;
-
 // A set, a map: one run. A bulletin: its released ranges, then its withdrawn ranges.
 pub const SET_FORM: Form = Form {
-    mark: MARK,
     start: 0x01,
     first: 0x10,
     second: 0x10,
@@ -42,7 +37,6 @@ pub const SET_FORM: Form = Form {
 };
 
 pub const MAP_FORM: Form = Form {
-    mark: MARK,
     start: 0x02,
     first: 0x11,
     second: 0x11,
@@ -51,7 +45,6 @@ pub const MAP_FORM: Form = Form {
 };
 
 pub const BULLETIN_FORM: Form = Form {
-    mark: MARK,
     start: 0x03,
     first: 0x12,
     second: 0x13,
@@ -61,7 +54,6 @@ pub const BULLETIN_FORM: Form = Form {
 
 // A signed set: one run of ranges whose ends stand in two's complement.
 pub const SIGNED_FORM: Form = Form {
-    mark: MARK,
     start: 0x04,
     first: 0x14,
     second: 0x14,
@@ -105,18 +97,31 @@ fn share_records(
     false
 }
 
-// The first refusal behind the start of a form with these counts, or number 0.
-fn judge_runs(bytes: &[u8], form: Form, n: usize, m: usize) -> Finding
+// The mark that a form's records have to bear: the old one where its first two bytes are that, else the new one.
+fn mark_of(bytes: &[u8]) -> u16
+    ensures { λ r. ⌜ r ≡ markOf (now (bytes .entry)) ⌝ }
+{
+    if bytes.len() < 2 {
+        return checks::NEW_MARK;
+    }
+    if numbers::get2(bytes, 0) == numbers::wide2(checks::OLD_MARK) {
+        return checks::OLD_MARK;
+    }
+    checks::NEW_MARK
+}
+
+// The first refusal behind the start of a form with this mark and these counts, or number 0.
+fn judge_runs(bytes: &[u8], mark: u16, form: Form, n: usize, m: usize) -> Finding
     requires { ⌜ FormKind form × (startSize form ≤ length (now bytes)) ⌝ }
-    ensures { λ r. ⌜ FirstOf (behindStart form n m (now (bytes .entry))) r ⌝ }
+    ensures { λ r. ⌜ FirstOf (behindStart mark form n m (now (bytes .entry))) r ⌝ }
 {
     let s = form.layout.width;
     let from = 2 * form.runs + 5;
-    let x = runs::judge_run(bytes, from, form.mark, form.first, s, n);
+    let x = runs::judge_run(bytes, from, mark, form.first, s, n);
     if x.number != 0 {
         return x;
     }
-    let y = runs::judge_run(bytes, x.place, form.mark, form.second, s, m);
+    let y = runs::judge_run(bytes, x.place, mark, form.second, s, m);
     if y.number != 0 {
         return y;
     }
@@ -144,19 +149,20 @@ fn judge_runs(bytes: &[u8], form: Form, n: usize, m: usize) -> Finding
     }
 }
 
-// The first refusal of the bytes as a whole form, or number 0.
+// The first refusal of the bytes as a whole form, or number 0. The mark of the first record is that of all.
 pub fn judge_form(bytes: &[u8], form: Form) -> Finding
     requires { ⌜ FormKind form ⌝ }
     ensures { λ r. ⌜ FirstOf (formRefusals form (now (bytes .entry))) r ⌝ }
 {
-    let a = records::read_start(bytes, form.mark, form.start, form.runs, form.layout.limit);
+    let mark = mark_of(bytes);
+    let a = records::read_start(bytes, mark, form.start, form.runs, form.layout.limit);
     let StartRead::Good(n, m) = a else {
         return Finding {
             number: records::start_number(a),
             place: 0,
         };
     };
-    judge_runs(bytes, form, n, m)
+    judge_runs(bytes, mark, form, n, m)
 }
 
 // 5 where a block of len words has no room for n items, else 0.

@@ -12,7 +12,7 @@ returns c =
     let a = s .args in
     laid-as _ _ (put-turned (a .kind) (a .words .now) _ _ (turns-so _ _ (s .pre .0) (i .if1 .taken)) (s .pre .1)
     (u .before .before .turned .ensures) (u .turned2 .ensures))
-    (p .put-words .ensures)
+    (p .put-checked .ensures)
 
 returns-2 : tie.Need-returns-2
 returns-2 c =
@@ -20,7 +20,7 @@ returns-2 c =
     let i = p .before .before in
     let s = i .before .before .before in
     let a = s .args in
-    laid-as _ _ (put-plain (a .kind) (a .words .now) (turns-not _ _ (s .pre .0) (i .if1 .left)) (s .pre .1 .two)) (p .put-words2 .ensures)
+    laid-as _ _ (put-plain (a .kind) (a .words .now) (turns-not _ _ (s .pre .0) (i .if1 .left)) (s .pre .1 .two)) (p .put-checked2 .ensures)
 
 pub put-item-spec : {M : Type 1} → statement M
 put-item-spec =

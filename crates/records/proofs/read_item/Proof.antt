@@ -36,7 +36,7 @@ judged k t u r v e w =
     let f = k .before .before .before .before in
     let a = f .before .before .args in
     item-judged _ _ _ (f .read-front .ensures .good (k .before .before .before .if1 .left)) (λ j. f .before .shared-slice-known .given j .fits) _ t u r v _
-    (previous (a .first) (a .s) (a .before)) _ (f .before .before .pre) (k .before .before .item-here .ensures) (k .before .item-sums .ensures)
+    (previous (a .first) (a .s) (a .before)) _ (f .before .before .pre) (k .before .before .item-here .ensures) (k .before .item-check .ensures)
     (sym e ∙ k .is-told .ensures) w
 
 -- the test of the order is of the item that the words say

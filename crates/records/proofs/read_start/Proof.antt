@@ -41,7 +41,7 @@ judged k =
     start-judged _ _ _ (f .read-front .ensures .good (s .before .if1 .left)) (λ j. f .before .shared-slice-known .given j .fits) _ _ _ _
     (k .rest-verdict .ensures)
     (a .k) (a .limit) _ _ (f .before .before .pre) (s .get2 .ensures .0) (k .before .before .before .before .before .before .second-count .ensures .0)
-    (k .before .before .before .before .before .start-sums .ensures) (k .before .before .before .before .is-told .ensures)
+    (k .before .before .before .before .before .start-check .ensures) (k .before .before .before .before .is-told .ensures)
     (k .before .within .ensures ∙ ap₂ (λ (x y : ℕ). andb (leb x (a .limit)) (leb y (a .limit))) (k .before .before .before .wide .ensures)
     (k .before .before .wide2 .ensures))
 

@@ -6,6 +6,7 @@ use borrow.Rule.Slice.PartMut.{same-len-mid}
 use Rattle.blocks.specs.Blocks.{itemsOf}
 use Rattle.blocks.proofs.Tests.{less-one}
 use Rattle.numbers.specs.Numbers.{patch}
+use Rattle.checks.specs.Check.{newMark}
 use Rattle.runs.specs.Runs.{runOf}
 use Rattle.runs.proofs.Turns.{write-turn, write-end}
 use borrow.Author.Needs.{needs}
@@ -14,11 +15,12 @@ use Rattle.runs.proofs.write_records.Statement.{statement}
 use Rattle.runs.proofs.write_records.Tie as tie
 
 abbrev Inv-loop : tie.InvT-loop
-Inv-loop words s n mark kind turns bytes₀ left₀ q₀ w₀ bytes left q w = (w + s * left ≤ length words) × (q + (8 * s + 5) * left ≤ length bytes) ×
-    (length bytes ≡ length bytes₀) × (patch 0 (runOf mark kind (itemsOf s n words)) bytes₀ ≡ patch q (runOf mark kind (itemsOf s left (drop w words))) bytes)
+Inv-loop words s n kind turns bytes₀ left₀ q₀ w₀ bytes left q w = (w + s * left ≤ length words) × (q + (8 * s + 5) * left ≤ length bytes) ×
+    (length bytes ≡ length bytes₀)
+    × (patch 0 (runOf newMark kind (itemsOf s n words)) bytes₀ ≡ patch q (runOf newMark kind (itemsOf s left (drop w words))) bytes)
 
 abbrev μ-loop : tie.MeasureT-loop
-μ-loop words s n mark kind turns bytes₀ left₀ q₀ w₀ bytes left q w = left
+μ-loop words s n kind turns bytes₀ left₀ q₀ w₀ bytes left q w = left
 
 part-write-item-end-2 : tie.Need-part-write-item-end-2 Inv-loop μ-loop
 part-write-item-end-2 c = omega (arith, less-one (c .before .before .before .before .before .args .s) (c .before .before .loop .left) (omega arith))
@@ -44,12 +46,12 @@ loop-again c =
       omega arith,
       omega (arith, e),
       omega (arith, e),
-      write-turn (a .mark) (a .kind) (a .s) (a .words .now) (c9 .pre .2 .two) (l .loop .bytes) _ _ (l .loop .w)
+      write-turn newMark (a .kind) (a .s) (a .words .now) (c9 .pre .2 .two) (l .loop .bytes) _ _ (l .loop .w)
           (l .loop .q) (l .loop .left) (omega arith) (omega arith) (omega arith) (l .loop .inv .3) (r .write-item .ensures),
     )
 
 returns : tie.Need-returns Inv-loop μ-loop
-returns c = let l = c .before in let a = c .before .before .before .before .args in sym (l .loop .inv .3 ∙ write-end (a .mark) (a .kind) (a .s)
+returns c = let l = c .before in let a = c .before .before .before .before .args in sym (l .loop .inv .3 ∙ write-end newMark (a .kind) (a .s)
     (l .loop .left) (l .loop .q) _ (l .loop .bytes) (omega arith))
 
 pub write-records-spec : {M : Type 1} → statement M

@@ -3,6 +3,7 @@ use mathlib.Core.Path.{sym, _∙_, ap, subst}
 use Prim.Native.Nat.{ℕ}
 use Rattle.blocks.specs.Blocks.{itemsOf}
 use Rattle.numbers.specs.Numbers.{over}
+use Rattle.checks.specs.Check.{newMark}
 use Rattle.records.specs.Steps.{ItemKind}
 use Rattle.runs.specs.Runs.{runOf}
 use Rattle.runs.specs.Steps.{Fills}
@@ -22,7 +23,7 @@ returns-2 : tie.Need-returns-2
 returns-2 c =
     let start = c .before .before .before .before .before .before .before .before in
     c .before .before .write-records2 .ensures
-    ∙ ap (λ (s : ℕ). over (runOf (start .args .mark) (start .args .kind) (itemsOf s (start .args .n) (now (start .args .words)))) (now (start .args .bytes)))
+    ∙ ap (λ (s : ℕ). over (runOf newMark (start .args .kind) (itemsOf s (start .args .n) (now (start .args .words)))) (now (start .args .bytes)))
     (sym (c .before .before .before .before .if2 .taken))
 
 pub write-run-spec : {M : Type 1} → statement M

@@ -13,7 +13,7 @@ judge-run-requires c κs = let p = c .before .before .pre in (p .0 .first, p .1)
 returns : tie.Need-returns
 returns c =
     let a = c .before .before .before .before .before .args in
-    first-bad (a .form) (a .n) (a .m) (a .bytes .now) _ (c .before .before .judge-run .ensures) (c .if1 .taken)
+    first-bad _ (a .form) (a .n) (a .m) (a .bytes .now) _ (c .before .before .judge-run .ensures) (c .if1 .taken)
 
 judge-run-requires-2 : tie.Need-judge-run-requires-2
 judge-run-requires-2 c κs =
@@ -24,7 +24,7 @@ returns-2 : tie.Need-returns-2
 returns-2 c =
     let x = c .before .before .before .before .before in
     let a = x .before .before .before .args in
-    second-bad (a .form) (a .n) (a .m) (a .bytes .now) _ (x .judge-run .ensures) (c .before .before .before .if1 .left) _
+    second-bad _ (a .form) (a .n) (a .m) (a .bytes .now) _ (x .judge-run .ensures) (c .before .before .before .if1 .left) _
     (c .before .before .judge-run2 .ensures) (c .if2 .taken)
 
 returns-3 : tie.Need-returns-3
@@ -32,7 +32,7 @@ returns-3 c =
     let y = c .before .before .before .before in
     let x = y .before .before .before in
     let a = x .before .before .before .args in
-    trails (a .form) (a .n) (a .m) (a .bytes .now) _ (x .judge-run .ensures) (y .before .if1 .left) _ (y .judge-run2 .ensures)
+    trails _ (a .form) (a .n) (a .m) (a .bytes .now) _ (x .judge-run .ensures) (y .before .if1 .left) _ (y .judge-run2 .ensures)
     (c .before .before .if2 .left) (c .if3 .taken)
 
 returns-4 : tie.Need-returns-4
@@ -41,7 +41,7 @@ returns-4 c =
     let x = y .before .before .before in
     let k = x .before .before .before in
     let a = k .args in
-    last-is (a .form) (a .n) (a .m) (a .bytes .now) _ (x .judge-run .ensures) (y .before .if1 .left) _ (y .judge-run2 .ensures)
+    last-is _ (a .form) (a .n) (a .m) (a .bytes .now) _ (x .judge-run .ensures) (y .before .if1 .left) _ (y .judge-run2 .ensures)
     (c .before .before .before .before .if2 .left) (c .before .before .if3 .left) 0
     (sym (ap (λ (t : Bool). applies t 14) (one-run (a .form .runs) _ _ (c .if4 .taken))))
 
@@ -51,7 +51,7 @@ share-records-requires c κs =
     let x = y .before .before .before in
     let k = x .before .before .before in
     let a = k .args in
-    to-share (a .form) (a .n) (a .m) (a .bytes .now) _ (x .judge-run .ensures) (y .before .if1 .left) _ (y .judge-run2 .ensures)
+    to-share _ (a .form) (a .n) (a .m) (a .bytes .now) _ (x .judge-run .ensures) (y .before .if1 .left) _ (y .judge-run2 .ensures)
     (c .before .before .before .before .if2 .left)
     (k .pre .0) (λ i. omega (arith, x .before .before .shared-slice-known .given i)) (c .if4 .left)
 
@@ -61,9 +61,9 @@ returns-5 c =
     let x = y .before .before .before in
     let k = x .before .before .before in
     let a = k .args in
-    last-is (a .form) (a .n) (a .m) (a .bytes .now) _ (x .judge-run .ensures) (y .before .if1 .left) _ (y .judge-run2 .ensures)
+    last-is _ (a .form) (a .n) (a .m) (a .bytes .now) _ (x .judge-run .ensures) (y .before .if1 .left) _ (y .judge-run2 .ensures)
     (c .before .before .before .before .before .before .if2 .left) (c .before .before .before .before .if3 .left) 14
-    (sym (ap (λ (t : Bool). applies t 14) (shared-is (a .form) (a .n) (a .m) (a .bytes .now) _ (x .judge-run .ensures) (y .before .if1 .left) _
+    (sym (ap (λ (t : Bool). applies t 14) (shared-is _ (a .form) (a .n) (a .m) (a .bytes .now) _ (x .judge-run .ensures) (y .before .if1 .left) _
     (y .judge-run2 .ensures)
     (c .before .before .before .before .before .before .if2 .left) (k .pre .0) (c .before .before .if4 .left) true (sym
     (c .if5 .taken) ∙ c .before .share-records .ensures))))
@@ -74,9 +74,9 @@ returns-6 c =
     let x = y .before .before .before in
     let k = x .before .before .before in
     let a = k .args in
-    last-is (a .form) (a .n) (a .m) (a .bytes .now) _ (x .judge-run .ensures) (y .before .if1 .left) _ (y .judge-run2 .ensures)
+    last-is _ (a .form) (a .n) (a .m) (a .bytes .now) _ (x .judge-run .ensures) (y .before .if1 .left) _ (y .judge-run2 .ensures)
     (c .before .before .before .before .before .before .if2 .left) (c .before .before .before .before .if3 .left) 0
-    (sym (ap (λ (t : Bool). applies t 14) (shared-is (a .form) (a .n) (a .m) (a .bytes .now) _ (x .judge-run .ensures) (y .before .if1 .left) _
+    (sym (ap (λ (t : Bool). applies t 14) (shared-is _ (a .form) (a .n) (a .m) (a .bytes .now) _ (x .judge-run .ensures) (y .before .if1 .left) _
     (y .judge-run2 .ensures)
     (c .before .before .before .before .before .before .if2 .left) (k .pre .0) (c .before .before .if4 .left) false (sym
     (c .if5 .left) ∙ c .before .share-records .ensures))))
