@@ -15,6 +15,7 @@ pub mod Stored
 pub mod Bulletins
 pub mod Forms
 pub mod Reading
+pub mod Damage
 pub mod OneForm
 pub mod Folding
 pub mod Effects

@@ -7,4 +7,5 @@ pub mod Stored
 pub mod Signed
 pub mod Prefixes
 pub mod Bytes
+pub mod Damage
 pub mod Bulletins
