@@ -19,6 +19,14 @@
    blocks. It stands in an array of words as ranges do, word 0 the count and then a pair for each, its start and its e; but it is no
    set, and no call takes it as an input. An output of L words has room for (L-1)/2 pairs: the limit of 4,095 is that of sets.
 
+   BYTES. The byte form of a set, a map, a bulletin or a signed set is its records, one after the other: two bytes of mark, one of kind,
+   the body, two of check; numbers are big-endian. There are two marks. A record with the new one, C5 3B, has a CRC-16 of its kind and
+   body as its check (polynomial 0x1021, from FFFF on, not reflected, not changed at the end; the high byte first); a record with the
+   old one, C5 3A, has Fletcher's two sums. Every call that reads bytes takes both, but all records of a form have one mark, that of the
+   first. Every call that writes bytes writes the new one: an old form that is read and written comes out as the new form of the same
+   list, of the same length. A new form in which one byte is changed, whichever it is, is refused. The old check counts the bytes 00
+   and FF alike: in an old form such a change may go unnoticed, as where a part of the memory was erased.
+
    ANSWERS. Every call returns a wimblorque_answer, but wimblorque_member, wimblorque_key_of_word and wimblorque_word_of_key:
      status   0 if the call was accepted, else 16 plus the number of the refusal (the constants below). A refused call changes no word
               or byte lent to it.
@@ -48,7 +56,7 @@
 
 /* The version, here and nowhere else: CHANGELOG.md says what changed, and ./install writes it into wimblorque.pc. */
 #define WIMBLORQUE_VERSION_MAJOR 1
-#define WIMBLORQUE_VERSION_MINOR 2
+#define WIMBLORQUE_VERSION_MINOR 3
 #define WIMBLORQUE_VERSION_PATCH 0
 #define WIMBLORQUE_TEXT_OF(x) #x
 #define WIMBLORQUE_DOTTED(x, y, z) WIMBLORQUE_TEXT_OF(x) "." WIMBLORQUE_TEXT_OF(y) "." WIMBLORQUE_TEXT_OF(z)
@@ -124,7 +132,7 @@ enum {
     WIMBLORQUE_ZERO_RUN = 16 + 6,  /* a run of 0 numbers is asked for */
     WIMBLORQUE_NO_GAP = 16 + 7,    /* no free run as asked exists in the window */
     WIMBLORQUE_SHORT = 16 + 8,     /* the bytes end before or inside a record */
-    WIMBLORQUE_MARK = 16 + 9,      /* the mark of a record is wrong */
+    WIMBLORQUE_MARK = 16 + 9,      /* the first record has neither mark, or a later one not the first one's */
     WIMBLORQUE_KIND = 16 + 10,     /* a record is not of the kind that is due */
     WIMBLORQUE_CHECK = 16 + 11,    /* the check bytes of a record differ */
     WIMBLORQUE_CONTENT = 16 + 12,  /* a count above the limit, or an item that breaks soundness */
@@ -360,8 +368,8 @@ WIMBLORQUE_MUST_USE wimblorque_answer wimblorque_bulletin_fold(const uint64_t *r
     const uint64_t *withdrawn2, size_t withdrawn2_words, uint64_t *WIMBLORQUE_RESTRICT released, size_t released_words,
     uint64_t *WIMBLORQUE_RESTRICT withdrawn, size_t withdrawn_words);
 
-/* ---- The byte form: reading. The whole buffer is the form. Refused with 8 to 12 of the first record that is wrong, then 13, for a
-   bulletin then 14, then 1 of each output, then 5 of each output; the outputs are counted from 0. No values. ---- */
+/* ---- The byte form: reading. The whole buffer is the form, old or new. Refused with 8 to 12 of the first record that is wrong, then 13,
+   for a bulletin then 14, then 1 of each output, then 5 of each output; the outputs are counted from 0. No values. ---- */
 
 /* A set, into a set block. out must be other memory than the bytes. */
 WIMBLORQUE_MUST_USE wimblorque_answer wimblorque_set_read(const uint8_t *bytes, size_t length,
@@ -385,8 +393,8 @@ WIMBLORQUE_MUST_USE wimblorque_answer wimblorque_set_judge_form(const uint8_t *b
 
 /* Is x a member of the set whose byte form is in the buffer? (Of a set in a block of words ask wimblorque_set_member.) Returns 1 or 0,
    or 16 plus the refusal, 8 to 13. COMPARE WITH 1: a refusal is a number too, so `if (wimblorque_member(..))` takes a damaged list for
-   a yes. The whole form is judged before 1 or 0 is given: a form that reading refuses never answers 1 or 0. The check counts the bytes
-   00 and FF alike, so damage that turns a 00 into FF or back may go unnoticed. Changes nothing. */
+   a yes. The whole form is judged before 1 or 0 is given: a form that reading refuses never answers 1 or 0. In an old form damage that
+   turns a 00 into FF or back may go unnoticed, in a new one no change of one byte. Changes nothing. */
 WIMBLORQUE_MUST_USE uint64_t wimblorque_member(const uint8_t *bytes, size_t length, uint64_t x);
 
 /* The same question, to be used as a condition: 1 if x is a member of the set whose byte form is in the buffer, else 0, also where the
@@ -395,8 +403,9 @@ WIMBLORQUE_MUST_USE static inline int wimblorque_is_member(const uint8_t *bytes,
     return wimblorque_member(bytes, length, x) == 1;
 }
 
-/* ---- The byte form: writing, into the bytes from place p on. One value, the length that was written; every other byte stays. Refused
-   with 1, 2, 3 of each block in turn, for a bulletin then 14, then 15 if p is above the length or the rest is too short. ---- */
+/* ---- The byte form: writing, with the new mark, into the bytes from place p on. One value, the length that was written; every other
+   byte stays. Refused with 1, 2, 3 of each block in turn, for a bulletin then 14, then 15 if p is above the length or the rest is too
+   short. ---- */
 
 /* A set. The bytes must be other memory than the block. */
 WIMBLORQUE_MUST_USE wimblorque_answer wimblorque_set_write(const uint64_t *block, size_t words,

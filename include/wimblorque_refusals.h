@@ -34,7 +34,7 @@ static inline const char *wimblorque_refusal_sentence(uint64_t status) {
         "A run of no numbers was asked for.",
         "There is no free run of that length in the window.",
         "The data ends too early: a part of it is missing.",
-        "The data is no list at all, or a record of it does not begin where it should.",
+        "The data is no list at all, or a record of it does not begin as the first one does.",
         "The data is of another kind than was asked for, as a map where a list is expected.",
         "The data is damaged: the check of a record is wrong.",
         "The data came through whole, but what it says is no list: a count is too large, or ranges are backwards or not in order.",

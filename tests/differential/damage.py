@@ -3,14 +3,16 @@
     damage.py DRIVER...
 
 DRIVER... is the command of the C program of driver.c. Forms of up to 130 bytes get all 255 changes of each byte, longer ones some
-changes of each. Every answer is compared with the model's; and every damaged form must be refused, but where a 00 became FF or an FF
-became 00 in a body, which count alike in the check. The exit status is 1 if one of this fails.
+changes of each. Every answer is compared with the model's. [C4] Every damaged form with the new mark must be refused, wherever the byte
+is; [C6] of those with the old mark, every one but where a 00 became FF or an FF became 00 in a body, which count alike in the old check.
+The exit status is 1 if one of this fails.
 """
 
 import os
 import random
 import sys
 import time
+from collections import Counter
 
 import generate
 import model
@@ -58,15 +60,21 @@ def forms(rng):
     listed = []
     for items in set_lists(rng) + [shapes.fresh(rng, SET, 40)]:
         names = ["set_read", "set_judge_form", "member"] if len(items) < 3 else ["set_read"]
-        listed += [(name, model.set_form(items), [2 * len(items) + 4] if name == "set_read" else []) for name in names]
+        for mark in marks(items):
+            listed += [(name, model.set_form(items, mark), [2 * len(items) + 4] if name == "set_read" else []) for name in names]
     for items in signed_lists(rng) + [shapes.in_keys(shapes.fresh(rng, SET, 40))]:
-        listed.append(("signed_read", model.signed_form(items), [2 * len(items) + 4]))
+        listed += [("signed_read", model.signed_form(items, mark), [2 * len(items) + 4]) for mark in marks(items)]
     for items in map_lists(rng) + [shapes.fresh(rng, MAP, 30)]:
-        listed.append(("map_read", model.map_form(items), [3 * len(items) + 5]))
+        listed += [("map_read", model.map_form(items, mark), [3 * len(items) + 5]) for mark in marks(items)]
     for released, withdrawn in bulletins(rng):
-        form = model.bulletin_form(released, withdrawn)
-        listed.append(("bulletin_read", form, [2 * len(released) + 3, 2 * len(withdrawn) + 4]))
+        outputs = [2 * len(released) + 3, 2 * len(withdrawn) + 4]
+        listed += [("bulletin_read", model.bulletin_form(released, withdrawn, mark), outputs) for mark in marks(released + withdrawn)]
     return listed
+
+
+def marks(items):
+    """The marks with which a form is damaged: the new one, and where it has at most one item, or five, the old one too."""
+    return [model.NEW, model.OLD] if len(items) in (0, 1, 5) else [model.NEW]
 
 
 def body_places(form):
@@ -79,8 +87,8 @@ def body_places(form):
 
 
 def damaged(form, rng):
-    """Each damaged form, and whether it may be accepted: a 00 that became FF, or an FF that became 00, in a body."""
-    body = body_places(form)
+    """Each damaged form, and whether it may be accepted: of an old form, with a 00 that became FF, or an FF that became 00, in a body."""
+    body = body_places(form) if form[:2] == model.OLD else set()
     for length in range(len(form)):
         yield form[:length], False
     for at, old in enumerate(form):
@@ -91,12 +99,12 @@ def damaged(form, rng):
 
 
 def cases_of(listed, rng):
-    """Each damaged form as a case, and whether it may be accepted."""
+    """Each damaged form as a case, whether it may be accepted, and the mark of the form that was damaged."""
     for name, form, outputs in listed:
         blocks = [shapes.garbage(rng, words) for words in outputs]
         args = [rng.choice([0, 1, M])] if name == "member" else []
         for data, may in damaged(form, rng):
-            yield wire.Case(name, [data, *blocks], args, placement=len(data) % 2), may
+            yield wire.Case(name, [data, *blocks], args, placement=len(data) % 2), may, form[:2]
 
 
 def batches(pairs):
@@ -113,12 +121,12 @@ def batches(pairs):
 
 def run_batch(driver, batch):
     """Runs a batch: how many forms were accepted, or None after a failure, which is printed."""
-    cases = [case for case, _ in batch]
+    cases = [case for case, _, _ in batch]
     outcomes = [model.run(case.name, case.lent, case.args) for case in cases]
     for wrong in wire.mismatches(driver, cases, outcomes):
         wire.report(*wrong, run.KEPT)
         return None
-    accepted = [(case, may) for (case, may), outcome in zip(batch, outcomes) if outcome[0] < 16]
+    accepted = [(case, may) for (case, may, _), outcome in zip(batch, outcomes) if outcome[0] < 16]
     for case, may in accepted:
         if not may:
             print("damage: a damaged form was accepted:", case.text())
@@ -131,17 +139,19 @@ def main():
     driver, rng, began = wire.Driver(sys.argv[1:]), random.Random(1), time.monotonic()
     os.makedirs(os.path.dirname(run.KEPT), exist_ok=True)
     listed = forms(rng)
-    tried = accepted = allowed = 0
+    tried, accepted, allowed = Counter(), 0, 0
     for batch in batches(cases_of(listed, rng)):
         found = run_batch(driver, batch)
         if found is None:
             return False
-        tried += len(batch)
+        tried.update(mark for _, _, mark in batch)
         accepted += found
-        allowed += sum(may for _, may in batch)
+        allowed += sum(may for _, may, _ in batch)
+    many = Counter(form[:2] for form in {form for _, form, _ in listed})
     print(
-        f"damage: {tried} damaged forms of {len({form for _, form, _ in listed})} tried, {accepted} accepted, all of them among the "
-        f"{allowed} with 00 for FF or FF for 00 in a body; {time.monotonic() - began:.0f} s"
+        f"damage: {tried[model.NEW]} damaged forms of {many[model.NEW]} with the new mark tried, all refused; {tried[model.OLD]} of "
+        f"{many[model.OLD]} with the old one, {accepted} accepted, all of them among the {allowed} with 00 for FF or FF for 00 in a body; "
+        f"{time.monotonic() - began:.0f} s"
     )
     return True
 

@@ -1,4 +1,4 @@
-"""Random cases of every call, cases at the limits of 4,095 ranges and 2,730 entries, and cases of prefix blocks."""
+"""Random cases of every call, cases at the limits of 4,095 ranges and 2,730 entries, of mixed marks, and of prefix blocks."""
 
 import random
 
@@ -144,8 +144,29 @@ def split(form):
 
 
 def rechecked(piece):
-    """A record with its check computed anew."""
-    return piece[:-2] + model.check_bytes(piece[2:-2])
+    """A record with the check of its mark computed anew."""
+    return piece[:-2] + model.check_bytes(piece[2:-2], piece[:2])
+
+
+def other_mark(mark):
+    """The other one of the two marks."""
+    return model.NEW if mark == model.OLD else model.OLD
+
+
+MARKED = ["other", "kept", "neither", "rest"]
+
+
+def marked(rng, pieces, i, way):
+    """The records of a form with another mark at record i: the other one, with its check or with the check that was there, or neither of the
+    two; or with the other one, rightly checked, from record i on."""
+    other = other_mark(pieces[0][:2])
+    if way == "rest":
+        return pieces[:i] + [rechecked(other + piece[2:]) for piece in pieces[i:]]
+    if way == "neither":
+        piece = refusals.wrong_mark(rng, pieces[i][:2], True) + pieces[i][2:]
+    else:
+        piece = other + pieces[i][2:]
+    return pieces[:i] + [rechecked(piece) if way == "other" else piece] + pieces[i + 1 :]
 
 
 def changed_bytes(rng, form):
@@ -171,7 +192,7 @@ def cut_in_two(rng, pieces):
     i = rng.choice([i for i in wide if items[i - 1][0] < 0 <= items[i - 1][1]] or wide)
     kind, (low, high, *value) = pieces[i][2], items[i - 1]
     cut = -1 if low < 0 <= high else rng.randrange(low, high)
-    halves = [model.record(kind, (*ends, *value), 8) for ends in ((low, cut), (cut + 1, high))]
+    halves = [model.record(kind, (*ends, *value), 8, pieces[0][:2]) for ends in ((low, cut), (cut + 1, high))]
     at = 5 if kind == model.WITHDRAWN else 3
     count = int.from_bytes(pieces[0][at : at + 2], "big") + 1
     start = rechecked(pieces[0][:at] + count.to_bytes(2, "big") + pieces[0][at + 2 :])
@@ -179,10 +200,10 @@ def cut_in_two(rng, pieces):
 
 
 def changed_records(rng, form):
-    """The form with records exchanged, left out, doubled, cut in two, of another kind, or of another count or content, rightly checked."""
+    """The form with records exchanged, left out, doubled, cut in two, of another kind, mark, count or content, mostly rightly checked."""
     pieces = split(form)
     i, j = rng.randrange(len(pieces)), rng.randrange(len(pieces))
-    way = rng.randrange(8)
+    way = rng.randrange(9)
     if way == 0:
         pieces[i], pieces[j] = pieces[j], pieces[i]
     elif way == 1:
@@ -195,6 +216,8 @@ def changed_records(rng, form):
         count = rng.choice([0, 1, len(pieces), len(pieces) - 2, 2730, 2731, 4095, 4096, 65535, rng.randrange(65536)]) % 65536
         at = rng.choice([3, 5]) if len(pieces[0]) == 9 else 3
         pieces[0] = rechecked(pieces[0][:at] + count.to_bytes(2, "big") + pieces[0][at + 2 :])
+    elif way == 8:
+        pieces = marked(rng, pieces, i, rng.choice(MARKED))
     elif way > 5:
         pieces = cut_in_two(rng, pieces)
     else:
@@ -204,25 +227,26 @@ def changed_records(rng, form):
     return b"".join(pieces)
 
 
-def some_form(kind, rng):
-    """A form of a kind, and its items, in words."""
+def some_form(kind, rng, mark):
+    """A form of a kind and a mark, and its items, in words."""
     if kind == "bulletin":
         released = shapes.some_items(rng, SET, rng.choice(COUNTS))
         withdrawn = shapes.some_items(rng, SET, rng.choice(COUNTS), [released])
         if rng.random() < 0.9:
             withdrawn = model.difference(withdrawn, released)
-        return model.bulletin_form(released, withdrawn), [released, withdrawn]
+        return model.bulletin_form(released, withdrawn, mark), [released, withdrawn]
     items = shapes.some_items(rng, MAP if kind == "map" else SET, rng.choice(COUNTS))
     items = shapes.about_zero(rng, items) if kind == "signed" else items
-    return form_of(kind, [items]), [items, items]
+    return form_of(kind, [items], mark), [items, items]
 
 
 def form_case(name, rng):
     """A random call that reads bytes: a form of the kind that is asked for or now and then of another, a damaged form, or any bytes."""
-    form, lists = some_form(form_kind(name) if rng.random() < 0.95 else rng.choice(FORMS), rng)
+    mark = shapes.some_mark(rng)
+    form, lists = some_form(form_kind(name) if rng.random() < 0.95 else rng.choice(FORMS), rng, mark)
     chance = rng.random()
     if chance < 0.03:
-        form = rng.choice([b"", rng.randbytes(rng.randrange(60)), model.MARK, model.MARK + rng.randbytes(rng.randrange(30))])
+        form = rng.choice([b"", rng.randbytes(rng.randrange(60)), mark, mark + rng.randbytes(rng.randrange(30))])
     elif chance < 0.35:
         form = changed_bytes(rng, form)
     elif chance < 0.65:
@@ -235,11 +259,25 @@ def form_case(name, rng):
 def foreign_case(name, kind, seed):
     """A call that reads bytes, on a sound form of another kind, or on one whose start is of the right kind and the rest of the other."""
     rng = random.Random(seed)
-    other, own = (split(some_form(each, rng)[0]) for each in (kind, form_kind(name)))
+    mark = shapes.some_mark(rng)
+    other, own = (split(some_form(each, rng, mark)[0]) for each in (kind, form_kind(name)))
     start = own[0] if rng.random() < 0.5 else other[0]
     blocks = [shapes.room_for(rng, width, 40) for width in kinds_of(name)]
     args = [shapes.number(rng)] if name == "member" else []
     return Case(name, [b"".join([start, *other[1:]])] + blocks, args, placement=rng.randrange(2))
+
+
+def mark_case(name, mark, i, way, seed):
+    """[C3] A call that reads bytes, on a form of four items and a mark, old or new, in which record i, or each from it on, has another one."""
+    rng = random.Random(seed)
+    kind = form_kind(name)
+    items = shapes.fresh(rng, MAP if kind == "map" else SET, 4)
+    items = shapes.about_zero(rng, items) if kind == "signed" else items
+    lists = [items[::2], items[1::2]] if kind == "bulletin" else [items]
+    form = form_of(kind, lists, model.OLD if mark == "old" else model.NEW)
+    blocks = [shapes.room_for(rng, width, 4) for width in kinds_of(name)]
+    args = [shapes.near(rng, shapes.points_of(items))] if name == "member" else []
+    return Case(name, [b"".join(marked(rng, split(form), i, way))] + blocks, args, placement=rng.randrange(2))
 
 
 # ---- at every place of a list
@@ -254,7 +292,7 @@ def place_case(name, count, place, seed):
     low, high = items[place // 4][:2]
     x = shapes.clipped([low - 1, low, high, high + 1][place % 4])
     if name == "member":
-        return Case(name, [form_of(name, [items])], [x], placement=rng.randrange(2))
+        return Case(name, [form_of(name, [items], shapes.some_mark(rng))], [x], placement=rng.randrange(2))
     lists = [items] + some_lists(name, rng)[1:]
     given = {"x": [x], "ab": [x, x], "abv": [x, x, shapes.number(rng)]}[ARGS_OF[name]]
     return Case(name, [shapes.block(rng, kind, each) for kind, each in zip(kinds_of(name), lists)], as_given(name, given), placement=rng.randrange(2))
@@ -364,11 +402,11 @@ def limit_case(name, seed):
         kind = MAP if name.startswith("map") else SET
         items = shapes.fresh(rng, kind, LIMIT[kind] + rng.choice([0, 0, 0, 1, -1]))
         items = shapes.about_zero(rng, items) if is_signed(name) else items
-        few = shapes.fresh(rng, SET, 2)
+        few, mark = shapes.fresh(rng, SET, 2), shapes.some_mark(rng)
         if name == "bulletin_read":
-            form = model.bulletin_form(*rng.choice([(items, model.difference(few, items)), (model.difference(few, items), items)]))
+            form = model.bulletin_form(*rng.choice([(items, model.difference(few, items)), (model.difference(few, items), items)]), mark)
         else:
-            form = form_of(name, [items])
+            form = form_of(name, [items], mark)
         lent = [form] + [long_memory(rng, k, []) for k in kinds]
         return Case(name, lent, [shapes.near(rng, shapes.points_of(items))] if name == "member" else [])
     inputs = kinds[: sum(letter in "ic" for letter in letters)]

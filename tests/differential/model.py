@@ -13,7 +13,7 @@ HALF = 2**63  # how far a key's word is above the key
 MIN, MAX = -HALF, HALF - 1  # the least and the greatest key
 SET, MAP = 2, 3  # the words an item takes
 LIMIT = {SET: 4095, MAP: 2730}
-MARK = bytes([0xC5, 0x3A])
+OLD, NEW = bytes([0xC5, 0x3A]), bytes([0xC5, 0x3B])  # the two marks: both are read, the new one is written
 START_OF_SET, START_OF_MAP, START_OF_BULLETIN, START_OF_SIGNED = 0x01, 0x02, 0x03, 0x04
 RANGE, ENTRY, RELEASED, WITHDRAWN, SIGNED_RANGE = 0x10, 0x11, 0x12, 0x13, 0x14
 BODY = {START_OF_SET: 2, START_OF_MAP: 2, START_OF_BULLETIN: 4, START_OF_SIGNED: 2}
@@ -533,8 +533,8 @@ def bulletin_fold(released1, withdrawn1, released2, withdrawn2, released, withdr
 # ---- the byte form
 
 
-def check_bytes(data):
-    """Fletcher's 16-bit checksum of kind and body: b, then a."""
+def fletcher(data):
+    """Fletcher's 16-bit checksum: b, then a."""
     a = b = 0
     for byte in data:
         a = (a + byte) % 255
@@ -542,33 +542,59 @@ def check_bytes(data):
     return bytes([b, a])
 
 
-def record(kind, numbers, size):
+def divided(register):
+    """A 16-bit register after eight steps of the division by x^16 + x^12 + x^5 + 1, bit by bit, the high bit first, with zeros behind."""
+    for _ in range(8):
+        register = register << 1 ^ (0x11021 if register & 0x8000 else 0)
+    return register
+
+
+DIVIDED = [divided(high << 8) for high in range(256)]  # what a byte that goes out at the top leaves
+
+
+def crc(data):
+    """CRC-16 with polynomial 0x1021, from FFFF on, not reflected and not changed at the end: the high byte, then the low."""
+    register = 0xFFFF
+    for byte in data:
+        register = (register & 0xFF) << 8 ^ DIVIDED[register >> 8 ^ byte]
+    return register.to_bytes(2, "big")
+
+
+CHECK = {OLD: fletcher, NEW: crc}
+
+
+def check_bytes(data, mark):
+    """The check of kind and body that a record with this mark has."""
+    return CHECK[bytes(mark)](data)
+
+
+def record(kind, numbers, size, mark=NEW):
     """The mark, the kind, the numbers big-endian, each of `size` bytes, and the check. Keys are in two's complement."""
     data = bytes([kind]) + b"".join(number.to_bytes(size, "big", signed=kind == SIGNED_RANGE) for number in numbers)
-    return MARK + data + check_bytes(data)
+    return mark + data + check_bytes(data, mark)
 
 
-def set_form(ranges):
-    """The byte form of a set."""
-    return record(START_OF_SET, [len(ranges)], 2) + b"".join(record(RANGE, r, 8) for r in ranges)
+def set_form(ranges, mark=NEW):
+    """The byte form of a set: the one that is written, or the old one."""
+    return record(START_OF_SET, [len(ranges)], 2, mark) + b"".join(record(RANGE, r, 8, mark) for r in ranges)
 
 
-def signed_form(ranges):
+def signed_form(ranges, mark=NEW):
     """The byte form of a signed set, whose ranges are given in keys."""
-    return record(START_OF_SIGNED, [len(ranges)], 2) + b"".join(record(SIGNED_RANGE, r, 8) for r in ranges)
+    return record(START_OF_SIGNED, [len(ranges)], 2, mark) + b"".join(record(SIGNED_RANGE, r, 8, mark) for r in ranges)
 
 
-def map_form(entries):
+def map_form(entries, mark=NEW):
     """The byte form of a map."""
-    return record(START_OF_MAP, [len(entries)], 2) + b"".join(record(ENTRY, e, 8) for e in entries)
+    return record(START_OF_MAP, [len(entries)], 2, mark) + b"".join(record(ENTRY, e, 8, mark) for e in entries)
 
 
-def bulletin_form(released, withdrawn):
+def bulletin_form(released, withdrawn, mark=NEW):
     """The byte form of a bulletin: its start, all released, all withdrawn."""
     return (
-        record(START_OF_BULLETIN, [len(released), len(withdrawn)], 2)
-        + b"".join(record(RELEASED, r, 8) for r in released)
-        + b"".join(record(WITHDRAWN, r, 8) for r in withdrawn)
+        record(START_OF_BULLETIN, [len(released), len(withdrawn)], 2, mark)
+        + b"".join(record(RELEASED, r, 8, mark) for r in released)
+        + b"".join(record(WITHDRAWN, r, 8, mark) for r in withdrawn)
     )
 
 
@@ -576,14 +602,15 @@ def record_at(data, at, due):
     """The body of the record of the kind that is due at `at`, and where the next begins; or 8, 9, 10, 8, 11."""
     if len(data) - at < 3:
         raise Refused(8, at)
-    if data[at : at + 2] != MARK:
+    mark = bytes(data[at : at + 2])
+    if mark not in CHECK or mark != bytes(data[:2]):  # the first record has one of the two marks, and each later one the same
         raise Refused(9, at)
     if data[at + 2] != due:
         raise Refused(10, at)
     end = at + 3 + BODY[due] + 2
     if end > len(data):
         raise Refused(8, at)
-    if check_bytes(data[at + 2 : end - 2]) != data[end - 2 : end]:
+    if check_bytes(data[at + 2 : end - 2], mark) != data[end - 2 : end]:
         raise Refused(11, at)
     return data[at + 3 : end - 2], end
 

@@ -212,11 +212,11 @@ def buffer_and_place(size, wants, rng):
     return rng.randbytes(length), p
 
 
-def form_of(name, lists):
+def form_of(name, lists, mark=model.NEW):
     """The byte form that a call writes or reads, of lists in words; of what it is, the first word of `name` says."""
     if is_signed(name):
-        return model.signed_form(shapes.in_keys(lists[0]))
-    return {"map": model.map_form, "bulletin": model.bulletin_form}.get(name.split("_")[0], model.set_form)(*lists)
+        return model.signed_form(shapes.in_keys(lists[0]), mark)
+    return {"map": model.map_form, "bulletin": model.bulletin_form}.get(name.split("_")[0], model.set_form)(*lists, mark)
 
 
 def word_case(name, wants, pair, seed):
@@ -250,6 +250,16 @@ def word_case(name, wants, pair, seed):
 # ---- calls that read bytes
 
 
+def wrong_mark(rng, due, first):
+    """A mark that is not the one due: with a bit changed, the wrong way round, or any; of a later record often the other one of the two. The
+    first record may have either."""
+    other = model.NEW if due == model.OLD else model.OLD
+    bit = bytearray(due)
+    bit[rng.randrange(2)] ^= 1 << rng.randrange(8)
+    ways = [bytes(bit), bytes(bit), due[::-1], rng.randbytes(2), other, other, other]
+    return rng.choice([way for way in ways if way not in ((due, other) if first else (due,))])
+
+
 def wrong_kind(rng, due):
     """A kind byte that is not the one due: often a known one, or one at the edge of the unknown."""
     known = [0x00, 0x01, 0x02, 0x03, 0x04, 0x05, 0x0F, 0x10, 0x11, 0x12, 0x13, 0x14, 0x15, 0xFF]
@@ -269,20 +279,22 @@ def bad_item(rng, item, before, least, most):
     return rng.choice(ways)
 
 
-def spoiled_record(rng, kind, numbers, size, wants, bad):
-    """A record's bytes with refusals 9 to 12 as wanted."""
-    data = bytearray(model.record(kind, bad if 12 in wants else numbers, size))
+def spoiled_record(rng, kind, numbers, size, wants, bad, mark, first):
+    """A record's bytes with refusals 9 to 12 as wanted; a wrong check is often the one of the other mark."""
+    data = bytearray(model.record(kind, bad if 12 in wants else numbers, size, mark))
     if 10 in wants:
         data[2] = wrong_kind(rng, kind)
         if rng.random() < 0.5:
-            data[-2:] = model.check_bytes(data[2:-2])
+            data[-2:] = model.check_bytes(data[2:-2], mark)
     if 11 in wants:
         right = bytes(data[-2:])
         while data[-2:] == right:
-            first, second = bytes([right[0] ^ 0x80, right[1]]), bytes([right[0], right[1] ^ 1])
-            data[-2:] = rng.choice([right[::-1], first, second, rng.randbytes(2)])
+            changed = [bytes([right[0] ^ 0x80, right[1]]), bytes([right[0], right[1] ^ 1]), right[::-1], rng.randbytes(2)]
+            data[-2:] = rng.choice(changed + [model.check_bytes(data[2:-2], each) for each in model.CHECK])
     if 9 in wants:
-        data[rng.randrange(2)] ^= 1 << rng.randrange(8)
+        data[:2] = wrong_mark(rng, mark, first)
+        if bytes(data[:2]) in model.CHECK and 11 not in wants and rng.random() < 0.5:
+            data[-2:] = model.check_bytes(data[2:-2], data[:2])
     return bytes(data)
 
 
@@ -327,20 +339,20 @@ def records_of(name, lists, rng):
     return records
 
 
-def form_bytes(records, spots, wants, rng):
-    """The bytes of the records with what is wanted of those at the spots, and the place of each refusal."""
+def form_bytes(records, spots, wants, mark, rng):
+    """The bytes of the records with this mark and with what is wanted of those at the spots, and the place of each refusal."""
     data, places = b"", {}
     for i, (kind, numbers, size, bad) in enumerate(records):
         where = spots.get(i)
         here = {number for number, at in wants if at == where and where is not None}
         places |= {(number, where): len(data) for number in here}
-        piece = spoiled_record(random.Random(rng.random()), kind, numbers, size, here, bad)
+        piece = spoiled_record(random.Random(rng.random()), kind, numbers, size, here, bad, mark, i == 0)
         if here & {"8<", 8}:
             return data + cut_record(rng, piece, here), places
         data += piece
     places[(13, "")] = len(data)
     if (13, "") in wants:
-        another = [model.record(kind, (1, 2), 8) for kind in (model.RANGE, model.SIGNED_RANGE)]
+        another = [model.record(kind, (1, 2), 8, each) for kind in (model.RANGE, model.SIGNED_RANGE) for each in model.CHECK]
         data += rng.choice([b"\0", b"\xc5", rng.randbytes(rng.randrange(1, 30)), *another, data[:7]])
     return data, places
 
@@ -358,7 +370,7 @@ def form_case(name, wants, pair, seed):
         return None, {}
     item = rng("spots").randrange(1, len(records) - 1)
     later = rng("spot").randrange(item + 1, len(records))
-    data, places = form_bytes(records, {0: "start", item: "item", later: "later"}, wants, rng("bytes"))
+    data, places = form_bytes(records, {0: "start", item: "item", later: "later"}, wants, shapes.some_mark(rng("mark")), rng("bytes"))
     lent, kinds = [data], kinds_of(name)
     for i, kind in enumerate(kinds):
         lent.append(output_block(kind, len(lists[i]), i, wants, rng(f"block {i}")))

@@ -3,9 +3,9 @@
     run.py [--cases N] [--seconds S] [--seed X] [--sample N] [--tally] [--replay FILE] -- DRIVER...
 
 DRIVER... is the command of the C program of driver.c. Without options the seed and the number of cases are fixed. With --cases or
---seconds and no --seed a seed is drawn, and printed first; the cases made for refusals, limits, searches and prefix blocks, about 18,700,
-are always run. --sample N runs N cases of the fixed run, drawn by the seed, and asks nothing of the tally. --tally prints what was tried of each
-call. --replay runs one case that a mismatch left behind. The exit status is 1 on a mismatch, or if something was not tried.
+--seconds and no --seed a seed is drawn, and printed first; the cases made for refusals, limits, marks, searches and prefix blocks, about
+19,200, are always run. --sample N runs N cases of the fixed run, drawn by the seed, and asks nothing of the tally. --tally prints what was
+tried of each call. --replay runs one case that a mismatch left behind. The exit status is 1 on a mismatch, or if something was not tried.
 """
 
 import argparse
@@ -24,9 +24,9 @@ import wire
 
 CASES = 60000
 SEED = "1"
-PAIR_TIMES, SINGLE_TIMES, LIMIT_TIMES, FOREIGN_TIMES = 5, 5, 10, 20
+PAIR_TIMES, SINGLE_TIMES, LIMIT_TIMES, FOREIGN_TIMES, MARK_TIMES = 5, 5, 10, 20, 2
 AT_LEAST = {"call": 10, "refusal": 5, "pair": PAIR_TIMES, "empty answer": 20, "refused foreign form": FOREIGN_TIMES // 2, "searched place": 1}
-AT_LEAST |= {"aligned range": 1, "long output": 10}
+AT_LEAST |= {"aligned range": 1, "long output": 10, "changed mark": MARK_TIMES, "taken form": 50}
 BATCH = 500
 KEPT = "build/differential-mismatch.json"
 NAMES = [name for name, _, _ in model.CALLS]
@@ -43,6 +43,9 @@ POWERS = [(e, i, j) for e in range(65) for i in (-1, 0, 1) for j in (-1, 0, 1)]
 LONG = [(way, more) for way in generate.MANY for more in (-2, -1, 0, 1, 2, None)]
 # Each reading call with each kind of form that it does not read.
 FOREIGN = [(name, kind) for name in NAMES if refusals.reads_bytes(name) for kind in generate.FORMS if kind != generate.form_kind(name)]
+# Each reading call with forms of five records in which a record, or each from it on, has another mark than the form's.
+READING = [name for name in NAMES if refusals.reads_bytes(name)]
+MARKS = [(mark, i, way) for mark in ("old", "new") for i in range(5) for way in generate.MARKED]
 
 
 def header_calls():
@@ -54,18 +57,24 @@ def header_calls():
 
 def jobs(cases):
     """What to try, in short: the wanted refusals of each call, alone and in pairs, the limits, forms of another kind than the one that is
-    read, every place of a list that is searched, prefix blocks at every power of two and many of them, and random cases up to so many."""
+    read, another mark at every record, every place of a list that is searched, prefix blocks at every power of two and many of them, and
+    random cases up to so many."""
     listed = []
     for name in NAMES:
         listed += [("refusals", name, (x,), i) for x in refusals.refusals_of(name) for i in range(SINGLE_TIMES)]
         listed += [("refusals", name, pair, i) for pair in refusals.listed_pairs(name) for i in range(PAIR_TIMES)]
         listed += [("limit", name, (), i) for i in range(LIMIT_TIMES)]
     listed += [("foreign", name, (kind,), i) for name, kind in FOREIGN for i in range(FOREIGN_TIMES)]
+    listed += [("mark", name, mark, i) for name in READING for mark in MARKS for i in range(MARK_TIMES)]
     listed += [("place", name, place, 0) for name in SEARCHING for place in PLACES]
     listed += [("power", name, power, 0) for name in refusals.PREFIXES for power in POWERS]
     listed += [("long", name, long, 0) for name in refusals.PREFIXES for long in LONG]
     listed += [("random", NAMES[i % len(NAMES)], (), i // len(NAMES)) for i in range(max(0, cases - len(listed)))]
     return listed
+
+
+# What makes the case of a job that was listed by what it tries.
+LISTED = {"mark": generate.mark_case, "place": generate.place_case, "power": generate.power_case, "long": generate.long_case}
 
 
 def case_of(job, seed):
@@ -76,21 +85,21 @@ def case_of(job, seed):
         return refusals.case_for(name, pair, own)
     if sort == "foreign":
         return generate.foreign_case(name, pair[0], own)
-    if sort in ("place", "power", "long"):
-        return {"place": generate.place_case, "power": generate.power_case, "long": generate.long_case}[sort](name, *pair, own)
+    if sort in LISTED:
+        return LISTED[sort](name, *pair, own)
     return generate.limit_case(name, own) if sort == "limit" else generate.random_case(name, own)
 
 
 class Tally:
     """How often each call, each refusal of a call, each ordered pair of refusals and each empty answer was tried, forms of another kind that
-    were refused as such, each place of a list that was searched, prefix blocks at each power of two, and more of them than a set can hold
-    ranges."""
+    were refused as such, another mark at each record, forms of either mark that were taken, each place of a list that was searched, prefix
+    blocks at each power of two, and more of them than a set can hold ranges."""
 
     def __init__(self):
         self.calls, self.refusals, self.pairs, self.nothing, self.foreign, self.places = (Counter() for _ in range(6))
-        self.powers, self.long = Counter(), Counter()
+        self.powers, self.long, self.marks, self.taken = (Counter() for _ in range(4))
 
-    def count(self, job, outcome):
+    def count(self, job, case, outcome):
         """Counts a case."""
         sort, name, pair, _ = job
         self.calls[name] += 1
@@ -101,6 +110,10 @@ class Tally:
             self.places[name, pair] += 1
         if sort == "power":
             self.powers[name, pair] += 1
+        if sort == "mark":
+            self.marks[name, pair] += 1
+        if name in READING and outcome[0] < 16:
+            self.taken[name, bytes(case.lent[0][:2])] += 1
         if name in refusals.PREFIXES and outcome[0] == 0 and outcome[2][1][0] > model.LIMIT[model.SET]:
             self.long[name] += 1
         if outcome[0] == 0 and name in MAY_FIND_NOTHING and outcome[1][1] == 0:
@@ -116,6 +129,8 @@ class Tally:
         yield "pair", {(name, pair): self.pairs[name, pair] for name in NAMES for pair in refusals.listed_pairs(name)}
         yield "empty answer", {name: self.nothing[name] for name in MAY_FIND_NOTHING}
         yield "refused foreign form", {key: self.foreign[key] for key in FOREIGN}
+        yield "changed mark", {(name, mark): self.marks[name, mark] for name in READING for mark in MARKS}
+        yield "taken form", {(name, mark): self.taken[name, mark] for name in READING for mark in model.CHECK}
         yield "searched place", {(name, place): self.places[name, place] for name in SEARCHING for place in PLACES}
         yield "aligned range", {(name, power): self.powers[name, power] for name in refusals.PREFIXES for power in POWERS}
         yield "long output", {name: self.long[name] for name in refusals.PREFIXES}
@@ -146,8 +161,8 @@ def run_batch(driver, seed, batch, tally):
     """Runs some jobs; true if all agree. The first that does not is printed."""
     cases = [case_of(job, seed) for job in batch]
     outcomes = [model.run(case.name, case.lent, case.args) for case in cases]
-    for job, outcome in zip(batch, outcomes):
-        tally.count(job, outcome)
+    for job, case, outcome in zip(batch, cases, outcomes):
+        tally.count(job, case, outcome)
     for wrong in wire.mismatches(driver, cases, outcomes):
         wire.report(*wrong, KEPT)
         print(f"differential: the library differs from the model; seed {seed}")

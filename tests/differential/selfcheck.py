@@ -1,4 +1,5 @@
-"""Checks the model itself: against brute force on sets of a few cells, and against the worked numbers of the requirements.
+"""Checks the model itself: against brute force on sets of a few cells, against the worked numbers of the requirements, and its CRC against
+the one of Python's own library.
 
 The line 0..M is cut into 17 or 18 cells, all but one or two of them a single number: the single numbers stand at the line's low end,
 at its high end, at both, or in its middle, and the wide cells are all the rest. A set is then a Python set of cells, a map a dict from
@@ -7,12 +8,15 @@ prefix blocks a short line of 8 or 16 numbers is laid into the long one, at its 
 there is tried.
 """
 
+import binascii
 import random
 import struct
 import sys
 
+import generate
 import model
-from model import M, MAP, SET
+import refusals
+from model import M, MAP, NEW, OLD, SET
 
 LAYOUTS = [[1] * 8 + [M + 1 - 16] + [1] * 8, [1] * 16 + [M + 1 - 16], [M + 1 - 16] + [1] * 16]
 LAYOUTS += [[2**63 - 8] + [1] * 16 + [2**63 - 8]]
@@ -202,6 +206,14 @@ def check_bulletins(line, one, bulletin1, bulletin2):
     else:
         expect("fold, released", after[4], zeros(line.block((r1 - w2) | r2), length))
         expect("fold, withdrawn", after[5], zeros(line.block((w1 - r2) | w2), length))
+    form = written("bulletin_write", [*blocks[:2], bytearray(9 + 21 * (blocks[0][0] + blocks[1][0]))], [0])
+    if shared1:
+        expect("bulletin", form, 14)
+    else:
+        check_records(bytes(form))
+        for mark in (OLD, NEW):
+            status, _, after = model.run("bulletin_read", [in_mark(mark, bytes(form)), room, room], [])
+            expect("bulletin read", (status, *after[1:]), (0, zeros(blocks[0], length), zeros(blocks[1], length)))
 
 
 def check_soundness(rng):
@@ -232,18 +244,41 @@ def check_written(named_blocks):
         form = written(name + "_write", [block, bytearray(size + 2)], [1])
         expect(name + " bytes around", (form[0], form[-1]), (0, 0))
         expect(name + " read", written(name + "_read", [form[1:-1], [5] * 60]), zeros(block, 60))
+        check_records(bytes(form[1:-1]))
+        check_old(name, block, bytes(form[1:-1]))
+
+
+def check_records(form):
+    """Each record of a form that was written has the new mark, and the check that Python's own library gives it."""
+    for piece in generate.split(form):
+        expect("the mark that is written", piece[:2], b"\xc5\x3b")
+        expect("the CRC", int.from_bytes(piece[-2:], "big"), binascii.crc_hqx(piece[2:-2], 0xFFFF))
+
+
+def in_mark(mark, form):
+    """The form of the same with another mark."""
+    return b"".join(generate.rechecked(mark + piece[2:]) for piece in generate.split(form))
+
+
+def check_old(name, block, form):
+    """The old form of what a block holds is read as the block, and written as the new form."""
+    old = in_mark(OLD, form)
+    read = written(name + "_read", [old, [5] * len(block)])
+    expect(name + " read in the old form", read, block)
+    expect(name + " written after that", written(name + "_write", [read, bytearray(len(old))], [0]), form)
 
 
 def check_accepted(rng, line, one):
-    """Bytes are accepted exactly if they are the form of the ranges in them, and these sound: in numbers, or in keys."""
+    """Bytes are accepted exactly if they are the form of the ranges in them, old or new, and these sound: in numbers, or in keys."""
     form_of, kind = (model.signed_form, model.SIGNED_RANGE) if line.own == "signed" else (model.set_form, model.RANGE)
-    form = bytearray(form_of([tuple(run) for run in line.runs(one)]))
+    mark = rng.choice([OLD, NEW])
+    form = bytearray(form_of([tuple(run) for run in line.runs(one)], mark))
     form[rng.randrange(len(form))] = rng.choice([0, 255, form[0], rng.randrange(256)])
-    form = rng.choice([form, form, form[:-1], form + b"\0", form + model.record(kind, (0, 0), 8)])
+    form = rng.choice([form, form, form[:-1], form + b"\0", form + model.record(kind, (0, 0), 8, mark)])
     count, rest = divmod(len(form) - 7, 21)
     ends = struct.Struct(">qq" if line.own == "signed" else ">QQ")
     items = [ends.unpack_from(form, 10 + 21 * i) for i in range(count)] if rest == 0 else []
-    accepted = rest == 0 and form_of(items) == form and model.sound_items(items)
+    accepted = rest == 0 and form in (form_of(items, OLD), form_of(items, NEW)) and model.sound_items(items)
     expect("acceptance", model.run(line.own + "_read", [form, [0] * 99], [])[0] == 0, accepted)
     if line.own == "set":
         expect("judging", model.run("set_judge_form", [form], [])[0] == 0, accepted)
@@ -391,25 +426,92 @@ def check_sets_worked():
 
 
 def check_others_worked():
-    """The worked numbers G to J and O, and published examples of Fletcher's checksum."""
+    """The worked numbers G and J."""
     three = written("map_assign", [[1, 0, 9, 1, 0, 0, 0, 0, 0, 0]], [3, 5, 2])
     expect("G", three, [3, 0, 2, 1, 3, 5, 2, 6, 9, 1])
     expect("G", written("map_assign", [three], [3, 5, 1]), [1, 0, 9, 1, 0, 0, 0, 0, 0, 0])
-    form = bytes.fromhex("C53A0100010402 C53A10 0000000000000005 0000000000000009 471E")
-    expect("H", written("set_write", [[1, 5, 9], bytearray(28)], [0]), form)
-    expect("H", written("set_read", [form, [7, 7, 7]]), [1, 5, 9])
-    expect("H, last byte 1F", model.run("set_judge_form", [form[:-1] + b"\x1f"], [])[:2], (27, (7, 0, 0, 0, 0)))
-    expect("I", written("set_write", [[0], bytearray(7)], [0]), bytes.fromhex("C53A0100000301"))
     _, _, after = model.run("bulletin_fold", [[1, 1, 4], [0], [1, 9, 9], [1, 3, 3], [0] * 7, [0] * 3], [])
     expect("J", after[4:], [[3, 1, 2, 4, 4, 9, 9], [1, 3, 3]])
-    for high in (0, M):
-        expect("O", model.record(model.RANGE, (0, high), 8)[-2:], b"\x11\x10")
+
+
+OLD_H = bytes.fromhex("C53A0100010402 C53A10 0000000000000005 0000000000000009 471E")
+NEW_H = bytes.fromhex("C53B010001EB8D C53B10 0000000000000005 0000000000000009 3F08")
+
+
+def check_bytes_worked():
+    """The worked numbers H, I and O of both marks, and published examples of both checks."""
+    for what, form, last in (("old H", OLD_H, b"\x1f"), ("new H", NEW_H, b"\x09")):
+        expect(what, written("set_read", [form, [7, 7, 7]]), [1, 5, 9])
+        expect(what + ", 7 in it", model.run("member", [form], [7])[0], 1)
+        expect(what + ", last byte", model.run("set_judge_form", [form[:-1] + last], [])[:2], (27, (7, 0, 0, 0, 0)))
+    expect("new H", written("set_write", [[1, 5, 9], bytearray(28)], [0]), NEW_H)
+    expect("old H read and written", written("set_write", [written("set_read", [OLD_H, [7, 7, 7]]), bytearray(28)], [0]), NEW_H)
+    for form in (OLD_H[:7] + NEW_H[7:], NEW_H[:7] + OLD_H[7:]):
+        expect("a mark that differs from the first", model.run("set_judge_form", [form], [])[:2], (25, (7, 0, 0, 0, 0)))
+    expect("I", written("set_write", [[0], bytearray(7)], [0]), bytes.fromhex("C53B010000FBAC"))
+    for form in (bytes.fromhex("C53A0100000301"), bytes.fromhex("C53B010000FBAC")):
+        expect("I", written("set_read", [form, [7]]), [0])
+    for mark, checks in ((OLD, "1110 1110"), (NEW, "D9ED 7F0C")):
+        pieces = [model.record(model.RANGE, (0, high), 8, mark) for high in (0, M)]
+        expect("O", b"".join(piece[-2:] for piece in pieces), bytes.fromhex(checks))
     for text, check in ((b"abcde", "C8F0"), (b"abcdef", "2057"), (b"abcdefgh", "0627")):
-        expect("Fletcher", model.check_bytes(text), bytes.fromhex(check))
+        expect("Fletcher", model.check_bytes(text, OLD), bytes.fromhex(check))
+    expect("CRC", model.check_bytes(b"123456789", NEW), bytes.fromhex("29B1"))
+    rng = random.Random(20260401)
+    for length in range(200):
+        text = rng.randbytes(length)
+        expect("CRC of any bytes", int.from_bytes(model.check_bytes(text, NEW), "big"), binascii.crc_hqx(text, 0xFFFF))
+
+
+SOME = {"set": [[(5, 9), (20, M)]], "signed": [[(0, 9), (2**63 - 2, 2**63 + 1)]], "map": [[(0, 9, 1), (10, 10, M)]]}
+SOME |= {"bulletin": [[(0, 0), (M, M)], [(5, 9)]]}
+
+
+def reading(kind):
+    """The calls that read forms of a kind, each with what else it is lent and its arguments."""
+    listed = [(kind + "_read", [[7] * 9] * (2 if kind == "bulletin" else 1), [])]
+    return listed + [("set_judge_form", [], []), ("member", [], [0])] if kind == "set" else listed
+
+
+def check_marks():
+    """Of a form of each kind and mark: with another mark at a record it is refused with 9 there, or, where that is the first and it has the
+    other mark rightly checked, at the second; and with the other mark at all records it is taken."""
+    rng = random.Random(20260402)
+    for kind, lists in SOME.items():
+        for name, outputs, args in reading(kind):
+            for mark in (OLD, NEW):
+                pieces = generate.split(refusals.form_of(kind, lists, mark))
+                for i in range(len(pieces)):
+                    for way in ("other", "neither"):
+                        form = b"".join(generate.marked(rng, pieces, i, way))
+                        due = len(b"".join(pieces[: max(i, way == "other")]))
+                        status, answer, _ = model.run(name, [form, *outputs], args)
+                        expect(f"{name}, {way} mark at record {i}", (status, (answer or [due])[0]), (25, due))
+                    for short in range(3):
+                        form = b"".join(pieces[:i]) + rng.randbytes(short)
+                        expect(f"{name}, {short} bytes of record {i}", model.run(name, [form, *outputs], args)[0], 24)
+                form = b"".join(generate.marked(rng, pieces, 0, "rest"))
+                expect(f"{name}, the other form", model.run(name, [form, *outputs], args)[0] < 16, True)
+
+
+def check_damage():
+    """Of new forms of each kind, the empty ones too: with any one byte changed they are refused, wherever it is. Of old ones that is so but
+    for 00 and FF, which count alike in a body."""
+    for kind, lists in list(SOME.items()) + [(kind, [[] for _ in lists]) for kind, lists in SOME.items()]:
+        name, outputs, args = reading(kind)[0]
+        for mark in (OLD, NEW):
+            form = refusals.form_of(kind, lists, mark)
+            for at, byte in enumerate(form):
+                for new in set(range(256)) - {byte}:
+                    changed = form[:at] + bytes([new]) + form[at + 1 :]
+                    if model.run(name, [changed, *outputs], args)[0] < 16:
+                        expect(f"{name} accepts {changed.hex()}", (mark, {byte, new}), (OLD, {0, 0xFF}))
+    zero, wide = (model.record(model.START_OF_SET, [1], 2, OLD) + model.record(model.RANGE, ends, 8, OLD) for ends in ((0, 0), (0, 255)))
+    expect("00 and FF in the old form", [i for i in range(28) if zero[i] != wide[i]], [25])
 
 
 def check_signed_worked():
-    """Worked numbers about signed sets: around 0, at both ends of the line, and a form that was computed by hand."""
+    """Worked numbers about signed sets: around 0, at both ends of the line, and a form in both marks: the old one was computed by hand."""
     low, zero, high = 0, 2**63, M  # the words of -2^63, 0 and 2^63 - 1
     expect("to -1", written("signed_insert", [[0, 0, 0]], [-5, -1]), [1, zero - 5, zero - 1])
     expect("and from 0", written("signed_insert", [[1, zero - 5, zero - 1]], [0, 3]), [1, zero - 5, zero + 3])
@@ -419,9 +521,11 @@ def check_signed_worked():
     expect("as keys", values("signed_window", [[1, low, high]], [0, -1]), 4)
     for a, b, apart in ((-1, 2**63 - 1, [2**63]), (0, -(2**63), []), (-2, 2**63 - 1, []), (-(2**63), -1, [2**63 + 1])):
         expect("difference", values("key_difference", [], [a, b]), apart)
-    form = bytes.fromhex("C53A0400010D05 C53A14 FFFFFFFFFFFFFFFB 0000000000000003 3413")
+    old = bytes.fromhex("C53A0400010D05 C53A14 FFFFFFFFFFFFFFFB 0000000000000003 3413")
+    form = bytes.fromhex("C53B040001007D C53B14 FFFFFFFFFFFFFFFB 0000000000000003 9049")
     expect("form", written("signed_write", [[1, zero - 5, zero + 3], bytearray(28)], [0]), form)
-    expect("form read", written("signed_read", [form, [7, 7, 7]]), [1, zero - 5, zero + 3])
+    for each in (old, form):
+        expect("form read", written("signed_read", [each, [7, 7, 7]]), [1, zero - 5, zero + 3])
     for name in ("set_read", "map_read", "signed_read"):
         start = {"set_read": form, "map_read": form, "signed_read": model.set_form([(5, 9)])}[name]
         expect("another kind", model.run(name, [start, [0] * 9], [])[:2], (26, (0, 0, 0, 0, 0)))
@@ -436,10 +540,13 @@ def main():
     check_most_prefixes()
     check_signed_worked()
     check_others_worked()
+    check_bytes_worked()
+    check_marks()
+    check_damage()
     rounds = int(sys.argv[1]) if len(sys.argv) > 1 else 3000
     check_against_brute_force(rounds, 20240229)
     check_prefixes(rounds)
-    print(f"selfcheck: the model agrees with brute force in {rounds} rounds and with the worked numbers")
+    print(f"selfcheck: the model agrees with brute force in {rounds} rounds, with the worked numbers and with Python's own CRC")
 
 
 if __name__ == "__main__":

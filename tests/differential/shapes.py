@@ -1,4 +1,4 @@
-"""Nasty numbers, lists and blocks for the cases."""
+"""Nasty numbers, lists, blocks and marks for the cases."""
 
 import model
 from model import HALF, LIMIT, M, MAP, MAX, MIN, SET
@@ -56,6 +56,11 @@ def key(rng):
 def in_keys(ranges):
     """Ranges of words as ranges of the keys that they stand for."""
     return [(low - HALF, high - HALF) for low, high in ranges]
+
+
+def some_mark(rng):
+    """The mark of a form that is read: the new one, or now and then the old one."""
+    return rng.choice([model.OLD, model.NEW, model.NEW])
 
 
 def moved(rng, ranges):

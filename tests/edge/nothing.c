@@ -10,8 +10,8 @@ static uint8_t *bytes_at;
 
 /* Blocks and buffers for the places that are not tried. */
 static uint64_t set[9] = {1, 5, 9}, other[9] = {1, 20, 29}, map[10] = {1, 5, 9, 7}, out[9], second[9];
-static uint8_t form[28] = {0xC5, 0x3A, 0x01, 0x00, 0x01, 0x04, 0x02, 0xC5, 0x3A, 0x10, 0, 0, 0, 0, 0, 0, 0, 5,
-                           0,    0,    0,    0,    0,    0,    0,    9,    0x47, 0x1E};
+static uint8_t form[28] = {0xC5, 0x3B, 0x01, 0x00, 0x01, 0xEB, 0x8D, 0xC5, 0x3B, 0x10, 0, 0, 0, 0, 0, 0, 0, 5,
+                           0,    0,    0,    0,    0,    0,    0,    9,    0x3F, 0x08};
 static uint8_t bytes[128], signed_form[28], map_form[36], bulletin_form[51];
 
 #define NO words_at, 0
