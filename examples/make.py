@@ -1,27 +1,35 @@
 #!/usr/bin/env python3
-"""Makes the byte forms of this folder, by plain means: records of a mark, a kind, a body and Fletcher's two sums.
-Run it here to make them again."""
+"""Makes the byte forms of this folder, by plain means: records of a mark, a kind, a body and a check. The check is the CRC that Python's own
+library has; in old.set, which has the old mark, it is Fletcher's two sums. Run it here to make them again."""
+import binascii
 import os
 
 HERE = os.path.dirname(os.path.abspath(__file__))
 LAST = 2**64 - 1
 
 
-def record(kind, body):
+def fletcher(data):
     a = b = 0
-    for byte in bytes([kind]) + body:
+    for byte in data:
         a = (a + byte) % 255
         b = (b + a) % 255
-    return b"\xc5\x3a" + bytes([kind]) + body + bytes([b, a])
+    return bytes([b, a])
+
+
+def record(kind, body, old=False):
+    data = bytes([kind]) + body
+    if old:
+        return b"\xc5\x3a" + data + fletcher(data)
+    return b"\xc5\x3b" + data + binascii.crc_hqx(data, 0xFFFF).to_bytes(2, "big")
 
 
 def words(*numbers):
     return b"".join(n.to_bytes(8, "big") for n in numbers)
 
 
-def set_form(ranges):
-    start = record(0x01, len(ranges).to_bytes(2, "big"))
-    return start + b"".join(record(0x10, words(low, high)) for low, high in ranges)
+def set_form(ranges, old=False):
+    start = record(0x01, len(ranges).to_bytes(2, "big"), old)
+    return start + b"".join(record(0x10, words(low, high), old) for low, high in ranges)
 
 
 def map_form(entries):
@@ -37,7 +45,8 @@ def bulletin_form(released, withdrawn):
 
 FILES = {
     "one_range.set": set_form([(5, 9)]),
-    "damaged.set": set_form([(5, 9)])[:-1] + b"\x1f",
+    "damaged.set": set_form([(5, 9)])[:-1] + b"\x09",
+    "old.set": set_form([(1000, 1999), (4000, 4000)], old=True),
     "empty.set": set_form([]),
     "everything.set": set_form([(0, LAST)]),
     "released.set": set_form([(1000, 1999), (4000, 4000), (70000, 79999), (LAST - 9, LAST)]),

@@ -20,7 +20,7 @@ Made by `tools/statements.py`; do not edit. What a reader has to believe, and no
 - `name : A → B → C` declares something that takes an A and a B and gives a C; the lines below it, `name x y = ..`, say what. Application is written without parentheses: `member es x` is `member` of `es` and `x`. A theorem is declared in the same way: it takes what is supposed and gives what follows, so `(x : ℕ) → x ≤ M → P x` reads 'for every number x, if x is at most M, then P of x'.
 - `×` is 'and', `⊎` is 'or', `P → ⊥` is 'not P', `≡` is 'equals'. `ℕ` are the whole numbers from 0 on, without end; `+`, `*` do not wrap; `m - n` is 0 where n is the larger; `/` rounds down, `m % n` is the remainder, `m ^ n` the power.
 - `[]` is the empty list, `x ∷ xs` is x and then the list xs, `xs ++ ys` the one after the other. `length`, `take n`, `drop n` are as usual; `getD w i 0` is element i of w, counted from 0, and 0 past its end; `replicate n x` is x, n times.
-- `none` and `some v` are nothing and the value v. `true`, `false`, `not`, `andb`, `orb` are truth values and what is computed with them; `leb m n`, `ltb m n`, `eqb m n` are the tests ≤, <, =, as truth values; `pick t a b` is a if t is true, and else b.
+- `none` and `some v` are nothing and the value v. `true`, `false`, `not`, `andb`, `orb` are truth values and what is computed with them; `leb m n`, `ltb m n`, `eqb m n` are the tests ≤, <, =, as truth values; `pick t a b` is a if t is true, and else b. `bitXor m n` is their exclusive or: the number whose binary digits are 1 where those of m and n differ.
 - `ℤ` are the whole numbers below 0 too: `pos n` is n and `negsuc n` is -(n + 1); `+ℤ`, `-ℤ` do not wrap; `leZ k l`, `ltZ k l` are the tests ≤ and <, as truth values; `mag k` is n for n and for -(n + 1); `cond t a b` is `pick t a b`.
 - `record R .. where` lists what an R has; `r .field` is that part of r. Of a record that is a statement, each field is one thing that it says.
 - `λ x. e` is the function that gives e for x. `Unit` has the one value `tt`: as a statement it says nothing, and a function of it is something that is computed only where it is asked for.
@@ -35,7 +35,7 @@ PARTS = [
     ("The calls", "what each call answers and leaves", [(c, "specs") for c in
         ("sets", "fits", "prefixes", "maps", "bulletins", "forms", "told", "host", "edits", "searches", "operations")]),
     ("Blocks of words", "what words say", [("blocks", "specs")]),
-    ("Bytes", "forms, runs, records, numbers, the check", [(c, "specs") for c in ("verdicts", "runs", "records", "numbers")]),
+    ("Bytes", "forms, runs, records, the two checks, numbers", [(c, "specs") for c in ("verdicts", "runs", "records", "checks", "numbers")]),
     ("Lists of entries", "what a list names", [("entries", "specs")]),
     ("Signed keys", "the words that stand for them", [("keys", "specs")]),
     ("Prefix blocks", "those of a set, by both methods", [("tilings", "specs")]),

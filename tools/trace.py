@@ -17,7 +17,7 @@ PAGE = os.path.join(antt.ROOT, "docs", "TRACE.md")
 COLUMNS = ["definitions", "theorems", "edits", "tests", "code"]
 # What a requirement needs, by the letter of its number.
 NEEDS = {
-    **{letter: ["definitions", "theorems", "edits", "tests"] for letter in "BRSFMUYKPH"},
+    **{letter: ["definitions", "theorems", "edits", "tests"] for letter in "BRSFMUYKPCH"},
     "L": ["theorems", "edits", "tests", "code"],
     "D": ["theorems"],
     "E": ["edits"],
@@ -25,8 +25,9 @@ NEEDS = {
     "G": ["code"],
 }
 # What one that differs from its kind needs: the program is run; the calls that serve signed sets too have the definitions of plain sets; that
-# two methods agree is no definition.
+# two methods agree, that damage is noticed, that an old form gives the new one and is read as ever are no definitions.
 OWN_NEEDS = {"H3": ["tests", "code"], "K4": ["theorems", "edits", "tests"], "P6": ["theorems", "tests"]}
+OWN_NEEDS |= {number: ["theorems", "tests"] for number in ("C4", "C5", "C6")}
 # Programs and tables of tests, where a line says in a comment which requirement it is about.
 TESTS = [
     "crates/demands/proofs/Table.antt",
@@ -36,6 +37,7 @@ TESTS = [
     "tests/c/member.c",
     "tests/differential/damage.py",
     "tests/differential/generate.py",
+    "tests/edge/run",
 ]
 
 
