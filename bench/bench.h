@@ -23,8 +23,8 @@ typedef struct job {
     block released1, withdrawn1, released2, withdrawn2;
     /* two maps */
     block upper, lower;
-    /* the byte form of the first set; behind it stands one byte more */
-    uint8_t *form;
+    /* the byte form of the first set, and its old form, which is as long; behind each stands one byte more */
+    uint8_t *form, *old_form;
     size_t form_length;
     /* a number to ask for, a range to insert into a gap and one to remove, both in the middle of the first set */
     uint64_t x, insert[2], removal[2];

@@ -128,7 +128,7 @@ static void damage_other(job *t, unsigned how) {
     case 12: t->insert[0] = 0, t->removal[0] = 0; break;
     case 13: t->insert[1] = UINT64_MAX, t->removal[1] = UINT64_MAX; break;
     case 14: t->insert[1] = t->removal[0] - 1; break;
-    case 15: t->one.words[0] = 0, t->form[4] = 0; break;
+    case 15: t->one.words[0] = 0, t->form[4] = 0, t->old_form[4] = 0; break;
     case 16: t->removal[0]++, t->removal[1]--; break;
     case 17: fit_pairs(t, 0); break;
     case 18: fit_pairs(t, -1); break;
@@ -140,7 +140,8 @@ static void damage_other(job *t, unsigned how) {
 
 enum { BLOCKS = 9, BLOCK_DAMAGES = 6, OTHER_DAMAGES = 22, BYTES = 7 + 21 + 21 };
 
-/* Damage number k of a job: to each block in each way, then to the rest, then to each byte of the first records. */
+/* Damage number k of a job: to each block in each way, then to the rest, then to each byte of the first records of both forms; the lowest bit
+   of a mark's second byte makes the other mark of it. */
 static void damage(job *t, unsigned k) {
     block *blocks[] = {&t->one,       &t->two,        &t->version, &t->released1, &t->withdrawn1,
                        &t->released2, &t->withdrawn2, &t->upper,   &t->lower};
@@ -149,7 +150,9 @@ static void damage(job *t, unsigned k) {
     } else if (k < BLOCKS * BLOCK_DAMAGES + OTHER_DAMAGES) {
         damage_other(t, k - BLOCKS * BLOCK_DAMAGES);
     } else {
-        t->form[k - BLOCKS * BLOCK_DAMAGES - OTHER_DAMAGES] ^= 1;
+        unsigned at = k - BLOCKS * BLOCK_DAMAGES - OTHER_DAMAGES;
+        t->form[at] ^= 1;
+        t->old_form[at] ^= 1;
     }
 }
 

@@ -91,7 +91,7 @@ static job empty_job(size_t n) {
     size_t overlay = 1 + 3 * (2 * entries + entries / 22 + 1), form = 7 + 21 * n;
     size_t pairs = WIMBLORQUE_PREFIX_WORDS_OF(n);
     job t = {.ranges = n, .form_length = form, .bytes_length = form + 8, .pairs_size = pairs * 8};
-    t.inputs_size = (8 * set + 2 * map) * 8 + form + 1;
+    t.inputs_size = (8 * set + 2 * map) * 8 + 2 * (form + 1);
     t.results_size = ((2 * set + overlay) * 8 + t.bytes_length + 7) / 8 * 8;
     t.inputs = calloc(t.inputs_size, 1);
     t.results = calloc(t.results_size + t.pairs_size, 1);
@@ -107,6 +107,7 @@ static job empty_job(size_t n) {
     t.upper = cut(&p, map);
     t.lower = cut(&p, map);
     t.form = p;
+    t.old_form = p + form + 1;
     t.out = cut(&q, set);
     t.out2 = cut(&q, set);
     t.merged = cut(&q, overlay);
@@ -114,6 +115,29 @@ static job empty_job(size_t n) {
     q = t.results + t.results_size;
     t.pairs = cut(&q, pairs);
     return t;
+}
+
+/* Ends a record of the old form with a body of n bytes: its mark, its kind and Fletcher's check. No contender writes it any more. */
+static void end_old_record(uint8_t *p, uint8_t kind, size_t n) {
+    unsigned a = 0, b = 0;
+    p[0] = 0xC5;
+    p[1] = 0x3A;
+    p[2] = kind;
+    for (size_t i = 2; i < n + 3; i++) {
+        a = (a + p[i]) % 255;
+        b = (b + a) % 255;
+    }
+    p[n + 3] = (uint8_t)b;
+    p[n + 4] = (uint8_t)a;
+}
+
+/* The old form of the set whose new form stands there: the same records with the other mark and check. */
+static void write_old_form(job *t) {
+    memcpy(t->old_form, t->form, t->form_length);
+    end_old_record(t->old_form, 0x01, 2);
+    for (size_t p = 7; p < t->form_length; p += 21) {
+        end_old_record(t->old_form + p, 0x10, 16);
+    }
 }
 
 /* Draws the sets, bulletins, maps and arguments of a job. */
@@ -131,6 +155,7 @@ static void draw_inputs(job *t, int shape, double where) {
     fill(t->lower, 3, entries_for(n), shape, base, 2);
     choose_arguments(t, where);
     plain_library.set_write(t->one.words, t->one.length, t->form, t->form_length, 0);
+    write_old_form(t);
 }
 
 /* Whether every measured call is accepted. */

@@ -66,6 +66,15 @@ static wimblorque_answer reading(const library *lib, job *t) {
     return lib->set_read(t->form, t->form_length, OF(t->out));
 }
 
+/* The same of the old form. */
+static wimblorque_answer judge_of_old_bytes(const library *lib, job *t) {
+    return lib->set_judge_form(t->old_form, t->form_length);
+}
+
+static wimblorque_answer reading_old(const library *lib, job *t) {
+    return lib->set_read(t->old_form, t->form_length, OF(t->out));
+}
+
 static wimblorque_answer writing(const library *lib, job *t) {
     return lib->set_write(OF(t->one), t->bytes, t->bytes_length, 0);
 }
@@ -94,6 +103,8 @@ const measure measures[] = {
     {"judge of bytes", judge_of_bytes, NULL, false, false, false},
     {"member of bytes", member_of_bytes, NULL, false, false, false},
     {"read", reading, NULL, false, true, false},
+    {"judge of old bytes", judge_of_old_bytes, NULL, false, false, false},
+    {"read of old bytes", reading_old, NULL, false, true, false},
     {"write", writing, NULL, false, true, false},
     {"prefix blocks", prefix_blocks, NULL, false, true, true},
     {"audit of blocks", audit_blocks, NULL, false, true, true},

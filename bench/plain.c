@@ -604,24 +604,32 @@ static wimblorque_answer map_overlay(const uint64_t *upper, size_t upper_words, 
     return told(0, 0);
 }
 
-/* ---- the byte form of a set ---- */
+/* ---- the byte form of a set: read with the old mark, C5 3A, and with the new one, C5 3B, and written with the new one ---- */
 
-static uint64_t get8(const uint8_t *p) {
-    uint64_t v = 0;
-    for (int i = 0; i < 8; i++) {
-        v = v << 8 | p[i];
-    }
-    return v;
+/* The bytes of a word in the other order: the machines that are measured are little-endian, the byte form is not. */
+static inline uint64_t turned(uint64_t v) {
+    v = (v >> 8 & 0x00FF00FF00FF00FF) | (v & 0x00FF00FF00FF00FF) << 8;
+    v = (v >> 16 & 0x0000FFFF0000FFFF) | (v & 0x0000FFFF0000FFFF) << 16;
+    return v >> 32 | v << 32;
 }
 
-static void put8(uint8_t *p, uint64_t v) {
-    for (int i = 0; i < 8; i++) {
-        p[i] = (uint8_t)(v >> (56 - 8 * i));
-    }
+static inline uint64_t get8(const uint8_t *p) {
+    uint64_t v;
+    memcpy(&v, p, sizeof v);
+    return turned(v);
+}
+
+static inline void put8(uint8_t *p, uint64_t v) {
+    v = turned(v);
+    memcpy(p, &v, sizeof v);
+}
+
+static unsigned get2(const uint8_t *p) {
+    return (unsigned)(p[0] << 8 | p[1]);
 }
 
 /* Fletcher's check of n bytes, at most 33: the sums stay small, and the remainders are taken once. */
-static inline unsigned check_of(const uint8_t *p, size_t n) {
+static inline unsigned fletcher_of(const uint8_t *p, size_t n) {
     unsigned a = 0, b = 0;
     for (size_t i = 0; i < n; i++) {
         a += p[i];
@@ -630,46 +638,85 @@ static inline unsigned check_of(const uint8_t *p, size_t n) {
     return b % 255 << 8 | a % 255;
 }
 
-/* The verdict on a record of a kind with a body of n bytes, as far as its check. */
-static inline uint64_t judge_record(const uint8_t *p, size_t left, uint8_t kind, size_t n) {
+/* The CRC's register with one byte behind, in eight steps at once. */
+static inline unsigned crc_byte(unsigned s, unsigned x) {
+    unsigned y = (s >> 8 ^ x) & 0xFF, t = y ^ y >> 4;
+    return (s << 8 ^ t << 12 ^ t << 5 ^ t) & 0xFFFF;
+}
+
+/* The check of the start of a set. */
+static inline unsigned crc_start(unsigned n) {
+    return crc_byte(crc_byte(crc_byte(0xFFFF, 0x01), n >> 8), n & 0xFF);
+}
+
+/* How often the fourth power of the polynomial, x^64 + x^48 + x^20 + 1, goes into a word with 64 zeros behind. */
+static inline uint64_t carried(uint64_t u) {
+    uint64_t v = u ^ u >> 32;
+    return v ^ v >> 16 ^ v >> 44;
+}
+
+/* The check of a range, from its words and with no table: the low with the register over the kind on top is folded into the high by that
+   power, and what is left is divided by the polynomial. A table of eight or sixteen times 256 was tried, and takes longer. */
+static inline unsigned crc_range(uint64_t low, uint64_t high) {
+    uint64_t q = carried(low ^ (uint64_t)crc_byte(0xFFFF, 0x10) << 48);
+    q = carried(high ^ q ^ q << 20 ^ q << 48);
+    uint64_t r = q ^ q >> 8 ^ q >> 22 ^ q >> 32;
+    unsigned c = (unsigned)(r ^ r >> 4 ^ r >> 11 ^ r >> 16) & 0xFFFF;
+    return (c ^ c << 5 ^ c << 12) & 0xFFFF;
+}
+
+enum { OLD = 0x3A, NEW = 0x3B }; /* the second byte of the mark */
+
+/* The verdict on a record of a kind with a body of n bytes, up to its check. */
+static inline uint64_t judge_head(const uint8_t *p, size_t left, uint8_t mark, uint8_t kind, size_t n) {
     if (left < 3) {
         return WIMBLORQUE_SHORT;
     }
-    if (p[0] != 0xC5 || p[1] != 0x3A) {
+    if (p[0] != 0xC5 || p[1] != mark) {
         return WIMBLORQUE_MARK;
     }
     if (p[2] != kind) {
         return WIMBLORQUE_KIND;
     }
-    if (left < n + 5) {
-        return WIMBLORQUE_SHORT;
-    }
-    return check_of(p + 2, n + 1) == (unsigned)(p[n + 3] << 8 | p[n + 4]) ? 0 : WIMBLORQUE_CHECK;
+    return left < n + 5 ? WIMBLORQUE_SHORT : 0;
 }
 
-/* The verdict on the bytes as the form of a set. */
-static wimblorque_answer judge_form(const uint8_t *bytes, size_t length) {
-    uint64_t refusal = judge_record(bytes, length, 0x01, 2);
-    if (refusal) {
-        return told(refusal, 0);
-    }
-    size_t n = (size_t)bytes[3] << 8 | bytes[4], p = 7;
-    if (n > SET_LIMIT) {
-        return told(WIMBLORQUE_CONTENT, 0);
-    }
+/* The verdict on the n ranges behind the start, all with one mark, which is known where this stands. */
+static inline wimblorque_answer judge_ranges(const uint8_t *bytes, size_t length, size_t n, uint8_t mark) {
+    size_t p = 7;
     uint64_t before = 0;
     for (size_t i = 0; i < n; i++, p += RECORD) {
-        refusal = judge_record(bytes + p, length - p, 0x10, 16);
+        uint64_t refusal = judge_head(bytes + p, length - p, mark, 0x10, 16);
         if (refusal) {
             return told(refusal, p);
         }
         uint64_t low = get8(bytes + p + 3), high = get8(bytes + p + 11);
+        if ((mark == OLD ? fletcher_of(bytes + p + 2, 17) : crc_range(low, high)) != get2(bytes + p + 19)) {
+            return told(WIMBLORQUE_CHECK, p);
+        }
         if (low > high || (i > 0 && (low <= before || low - before == 1))) {
             return told(WIMBLORQUE_CONTENT, p);
         }
         before = high;
     }
     return told(p < length ? WIMBLORQUE_TRAILING : 0, p < length ? p : 0);
+}
+
+/* The verdict on the bytes as the form of a set: the first mark decides how they are judged. */
+static wimblorque_answer judge_form(const uint8_t *bytes, size_t length) {
+    bool old = length > 1 && bytes[1] == OLD;
+    uint64_t refusal = judge_head(bytes, length, old ? OLD : NEW, 0x01, 2);
+    if (refusal) {
+        return told(refusal, 0);
+    }
+    unsigned n = get2(bytes + 3);
+    if ((old ? fletcher_of(bytes + 2, 3) : crc_start(n)) != get2(bytes + 5)) {
+        return told(WIMBLORQUE_CHECK, 0);
+    }
+    if (n > SET_LIMIT) {
+        return told(WIMBLORQUE_CONTENT, 0);
+    }
+    return old ? judge_ranges(bytes, length, n, OLD) : judge_ranges(bytes, length, n, NEW);
 }
 
 static wimblorque_answer set_judge_form(const uint8_t *bytes, size_t length) {
@@ -719,12 +766,11 @@ static wimblorque_answer set_read(const uint8_t *bytes, size_t length, uint64_t 
     return told(0, 0);
 }
 
-/* Writes the mark, the kind and, behind a body of n bytes that stands there already, the check. */
-static inline void close_record(uint8_t *p, uint8_t kind, size_t n) {
+/* Writes the mark and the kind, and behind a body of n bytes the check. */
+static inline void frame(uint8_t *p, uint8_t kind, size_t n, unsigned check) {
     p[0] = 0xC5;
-    p[1] = 0x3A;
+    p[1] = NEW;
     p[2] = kind;
-    unsigned check = check_of(p + 2, n + 1);
     p[n + 3] = (uint8_t)(check >> 8);
     p[n + 4] = (uint8_t)check;
 }
@@ -741,12 +787,13 @@ static wimblorque_answer set_write(const uint64_t *w, size_t words, uint8_t *byt
     bytes += p;
     bytes[3] = (uint8_t)(n >> 8);
     bytes[4] = (uint8_t)n;
-    close_record(bytes, 0x01, 2);
+    frame(bytes, 0x01, 2, crc_start((unsigned)n));
     for (size_t i = 0; i < n; i++) {
         uint8_t *record = bytes + 7 + RECORD * i;
-        put8(record + 3, w[2 * i + 1]);
-        put8(record + 11, w[2 * i + 2]);
-        close_record(record, 0x10, 16);
+        uint64_t low = w[2 * i + 1], high = w[2 * i + 2];
+        put8(record + 3, low);
+        put8(record + 11, high);
+        frame(record, 0x10, 16, crc_range(low, high));
     }
     return value(size);
 }
