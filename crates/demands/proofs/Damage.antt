@@ -27,14 +27,14 @@ use Rattle.runs.specs.Runs.{runRefusals, runsRefusals, total}
 use Rattle.runs.proofs.Running.{bytes-drop}
 use Rattle.verdicts.specs.declared.Form.{Form}
 use Rattle.verdicts.specs.Steps.{FormKind}
-use Rattle.verdicts.specs.Forms.{markOf, kindsOf, startSize, sizeOf, formCounts, formEntries, formRefusals}
+use Rattle.verdicts.specs.Forms.{ofSet, markOf, kindsOf, startSize, sizeOf, formCounts, formEntries, formRefusals}
 use Rattle.verdicts.proofs.Whole.{kinds, many-kinds, many-counts, counted}
 use Rattle.forms.specs.Calls.{storedIn, readCall}
 use Rattle.forms.proofs.Forms.{accepted-size, formed-accepted}
-use Rattle.demands.specs.Bytes.{OfFour, of-set, of-map, of-bulletin, of-signed}
-use Rattle.demands.specs.Damage.{OneByte, LaterMark}
+use Rattle.demands.specs.Bytes.{OfFour, of-set, of-map, of-bulletin, of-signed, IsForm}
+use Rattle.demands.specs.Damage.{OneByte, OneByteAsked, LaterMark}
 use Rattle.demands.proofs.Forms.{kind-of}
-use Rattle.demands.proofs.Reading.{no-form}
+use Rattle.demands.proofs.Reading.{no-form, host-refuses}
 
 -- BYTES AS FAR AS A PLACE: c is as long as b, and the same before place m
 record Kept (m : ℕ) (b c : List ℕ) : Type 0 where
@@ -362,12 +362,19 @@ module _ (f : Form) (t : OfFour f) (b : List ℕ) (i v : ℕ) (y : Bytes b) (new
       (omega (arith, accepted-size f k b y c, ap (sizeOf f) (counted f k b))) (items-clear f k b c)
       (rw (same-mark, q, drop-set m b i v l) at (items-clear f k b′ x)))
 
-pub one-byte : OneByte
-one-byte f t b y g m i v h small other outs =
+-- so what is left is no form, where the byte is another
+changed-no-form : (f : Form) → OfFour f → (b : List ℕ) → Bytes b → IsForm f b → markOf b ≡ newMark → (i v : ℕ) → i < length b → v < 256
+    → (v ≡ getD b i 0 → ⊥) → IsForm f (set b i v) → ⊥
+changed-no-form f t b y g m i v h small other o =
     let k = kind-of t in
-    let c = formed-accepted f k b (g .runs) (g .form) .0 in
-    no-form f t (set b i v) (bytes-set b i v y small)
-    (λ o. other (form-changed f t b i v y m c (formed-accepted f k (set b i v) (o .runs) (o .form) .0) h small)) outs
+    other (form-changed f t b i v y m (formed-accepted f k b (g .runs) (g .form) .0) (formed-accepted f k (set b i v) (o .runs) (o .form) .0) h small)
+
+pub one-byte : OneByte
+one-byte f t b y g m i v h small other outs = no-form f t (set b i v) (bytes-set b i v y small) (changed-no-form f t b y g m i v h small other) outs
+
+pub one-byte-asked : OneByteAsked
+one-byte-asked b y g m i v h small other x =
+    host-refuses (set b i v) x (bytes-set b i v y small) (changed-no-form ofSet of-set b y g m i v h small other)
 
 pub later-mark : LaterMark
 later-mark f t b z g j x y h n outs =

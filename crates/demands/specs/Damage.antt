@@ -8,8 +8,8 @@ use Rattle.numbers.specs.Numbers.{Bytes}
 use Rattle.checks.specs.Check.{newMark}
 use Rattle.verdicts.specs.declared.Form.{Form}
 use Rattle.runs.specs.Runs.{total}
-use Rattle.verdicts.specs.Forms.{markOf, startSize, formCounts}
-use Rattle.forms.specs.Calls.{readCall}
+use Rattle.verdicts.specs.Forms.{ofSet, markOf, startSize, formCounts}
+use Rattle.forms.specs.Calls.{readCall, memberOfFormCall}
 use Rattle.demands.specs.Bytes.{OfFour, IsForm, lastOfBytes}
 
 -- the bytes are refused, with one of the numbers of bytes, whatever the outputs are
@@ -25,6 +25,11 @@ pub record BytesRefused (f : Form) (b : List ℕ) (outs : List (List ℕ)) : Typ
 abbrev pub OneByte : Type 0
 OneByte = (f : Form) → OfFour f → (b : List ℕ) → Bytes b → IsForm f b → markOf b ≡ newMark → (i v : ℕ) → i < length b → v < 256
     → (v ≡ getD b i 0 → ⊥) → (outs : List (List ℕ)) → BytesRefused f (set b i v) outs
+
+-- [C4, H1] and the C host's question on a set so changed is answered by 16 plus a number from 8 to 13: never by 1 or 0
+abbrev pub OneByteAsked : Type 0
+OneByteAsked = (b : List ℕ) → Bytes b → IsForm ofSet b → markOf b ≡ newMark → (i v : ℕ) → i < length b → v < 256 → (v ≡ getD b i 0 → ⊥) → (x : ℕ)
+    → (16 + 8 ≤ memberOfFormCall (set b i v) x) × (memberOfFormCall (set b i v) x ≤ 16 + 13)
 
 -- [C3] a form, of either mark, in which the mark of the item j behind the start is another is refused with 9 at that item
 abbrev pub LaterMark : Type 0
