@@ -16,13 +16,6 @@ pub const NEW_MARK: u16 = 0xC53B;
 // The register before the first byte.
 const START: u64 = 0xFFFF;
 
-// A byte as a word.
-fn wide(x: u8) -> u64
-    ensures { λ r. ⌜ (r ≡ x) × (r < 256) ⌝ }
-{
-    x as u64
-}
-
 // The two sums of Fletcher's check, over the bytes so far, each up to multiples of 255.
 pub struct Sums {
     pub a: u64,
@@ -33,7 +26,7 @@ pub struct Sums {
 pub fn sums_from(kind: u8) -> Sums
     ensures { λ r. ⌜ Begun kind r ⌝ }
 {
-    let x = wide(kind);
+    let x = numbers::wide(kind);
     Sums { a: x, b: x }
 }
 
@@ -85,7 +78,7 @@ fn fletcher_of(bytes: &[u8]) -> u64
     let mut b: u64 = 0;
     let mut i: usize = 0;
     while i < bytes.len() {
-        a += wide(bytes[i]);
+        a += numbers::wide(bytes[i]);
         b += a;
         i += 1;
     }
@@ -106,7 +99,7 @@ fn crc_byte(s: u64, x: u64) -> u64
 pub fn crc_from(kind: u8) -> u64
     ensures { λ r. ⌜ (r ≡ crcByte crcStart kind) × (r < past2) ⌝ }
 {
-    crc_byte(START, wide(kind))
+    crc_byte(START, numbers::wide(kind))
 }
 
 // The register with the 2 bytes of v behind.
@@ -173,7 +166,7 @@ fn crc_of(bytes: &[u8]) -> u64
     let mut s = START;
     let mut i: usize = 0;
     while i < bytes.len() {
-        s = crc_byte(s, wide(bytes[i]));
+        s = crc_byte(s, numbers::wide(bytes[i]));
         i += 1;
     }
     s
