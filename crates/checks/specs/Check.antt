@@ -27,10 +27,12 @@ crcBit s = pick (leb 32768 s) (bitXor (s * 2 - 65536) 0x1021) (s * 2)
 unfoldable pub crcByte : ℕ → ℕ → ℕ
 crcByte s x = crcBit (crcBit (crcBit (crcBit (crcBit (crcBit (crcBit (crcBit (bitXor s (x * 256)))))))))
 
+-- [C1] the bytes in turn, from a register on
 unfoldable pub crcFrom : ℕ → List ℕ → ℕ
 crcFrom s [] = s
 crcFrom s (x ∷ xs) = crcFrom (crcByte s x) xs
 
+-- [C1] «start FFFF»; «no final change»: the register after the last byte is the check, and is written «high byte first», as every number is (Y1)
 abbrev pub crcStart : ℕ
 crcStart = 0xFFFF
 
