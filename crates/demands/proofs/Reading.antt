@@ -3,7 +3,7 @@ use mathlib.Core.Path.{_≡_, refl, sym, _∙_, ap, ap₂, subst}
 use mathlib.Core.Bool.{Bool}
 use mathlib.Core.Logic.{_⊎_, inl, inr}
 use mathlib.Core.Option.{Option, none, some}
-use mathlib.Core.List.{List, [], _∷_, _++_, append-assoc}
+use mathlib.Core.List.{List, [], _∷_, _++_, append-assoc, append-nil}
 use Prim.Native.Nat.{ℕ, zero, suc, _+_, _*_, _≤_, _<_}
 use native.Mathlib.Omega.{arith}
 use lib.Dec.{ltb, eqb}
@@ -14,25 +14,28 @@ use Rattle.entries.specs.Entries.{Entry}
 use Rattle.answers.specs.Answers.{Outcome, outcome, given, refused, refuse, applies, inTurn, Keeps, Clear}
 use Rattle.answers.specs.declared.Finding.{Finding}
 use Rattle.answers.specs.Steps.{Named}
-use Rattle.answers.proofs.Turns.{refused-named, turn-accepted, clear-split, clear-both}
+use Rattle.answers.proofs.Turns.{refused-named, turn-accepted, clear-turn, clear-split, clear-both}
 use Rattle.numbers.specs.Numbers.{Bytes, num2, be8}
 use Rattle.checks.specs.Check.{oldMark, newMark, checkOf}
 use Rattle.records.proofs.Heads.{record-inv}
 use Rattle.records.specs.Records.{bodyLength, startVerdict, recordOf, saying, bodyVerdict, recordVerdict, inOrder, entryIn, allWithin}
 use Rattle.runs.specs.Runs.{lengths, runsIn, runRefusals, runsRefusals}
 use Rattle.runs.proofs.Several.{many-lengths}
+use Rattle.blocks.specs.Blocks.{blockOf}
 use Rattle.verdicts.specs.declared.Form.{Form}
 use Rattle.verdicts.specs.Forms.{markOf, ofSet, kindsOf, startSize, formCounts, formEntries, sizeOf, sharing, trailing, overlap, formRefusals}
 use Rattle.verdicts.specs.Forms.{noBlocks, noRooms, outRefusals}
-use Rattle.forms.specs.Calls.{storedIn, readCall}
+use Rattle.verdicts.proofs.Whole.{counted}
+use Rattle.forms.specs.Calls.{storedIn, readCall, readSetCall, judgeCall, judgeSetCall}
 use Rattle.forms.proofs.Forms.{accepted-formed, formed-accepted}
 use Rattle.demands.specs.Bytes.{OfFour, of-set, of-map, of-bulletin, of-signed, lastOfBytes, IsForm, ReadRefusals, HostRefuses, NoRoomFor, ReadRoom}
-use Rattle.demands.specs.Bytes.{OtherMark, MixedMarks, OtherStart, OtherItem, KeyRecord}
+use Rattle.demands.specs.Bytes.{JudgeAsRead, OtherMark, MixedMarks, OtherStart, OtherItem, KeyRecord}
 use Rattle.demands.specs.Damage.{BytesRefused}
-use Rattle.demands.specs.Plain.{Iff, Lacks}
+use Rattle.demands.specs.Plain.{Iff, Lacks, leaves}
 use Rattle.demands.proofs.Findings.{Where, Numbered, chosen, not-any, applied, numbered-both, numbered-so, named-number, named-applies, named-split}
+use Rattle.demands.proofs.Findings.{named-refused}
 use Rattle.demands.proofs.Rooms.{Not5, words-numbers, rooms-numbers, clear-words, words-clear, refused-room}
-use Rattle.demands.proofs.Forms.{kind-of, host-question, bytes-keep}
+use Rattle.demands.proofs.Forms.{kind-of, read-exactly, host-question, bytes-keep}
 
 -- the numbers that bytes are refused with, the highest being `last`
 abbrev From8 : ℕ → ℕ → Type 0
@@ -148,6 +151,30 @@ host-refuses b x y not =
     let r = no-form ofSet of-set b y not [] in
     let k = host-question b x y .1 (r .number) (r .place) (r .refused) in
     (omega (arith, k, r .from8), omega (arith, k, r .to-last))
+
+-- JUDGING ALONE, which has no outputs
+pub judge-as-read : JudgeAsRead
+unfolding readCall judgeCall blockOf
+judge-as-read b y = (given-by, refused-by)
+  where
+    word-0 : (out w : List ℕ) (runs : List (List Entry)) → length runs ≡ 1 → w ∷ [] ≡ storedIn (out ∷ []) runs → lengths runs ≡ getD w 0 0 ∷ []
+    word-0 out w [] n e = absurd (omega arith)
+    word-0 out w (es ∷ []) n e =
+        let k : w ≡ blockOf (length out) es = cc in ap (λ (m : ℕ). m ∷ []) (sym (ap (λ (x : List ℕ). getD x 0 0) k))
+    word-0 out w (es ∷ fs ∷ runs) n e = absurd (omega arith)
+
+    given-by : (out w : List ℕ) → readSetCall b out ≡ leaves w → judgeSetCall b ≡ outcome (given (getD w 0 0 ∷ [])) []
+    given-by out w e =
+        let r = read-exactly ofSet of-set b y (out ∷ []) (w ∷ []) .to e in
+        let a = formed-accepted ofSet (kind-of of-set) b (r .runs) (r .form) in
+        clear-turn (formRefusals ofSet b) [] (outcome (given (formCounts ofSet b)) []) (a .0)
+        ∙ ap (λ (ns : List ℕ). outcome (given ns) [])
+        (sym (counted ofSet (kind-of of-set) b) ∙ ap lengths (a .1) ∙ word-0 out w (r .runs) (r .form .many) (r .left))
+
+    refused-by : (n p : ℕ) → readCall ofSet b [] ≡ refuse n p [] → judgeSetCall b ≡ refuse n p []
+    refused-by n p e =
+        let fs = formRefusals ofSet b in
+        named-refused fs [] _ (subst (λ (gs : List Finding). Named gs n p) (append-nil fs) (refused-named (fs ++ []) [] [] [] n p [] e))
 
 -- the counts of what the bytes say are as many as the runs
 as-many : (f : Form) → OfFour f → (b : List ℕ) → length (lengths (formEntries f b)) ≡ f .runs

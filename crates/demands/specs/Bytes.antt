@@ -20,7 +20,7 @@ use Rattle.records.specs.Records.{recordOf, itemRecord, startVerdict}
 use Rattle.runs.specs.Runs.{lengths, Fine}
 use Rattle.verdicts.specs.declared.Form.{Form}
 use Rattle.verdicts.specs.Forms.{ofSet, ofMap, ofBulletin, ofSigned, markOf, formOf, formCounts, sharing, startSize, outRefusals, Formed}
-use Rattle.forms.specs.Calls.{storedIn, heldIn, readCall, readSetCall, readMapCall, readBulletinCall, readSignedCall, memberOfFormCall}
+use Rattle.forms.specs.Calls.{storedIn, heldIn, readCall, readSetCall, readMapCall, readBulletinCall, readSignedCall, judgeSetCall, memberOfFormCall}
 use Rattle.forms.specs.Calls.{writeCall, writeSetCall, writeMapCall, writeBulletinCall, writeSignedCall}
 use Rattle.demands.specs.Plain.{Iff, SoundSet, SoundMap, In, ValueOf, leaves, Lacks}
 use Rattle.demands.specs.Signed.{InKeys}
@@ -206,3 +206,10 @@ HostQuestion = (b : List ℕ) (x : ℕ) → Bytes b
 -- [H1] and bytes that are no form of a set are answered by 16 plus a number from 8 to 13: never by 1 or 0
 abbrev pub HostRefuses : Type 0
 HostRefuses = (b : List ℕ) (x : ℕ) → Bytes b → (IsForm ofSet b → ⊥) → (16 + 8 ≤ memberOfFormCall b x) × (memberOfFormCall b x ≤ 16 + 13)
+
+-- [H1, C3] JUDGING A FORM ALONE: where reading the same bytes is accepted, the count that it leaves in word 0; where reading refuses the bytes,
+-- that refusal, at its place
+abbrev pub JudgeAsRead : Type 0
+JudgeAsRead = (b : List ℕ) → Bytes b
+    → ((out w : List ℕ) → readSetCall b out ≡ leaves w → judgeSetCall b ≡ outcome (given (getD w 0 0 ∷ [])) [])
+    × ((n p : ℕ) → readCall ofSet b [] ≡ refuse n p [] → judgeSetCall b ≡ refuse n p [])
