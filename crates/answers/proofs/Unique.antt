@@ -9,6 +9,8 @@ use Rattle.answers.specs.declared.Judged.{Judged}
 use Rattle.answers.specs.declared.Judged.the-variants as judged
 use Rattle.answers.specs.declared.Truth.{Truth}
 use Rattle.answers.specs.declared.Truth.the-variants as truth
+use Rattle.answers.specs.declared.Seated.{Seated}
+use Rattle.answers.specs.declared.Seated.the-variants as seated
 use Rattle.answers.specs.declared.Found.{Found}
 use Rattle.answers.specs.declared.Found.the-variants as found
 use Rattle.answers.specs.declared.Ranged.{Ranged}
@@ -26,6 +28,7 @@ use Rattle.answers.specs.declared.Written.the-variants as written
 use Rattle.answers.specs.Answers.{Answer, given, refused, Outcome, outcome}
 use Rattle.answers.specs.Says.{numberOf, refusalOf, judgedSays, truthSays, foundSays, rangedSays, sizedSays, partedSays, decidedSays}
 use Rattle.answers.specs.Says.{placedSays, writtenSays}
+use Rattle.answers.specs.Says.{seatedSays}
 use Rattle.answers.proofs.Numbers.{number-reason}
 
 abbrev answerOf : Outcome → Answer
@@ -73,6 +76,21 @@ truth-undo (truth.Refused f) = ap truth.Refused (refusal-back f)
 
 pub truth-only : (due : Outcome) (r s : Truth) (k l : List (List ℕ)) → outcome (truthSays r) k ≡ due → outcome (truthSays s) l ≡ due → (r ≡ s) × (k ≡ l)
 truth-only = only truthSays truthBack truth-undo
+
+abbrev seatedBack : Answer → Seated
+seatedBack (given []) = seated.No 0
+seatedBack (given (t ∷ [])) = seated.No 0
+seatedBack (given (zero ∷ below ∷ xs)) = seated.No below
+seatedBack (given (suc t ∷ below ∷ xs)) = seated.Yes below
+seatedBack (refused n p) = seated.Refused (refusalOf n p)
+
+seated-undo : (r : Seated) → seatedBack (seatedSays r) ≡ r
+seated-undo (seated.Yes below) = refl
+seated-undo (seated.No below) = refl
+seated-undo (seated.Refused f) = ap seated.Refused (refusal-back f)
+
+pub seated-only : (due : Outcome) (r s : Seated) (k l : List (List ℕ)) → outcome (seatedSays r) k ≡ due → outcome (seatedSays s) l ≡ due → (r ≡ s) × (k ≡ l)
+seated-only = only seatedSays seatedBack seated-undo
 
 abbrev foundBack : Answer → Found
 foundBack (given []) = found.Nothing

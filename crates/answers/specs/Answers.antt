@@ -54,6 +54,11 @@ abbrev pub truth : Bool → Answer
 truth true = given (1 ∷ [])
 truth false = given (0 ∷ [])
 
+-- [W1] the answer of a question about a member: 1 or 0, and how many ranges lie wholly below it
+abbrev pub seated : Bool → ℕ → Answer
+seated true below = given (1 ∷ below ∷ [])
+seated false below = given (0 ∷ below ∷ [])
+
 -- a number, or none
 abbrev pub optional : Option ℕ → Answer
 optional (some n) = given (n ∷ [])

@@ -14,6 +14,8 @@ use Rattle.answers.specs.declared.Judged.{Judged}
 use Rattle.answers.specs.declared.Judged.the-variants as judged
 use Rattle.answers.specs.declared.Truth.{Truth}
 use Rattle.answers.specs.declared.Truth.the-variants as truth
+use Rattle.answers.specs.declared.Seated.{Seated}
+use Rattle.answers.specs.declared.Seated.the-variants as seated
 use Rattle.answers.specs.declared.Found.{Found}
 use Rattle.answers.specs.declared.Found.the-variants as found
 use Rattle.answers.specs.declared.Ranged.{Ranged}
@@ -68,6 +70,12 @@ abbrev pub truthSays : Truth → Answer
 truthSays truth.Yes = given (1 ∷ [])
 truthSays truth.No = given (0 ∷ [])
 truthSays (truth.Refused f) = refusalSays f
+
+-- [W1, G7] yes is 1, no is 0; then how many ranges lie wholly below
+abbrev pub seatedSays : Seated → Answer
+seatedSays (seated.Yes below) = given (1 ∷ below ∷ [])
+seatedSays (seated.No below) = given (0 ∷ below ∷ [])
+seatedSays (seated.Refused f) = refusalSays f
 
 -- [G7] the number, or no value
 abbrev pub foundSays : Found → Answer

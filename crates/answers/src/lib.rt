@@ -46,6 +46,13 @@ pub enum Truth {
     Refused(Refusal),
 }
 
+// Whether a number is a member; and, either way, how many ranges lie wholly below it. A range that holds it does not.
+pub enum Seated {
+    Yes(usize),
+    No(usize),
+    Refused(Refusal),
+}
+
 // The number that was asked for, or none.
 pub enum Found {
     Number(u64),

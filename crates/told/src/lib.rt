@@ -3,6 +3,7 @@ ghost use mathlib.Core.Path.{_≡_};
 ghost use mathlib.Core.List.{[], _∷_};
 ghost use Rattle.answers.specs.Answers.{given, refused};
 ghost use Rattle.answers.specs.Says.{judgedSays, truthSays, foundSays, rangedSays, sizedSays, partedSays, decidedSays, placedSays, writtenSays, refusalSays};
+ghost use Rattle.answers.specs.Says.{seatedSays};
 ghost use Rattle.answers.specs.Says.{foundKeySays, rangedKeysSays, placedKeySays, apartSays};
 ghost use Rattle.keys.specs.Keys.{wordOf, turned};
 ghost use Rattle.told.specs.Told.{told, inTwos};
@@ -16,6 +17,7 @@ use answers::PlacedKey;
 use answers::Ranged;
 use answers::RangedKeys;
 use answers::Refusal;
+use answers::Seated;
 use answers::Sized;
 use answers::Truth;
 use answers::Written;
@@ -128,6 +130,17 @@ pub fn tell_truth(a: Truth) -> Told
         Truth::Yes => one_value(1),
         Truth::No => one_value(0),
         Truth::Refused(f) => tell_refusal(f),
+    }
+}
+
+// Whether a number is a member, and how many ranges lie wholly below it.
+pub fn tell_seated(a: Seated) -> Told
+    ensures { λ r. ⌜ r ≡ told (seatedSays a) ⌝ }
+{
+    match a {
+        Seated::Yes(below) => two_values(1, below as u64),
+        Seated::No(below) => two_values(0, below as u64),
+        Seated::Refused(f) => tell_refusal(f),
     }
 }
 

@@ -1,0 +1,136 @@
+-- How many items begin below a number, begin at or below it, or end at or below it: from where the number sits.
+use mathlib.Core.Path.{_≡_, refl, ap}
+use mathlib.Core.Bool.{Bool, true, false}
+use mathlib.Core.List.{List}
+use Prim.Native.Nat.{ℕ, suc, _+_, _*_, _-_, _≤_, _<_}
+use native.Mathlib.Omega.{arith}
+use lib.Dec.{ltb, eqb}
+use lib.ListN.{length, getD}
+use borrow.Author.Tests.{ltb-true, ltb-false, eqb-true, eqb-false}
+use Rattle.entries.specs.Entries.{Entry}
+use Rattle.entries.specs.Build.{pick}
+use Rattle.entries.proofs.Index.{rises, sound-ok}
+use Rattle.blocks.specs.declared.Layout.{Layout}
+use Rattle.blocks.specs.Blocks.{entriesOf, SoundBlock}
+use Rattle.blocks.specs.Steps.{zero-item, itemAt}
+use Rattle.blocks.proofs.Items.{entries-count, entry-is, held}
+use Rattle.blocks.proofs.Tests.{le-mul}
+use Rattle.searches.specs.declared.Spot.{Spot}
+use Rattle.searches.specs.Steps.{Rises, First, FirstFrom, SpotOf}
+use Rattle.searches.proofs.Finding.{lows, highs}
+use Rattle.searches.proofs.Spots.{spot-first, next, inside-is, outside-is}
+
+-- the first place at which a function that does not fall is at least y, by the places beside it
+pub first-by : {f : ℕ → ℕ} {n y i : ℕ} → Rises f n → i ≤ n → ((k : ℕ) → suc k ≡ i → f k < y) → (i < n → y ≤ f i) → First f n y i
+first-by {f} {n} {y} {i} r within last from = record {
+  within = within;
+  before = λ k h. let m : suc (i - 1) ≡ i = omega arith in omega (arith, r k (i - 1) (omega arith) (omega arith), last (i - 1) m);
+  from = from;
+}
+
+module _ {l : Layout} {w : List ℕ} (two : 2 ≤ l .width) (b : SoundBlock l w) {x : ℕ} {r : Spot} (g : SpotOf l w x r) where
+  abbrev n : ℕ
+  n = getD w 0 0
+
+  abbrev low : ℕ → ℕ
+  low k = getD w (l .width * k + 1) 0
+
+  abbrev high : ℕ → ℕ
+  high k = getD w (l .width * k + 2) 0
+
+  item : (k : ℕ) → k < n → getD (entriesOf (l .width) w) k zero-item ≡ itemAt (l .width) w k
+  item k h = entry-is (l .width) two w n refl k h
+
+  count : length (entriesOf (l .width) w) ≡ n
+  count = entries-count (l .width) two w n refl
+
+  in-order : (k : ℕ) → k < n → low k ≤ high k
+  in-order k h =
+      omega (arith, sound-ok zero-item (entriesOf (l .width) w) (b .sound) k (omega (arith, count)), ap (λ (e : Entry). e .low) (item k h),
+      ap (λ (e : Entry). e .high) (item k h))
+
+  apart : (k : ℕ) → suc k < n → high k < low (suc k)
+  apart k h =
+      omega (arith, rises zero-item (entriesOf (l .width) w) (b .sound) k (suc k) (omega arith) (omega (arith, count)),
+      ap (λ (e : Entry). e .high) (item k (omega arith)), ap (λ (e : Entry). e .low) (item (suc k) h))
+
+  -- the items below x, whatever holds x
+  first : FirstFrom w (l .width) 2 n x (r .below)
+  first = spot-first two b g
+
+  -- the items are fewer than the words
+  pub few : r .below < length w
+  few = omega (arith, first .within, (held l two w n refl b) .held, le-mul (l .width) n two)
+
+  under : (k : ℕ) → suc k ≡ r .below → (low k < x) × (high k < x)
+  under k e =
+      let h = first .before k (omega arith) in
+      (omega (arith, in-order k (omega (arith, first .within))), h)
+
+  -- the next item, where none holds x, begins past it
+  pub out : r .inside ≡ false → r .below < n → x < low (r .below)
+  out t h = let m = next two b g h in omega (arith, outside-is two b g t (m .among), m .low)
+
+  -- the item that holds x
+  pub record Holding : Type 0 where
+    pub within : r .below < n
+    pub words : l .width * r .below + 1 + l .width ≤ length w
+    pub from : low (r .below) ≤ x
+    pub upto : x ≤ high (r .below)
+
+  pub holding : r .inside ≡ true → Holding
+  holding t =
+      let i = inside-is two b g t in
+      record { within = i .item .within; words = i .item .held; from = omega (arith, i .from, i .item .low); upto = first .from (i .item .within) }
+
+  -- the item behind it begins past x
+  behind : r .inside ≡ true → suc (r .below) < n → (x < low (suc (r .below))) × (x < high (suc (r .below)))
+  behind t h =
+      let o = holding t in
+      let a = apart (r .below) h in
+      (omega (arith, o .upto), omega (arith, o .upto, in-order (suc (r .below)) h))
+
+  -- HOW MANY BEGIN BELOW x
+  pub begun-out : r .inside ≡ false → FirstFrom w (l .width) 1 n x (r .below)
+  begun-out t = first-by (lows two b refl .rises) (first .within) (λ k e. under k e .0) (λ h. omega (arith, out t h))
+
+  pub begun-in : r .inside ≡ true → {y c : ℕ} → y ≡ low (r .below) → c ≡ pick (ltb y x) (r .below + 1) (r .below) → FirstFrom w (l .width) 1 n x c
+  begun-in t {y} {c} e q = go (ltb y x) refl q
+    where
+      o : Holding
+      o = holding t
+
+      go : (u : Bool) → ltb y x ≡ u → c ≡ pick u (r .below + 1) (r .below) → FirstFrom w (l .width) 1 n x c
+      go true p q = let z : c ≡ suc (r .below) = omega arith in
+          rw z (first-by (lows two b refl .rises) (omega (arith, o .within)) (λ k m. let j : k ≡ r .below = omega arith in rw j (omega (arith, ltb-true y x p)))
+          (λ h. omega (arith, behind t h .0)))
+      go false p q = rw q (first-by (lows two b refl .rises) (first .within) (λ k m. under k m .0) (λ h. omega (arith, ltb-false y x p)))
+
+  -- HOW MANY BEGIN AT OR BELOW IT
+  pub begun-by : {c : ℕ} → c ≡ pick (r .inside) (r .below + 1) (r .below) → FirstFrom w (l .width) 1 n (x + 1) c
+  begun-by {c} q = go (r .inside) refl q
+    where
+      go : (u : Bool) → r .inside ≡ u → c ≡ pick u (r .below + 1) (r .below) → FirstFrom w (l .width) 1 n (x + 1) c
+      go true t q = let z : c ≡ suc (r .below) = omega arith in
+          let o = holding t in
+          rw z (first-by (lows two b refl .rises) (omega (arith, o .within)) (λ k m. let j : k ≡ r .below = omega arith in rw j (omega (arith, o .from)))
+          (λ h. omega (arith, behind t h .0)))
+      go false t q = rw q (first-by (lows two b refl .rises) (first .within) (λ k m. omega (arith, under k m .0)) (λ h. omega (arith, out t h)))
+
+  -- HOW MANY END AT OR BELOW IT
+  pub ended-out : r .inside ≡ false → FirstFrom w (l .width) 2 n (x + 1) (r .below)
+  ended-out t = first-by (highs two b refl .rises) (first .within) (λ k e. omega (arith, under k e .1)) (λ h. omega (arith, out t h, in-order (r .below) h))
+
+  pub ended-in : r .inside ≡ true → {y c : ℕ} → y ≡ high (r .below) → c ≡ pick (eqb y x) (r .below + 1) (r .below) → FirstFrom w (l .width) 2 n (x + 1) c
+  ended-in t {y} {c} e q = go (eqb y x) refl q
+    where
+      o : Holding
+      o = holding t
+
+      go : (u : Bool) → eqb y x ≡ u → c ≡ pick u (r .below + 1) (r .below) → FirstFrom w (l .width) 2 n (x + 1) c
+      go true p q = let z : c ≡ suc (r .below) = omega arith in
+          rw z (first-by (highs two b refl .rises) (omega (arith, o .within)) (λ k m. let j : k ≡ r .below = omega arith in rw j (omega (arith, eqb-true y x p)))
+          (λ h. omega (arith, behind t h .1)))
+      go false p q =
+          let d : y ≡ x → ⊥ = eqb-false y x p in
+          rw q (first-by (highs two b refl .rises) (first .within) (λ k m. omega (arith, under k m .1)) (λ h. omega (arith, o .upto)))
