@@ -25,7 +25,7 @@ use Rattle.blocks.specs.Steps.{Spliced, itemAt, zero-item}
 use Rattle.searches.specs.Steps.{FirstFrom}
 use Rattle.blocks.proofs.Moves.{entry-at, splice-entries, entries-count}
 use Rattle.edits.proofs.Cuts.{trim-length, placed}
-use Rattle.edits.specs.Steps.{valueOf, cutEnd, cutStart, PlaceOk, SideOk, EditOk, CutOk, roomSays}
+use Rattle.edits.specs.Steps.{valueOf, cutEnd, cutStart, PlaceOk, SideOk, EditOk, PutOk, CutOk, roomSays}
 use Rattle.answers.specs.Answers.{Outcome, outcome, given, refused, judged, applies, numberSays}
 use Rattle.blocks.specs.Calls.{stored}
 use Rattle.edits.specs.Calls.{edited, editCall}
@@ -227,8 +227,12 @@ module _ {w : List ℕ} {l : Layout} {n : ℕ} (ok : EditOk w l n) where
   pub list-count : length list ≡ n
   list-count = items-length s n (drop 1 w)
 
-  pub side-ok : (new : List ℕ) → length new ≡ s → SideOk w new s n
+  side-ok : (new : List ℕ) → length new ≡ s → SideOk w new s n
   side-ok new e = record { two = ok .two; held = held; whole = e; sound = list-sound }
+
+  -- what was found among the items of the block was found among n
+  pub among-n : (off x i : ℕ) → FirstFrom w s off (getD w 0 0) x i → FirstFrom w s off n x i
+  among-n off x i f = rw (ok .count) f
 
   start-length : (hi : ℕ) (l : List Entry) → length (trimStart hi l) ≡ length l
   start-length hi [] = refl
@@ -344,6 +348,10 @@ module _ {w : List ℕ} {l : Layout} {n : ℕ} (ok : EditOk w l n) where
                 (f .within) (h .within) g (omega arith);
             from = high-of j b (find-right s (ok .two) n w j b h);
           }
+
+-- a new entry for a sound block, and what its sides are found among
+pub sides-ok : {w new : List ℕ} {l : Layout} {n : ℕ} → PutOk w new l n → SideOk w new (l .width) n
+sides-ok {w} {new} p = side-ok (p .edit) new (p .whole)
 
 -- a block that was judged sound
 pub edit-ok : {l : Layout} {w : List ℕ} {v n : ℕ} → v ≡ verdict l w → v ≡ 0 → 2 ≤ l .width → n ≡ getD w 0 0 → EditOk w l n

@@ -11,7 +11,7 @@ ghost use Rattle.blocks.specs.Blocks.{itemsOf, blockOf};
 ghost use Rattle.blocks.specs.Steps.{zero-item};
 ghost use Rattle.blocks.specs.Calls.{stored};
 ghost use Rattle.edits.specs.Calls.{edited, editCall};
-ghost use Rattle.edits.specs.Steps.{cutEnd, cutStart, update, CutOk, PlaceOk, SideOk, EditOk, PutOk, valueOf, roomSays};
+ghost use Rattle.edits.specs.Steps.{cutEnd, cutStart, update, CutOk, PlaceOk, EditOk, PutOk, valueOf, roomSays};
 use blocks::Layout;
 
 // The high that an entry keeps when every number from lo on is cut off it.
@@ -122,13 +122,14 @@ pub struct Side {
 
 // The side before a new entry: the items that begin before it stay, but that the last of them is joined with it, and gives it its
 // low, if it touches or reaches into it and has the same value.
-fn left_of(block: &[u64], new: &[u64], s: usize, n: usize) -> Side
-    requires { ⌜ SideOk (now block) (now new) s n ⌝ }
-    ensures { λ r. ⌜ JoinsLeft zero-item (itemsOf s n (drop 1 (now (block .entry)))) (r .at) (r .end)
-        (getD (now (new .entry)) 0 0) (valueOf s (now (new .entry))) ⌝ }
+fn left_of(block: &[u64], new: &[u64], layout: Layout, n: usize) -> Side
+    requires { ⌜ PutOk (now block) (now new) layout n ⌝ }
+    ensures { λ r. ⌜ JoinsLeft zero-item (itemsOf (layout .width) n (drop 1 (now (block .entry)))) (r .at) (r .end)
+        (getD (now (new .entry)) 0 0) (valueOf (layout .width) (now (new .entry))) ⌝ }
 {
+    let s = layout.width;
     let a = blocks::word(new, 0);
-    let i = searches::first_from(block, s, 1, n, a);
+    let i = searches::begun_before(block, layout, a);
     if i == 0 {
         return Side { at: 0, end: a };
     }
@@ -145,13 +146,14 @@ fn left_of(block: &[u64], new: &[u64], s: usize, n: usize) -> Side
 
 // The side behind a new entry: the items that end after it stay, but that the first of them is joined with it, and gives it its
 // high, if it touches or begins in it and has the same value.
-fn right_of(block: &[u64], new: &[u64], s: usize, n: usize) -> Side
-    requires { ⌜ SideOk (now block) (now new) s n ⌝ }
-    ensures { λ r. ⌜ JoinsRight zero-item (itemsOf s n (drop 1 (now (block .entry)))) (r .at) (r .end)
-        (getD (now (new .entry)) 1 0) (valueOf s (now (new .entry))) ⌝ }
+fn right_of(block: &[u64], new: &[u64], layout: Layout, n: usize) -> Side
+    requires { ⌜ PutOk (now block) (now new) layout n ⌝ }
+    ensures { λ r. ⌜ JoinsRight zero-item (itemsOf (layout .width) n (drop 1 (now (block .entry)))) (r .at) (r .end)
+        (getD (now (new .entry)) 1 0) (valueOf (layout .width) (now (new .entry))) ⌝ }
 {
+    let s = layout.width;
     let b = blocks::word(new, 1);
-    let j = searches::first_past(block, s, 2, n, b);
+    let j = searches::ended_by(block, layout, b);
     if n <= j {
         return Side { at: j, end: b };
     }
@@ -185,8 +187,8 @@ pub fn put_value(block: &mut [u64], new: &mut [u64], n: usize, layout: Layout) -
         (some (valueOf (layout .width) (now (new .entry))))) ⌝ }
 {
     let s = layout.width;
-    let l = left_of(block, new, s, n);
-    let r = right_of(block, new, s, n);
+    let l = left_of(block, new, layout, n);
+    let r = right_of(block, new, layout, n);
     let i = l.at;
     let j = r.at;
     let lo = l.end;
@@ -205,8 +207,8 @@ fn take_out(block: &mut [u64], n: usize, layout: Layout, a: u64, b: u64) -> bool
     ensures { λ r. ⌜ outcome (roomSays r) (now (block .exit) ∷ []) ≡ stored 0 layout (now (block .entry)) (edited layout (now (block .entry)) a b none) ⌝ }
 {
     let s = layout.width;
-    let i = searches::first_from(block, s, 1, n, a);
-    let j = searches::first_past(block, s, 2, n, b);
+    let i = searches::begun_before(block, layout, a);
+    let j = searches::ended_by(block, layout, b);
     if blocks::room_for(layout, block.len()) < i + (n - j) {
         return false;
     }

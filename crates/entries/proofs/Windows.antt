@@ -5,6 +5,7 @@ use mathlib.Core.Option.{Option}
 use mathlib.Core.List.{List, [], _∷_}
 use Prim.Native.Nat.{ℕ, zero, suc, _-_, _≤_, _<_}
 use native.Mathlib.Omega.{arith}
+use native.Mathlib.Decide.{decLt}
 use lib.Dec.{leb}
 use lib.ListN.{length, getD, take, drop}
 use borrow.Author.Tests.{le-leb, lt-leb, lt-ltb, le-ltb}
@@ -42,6 +43,10 @@ module _ (d : Entry) where
     pub before : (k : ℕ) → k < j → (getD es k d) .low ≤ b
     pub from : j < length es → b < (getD es j d) .low
 
+  -- without the first, which is one of them
+  pub passed-rest : {e : Entry} {es : List Entry} {a i : ℕ} → Passed (e ∷ es) a (suc i) → Passed es a i
+  passed-rest n = record { within = omega (arith, n .within); before = λ k p. n .before (suc k) (omega arith); from = λ p. n .from (omega arith) }
+
   next-low : (e : Entry) (es : List Entry) (x : ℕ) → Sound (e ∷ es) → x ≤ e .high → zero < length es → x < (getD es zero d) .low
   next-low e es x s h p = omega (arith, rises d (e ∷ es) s zero (suc zero) (omega arith) (omega arith))
 
@@ -57,8 +62,24 @@ module _ (d : Entry) where
   below-take (e ∷ es) a (suc i) s n =
       rw (lt-ltb (e .high) a (n .before zero (omega arith)))
       (ap (λ (l : List Entry). e ∷ l)
-      (below-take es a i (s .2)
-      (record { within = omega (arith, n .within); before = λ k p. n .before (suc k) (omega arith); from = λ p. n .from (omega arith) })))
+      (below-take es a i (s .2) (passed-rest n)))
+
+  passed-next : (e : Entry) (es : List Entry) (a i : ℕ) → e .high < a → Passed es a i → Passed (e ∷ es) a (suc i)
+  passed-next e es a i h n = record { within = omega (arith, n .within); before = before; from = λ p. n .from (omega arith) }
+    where
+      before : (k : ℕ) → k < suc i → (getD (e ∷ es) k d) .high < a
+      before zero p = h
+      before (suc k) p = n .before k (omega arith)
+
+  -- [W1] as many entries as are wholly below a end below it, and the next does not
+  pub below-passed : (es : List Entry) (a : ℕ) → Sound es → Passed es a (length (whollyBelow a es))
+  below-passed [] a s = record { within = omega arith; before = λ k p. absurd (omega arith); from = λ p. absurd (omega arith) }
+  below-passed (e ∷ es) a s = go (decLt (e .high) a) (below-passed es a (s .2))
+    where
+      go : Dec (e .high < a) → Passed es a (length (whollyBelow a es)) → Passed (e ∷ es) a (length (whollyBelow a (e ∷ es)))
+      go (yes h) n = rw (lt-ltb (e .high) a h) (passed-next e es a (length (whollyBelow a es)) h n)
+      go (no h) n = rw (below-none (e ∷ es) a s (λ p. omega arith))
+          (record { within = omega arith; before = λ k p. absurd (omega arith); from = λ p. omega arith })
 
   module _ (a b : ℕ) (ab : a ≤ b) where
     late : (es : List Entry) → Sound es → (zero < length es → b < (getD es zero d) .low) → meeting a b es ≡ []
@@ -86,8 +107,7 @@ module _ (d : Entry) where
     meeting-part (e ∷ es) (suc i) (suc j) s m n =
         let k : suc j - suc i ≡ j - i = omega arith in
         rw (meets-early a b e (m .before zero (omega arith)), k)
-        (meeting-part es i j (s .2)
-        (record { within = omega (arith, m .within); before = λ k p. m .before (suc k) (omega arith); from = λ p. m .from (omega arith) })
+        (meeting-part es i j (s .2) (passed-rest m)
         (record { within = omega (arith, n .within); before = λ k p. n .before (suc k) (omega arith); from = λ p. n .from (omega arith) }))
 
     pub in-order : (es : List Entry) (i j : ℕ) → Sound es → Passed es a i → Begun es b j → i ≤ j
@@ -95,8 +115,7 @@ module _ (d : Entry) where
     in-order [] (suc i) j s m n = absurd (omega (arith, m .within))
     in-order (e ∷ es) (suc i) zero s m n = absurd (omega (arith, m .before zero (omega arith), n .from (omega arith), s .0))
     in-order (e ∷ es) (suc i) (suc j) s m n =
-        let g = in-order es i j (s .2)
-        (record { within = omega (arith, m .within); before = λ k p. m .before (suc k) (omega arith); from = λ p. m .from (omega arith) })
+        let g = in-order es i j (s .2) (passed-rest m)
         (record { within = omega (arith, n .within); before = λ k p. n .before (suc k) (omega arith); from = λ p. n .from (omega arith) }) in
         omega arith
 

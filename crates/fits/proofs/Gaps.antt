@@ -3,10 +3,11 @@ use mathlib.Core.Path.{_≡_, refl, sym, _∙_, ap, ap₂}
 use mathlib.Core.Bool.{Bool, true, false}
 use mathlib.Core.Option.{Option, none, some}
 use mathlib.Core.List.{List, [], _∷_, _++_}
-use Prim.Native.Nat.{ℕ, suc, _+_, _-_, _≤_, _<_, min, max}
+use Prim.Native.Nat.{ℕ, zero, suc, _+_, _-_, _≤_, _<_, min, max}
 use native.Mathlib.Omega.{arith}
 use native.Mathlib.Decide.{decLe, decLt}
 use lib.Dec.{leb, ltb}
+use lib.ListN.{drop}
 use borrow.Author.Tests.{le-leb, lt-leb, lt-ltb, le-ltb, ltb-true, ltb-false}
 use Rattle.entries.specs.Entries.{Value, Entry, entry, orElse, valueAt, Link, Sound, Each}
 use Rattle.entries.specs.Build.{pick, andb}
@@ -15,6 +16,7 @@ use Rattle.entries.proofs.Append.{value-append}
 use Rattle.entries.proofs.Building.{Begins, begins-le}
 use Rattle.entries.proofs.Sides.{Side, under, inside, past, side, val-under, val-in, val-past, none-under}
 use Rattle.entries.proofs.Sets.{set-unique, difference-is}
+use Rattle.entries.proofs.Windows.{Passed, passed-rest}
 use Rattle.fits.specs.Fits.{gaps}
 use Rattle.fits.specs.Steps.{piece}
 
@@ -30,6 +32,16 @@ piece-none x y h = rw (le-ltb x y h)
 pub from-none : (x N : ℕ) (es : List Entry) → N ≤ x → gapsFrom x N es ≡ []
 from-none x N [] h = piece-none x N h
 from-none x N (e ∷ es) h = ap₂ _++_ (piece-none x (min N (e .low)) (omega arith)) (from-none (max x (suc (e .high))) N es (omega arith))
+
+-- [W2] the ranges that end below x change none of them
+pub from-passed : (d : Entry) (x N i : ℕ) (es : List Entry) → Sound es → Passed d es x i → gapsFrom x N (drop i es) ≡ gapsFrom x N es
+from-passed d x N zero es s p = refl
+from-passed d x N (suc i) [] s p = refl
+from-passed d x N (suc i) (e ∷ es) s p =
+    let h : e .high < x = p .before zero (omega arith) in
+    let m : x ≡ max x (suc (e .high)) = omega arith in
+    from-passed d x N i es (s .2) (passed-rest d p)
+    ∙ ap₂ _++_ (sym (piece-none x (min N (e .low)) (omega (arith, s .0)))) (ap (λ (y : ℕ). gapsFrom y N es) m)
 
 -- THEY ARE SOUND. Gaps of which the first begins at c or later, put behind one that ends two before c.
 joined : (x y c : ℕ) (gs : List Entry) → y < c → x ≤ c → Begins c gs → Sound gs → Sound (piece x y ++ gs) × Begins x (piece x y ++ gs)

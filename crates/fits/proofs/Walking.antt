@@ -15,13 +15,18 @@ use Rattle.entries.specs.Build.{pick, andb}
 use Rattle.entries.specs.Sets.{M}
 use Rattle.entries.specs.Questions.{filter}
 use Rattle.entries.proofs.Values.{true≢false}
+use Rattle.entries.proofs.Index.{sound-drop}
+use Rattle.entries.proofs.Windows.{Passed}
 use Rattle.blocks.specs.Blocks.{setLayout, itemsOf, entriesOf}
+use Rattle.blocks.specs.Steps.{zero-item}
+use Rattle.blocks.proofs.Words.{items-drop}
+use Rattle.blocks.proofs.Items.{entries-count}
 use Rattle.blocks.proofs.Judging.{room-words}
 use Rattle.fits.specs.declared.Gap.{Gap}
 use Rattle.fits.specs.Fits.{gaps, numbers, fits, anywhere}
 use Rattle.fits.specs.Steps.{chooser, gapOf, heldIn, piece, better, taken, Took, Trying, Asked}
 use Rattle.fits.proofs.Choosing.{search, filter-all, filter-keeps, search-first, search-shortest, AtMostOne, stops, hold-piece}
-use Rattle.fits.proofs.Gaps.{gapsFrom, from-none, from-is, gaps-below}
+use Rattle.fits.proofs.Gaps.{gapsFrom, from-none, from-passed, from-is, gaps-below}
 
 -- lengths, and lengths less one
 less-one : (l h less : ℕ) → l ≤ h → leb (suc h - l) (suc less) ≡ leb (h - l) less
@@ -229,14 +234,14 @@ walked-end {w} {o} {b} {k} {enough} {best} {from} {p} {left} s z r t =
     whole : piece from (suc b) ≡ piece from (suc b) ++ []
     whole = rw last
 
--- before the first range
-pub walked-start : (w : List ℕ) (a b k : ℕ) (shortest : Bool) (enough n : ℕ) (g : Gap) → Asked w a b k → b ≤ M → enough ≡ pick shortest (k - 1) M
-    → n ≡ getD w 0 0 → g .found ≡ false → g .low ≡ 0 → g .high ≡ 0
-    → Walked w (chooser shortest (filter (fits anywhere k) (gaps a b (entriesOf 2 w)))) b k enough g a 1 n
-walked-start w a b k shortest enough n g s m e c f lo hi = record {
-  place = omega arith;
+-- before the first range that does not lie wholly below the window
+pub walked-start : (w : List ℕ) (a b k : ℕ) (shortest : Bool) (enough n i : ℕ) (g : Gap) → Asked w a b k → b ≤ M → enough ≡ pick shortest (k - 1) M
+    → n ≡ getD w 0 0 → Passed zero-item (entriesOf 2 w) a i → g .found ≡ false → g .low ≡ 0 → g .high ≡ 0
+    → Walked w (chooser shortest (filter (fits anywhere k) (gaps a b (entriesOf 2 w)))) b k enough g a (2 * i + 1) (n - i)
+walked-start w a b k shortest enough n i g s m e c q f lo hi = record {
+  place = omega (arith, within);
   held = room-words setLayout (length w) (getD w 0 0) (s .block .some) (s .block .fits);
-  sound = rw c (s .block .sound);
+  sound = rw from-here (sound-drop zero-item (entriesOf 2 w) i (s .block .sound));
   run = s .run;
   inside = s .order;
   order = omega arith;
@@ -250,9 +255,23 @@ walked-start w a b k shortest enough n g s m e c f lo hi = record {
     empty : heldIn g ≡ []
     empty = ap (λ (t : Bool). pick t (entry (g .low) (g .high) [] ∷ []) []) f
 
-    start : Bool → search (suc enough) (heldIn g ++ filter (fits anywhere k) (gapsFrom a (suc b) (itemsOf 2 n (drop 1 w)))) ≡ chooser shortest list
+    within : i ≤ n
+    within = omega (arith, q .within, entries-count 2 (omega arith) w n c)
+
+    -- the ranges from there on
+    from-here : itemsOf 2 (n - i) (drop (2 * i + 1) w) ≡ drop i (entriesOf 2 w)
+    from-here =
+        sym (ap (λ (m : ℕ). drop i (itemsOf 2 m (drop 1 w))) (sym c) ∙ items-drop 2 (omega arith) n i (drop 1 w) within
+        ∙ ap (itemsOf 2 (n - i)) (drop-drop (2 * i) 1 w ∙ ap (λ (p : ℕ). drop p w) place))
+      where
+        place : 1 + 2 * i ≡ 2 * i + 1
+        place = omega arith
+
+    start : Bool → search (suc enough) (heldIn g ++ filter (fits anywhere k) (gapsFrom a (suc b) (itemsOf 2 (n - i) (drop (2 * i + 1) w))))
+        ≡ chooser shortest list
     start u =
-        ap₂ (λ (l : List Entry) (i : ℕ). search (suc enough) (l ++ filter (fits anywhere k) (gapsFrom a (suc b) (itemsOf 2 i (drop 1 w))))) empty c
+        ap₂ (λ (l gs : List Entry). search (suc enough) (l ++ filter (fits anywhere k) gs)) empty
+        (ap (gapsFrom a (suc b)) from-here ∙ from-passed zero-item a (suc b) i (entriesOf 2 w) (s .block .sound) q)
         ∙ ap (λ (l : List Entry). search (suc enough) (filter (fits anywhere k) l)) (from-is a b (entriesOf 2 w) (s .block .sound))
         ∙ ap (λ (t : ℕ). search (suc t) list) e
         ∙ chosen shortest

@@ -76,7 +76,8 @@ fn enough_for(k: u64, shortest: bool) -> u64
     if shortest { k - 1 } else { blocks::M }
 }
 
-// The first gap of the window a..b in which k numbers fit, or the shortest: one walk over the ranges of a sound set.
+// [W2] The first gap of the window a..b in which k numbers fit, or the shortest: one walk over the ranges of a sound set, from the first that
+// does not lie wholly below the window.
 fn gap_for(block: &[u64], a: u64, b: u64, k: u64, shortest: bool) -> Gap
     requires { ⌜ Asked (now block) a b k ⌝ }
     ensures { λ r. ⌜ gapOf r ≡ chooser shortest (filter (fits anywhere k) (gaps a b (entriesOf 2 (now (block .entry))))) ⌝ }
@@ -87,9 +88,10 @@ fn gap_for(block: &[u64], a: u64, b: u64, k: u64, shortest: bool) -> Gap
         low: 0,
         high: 0,
     };
+    let spot = searches::spot_of(block, blocks::SET, a);
     let mut from = a;
-    let mut p: usize = 1;
-    let mut left = searches::count_of(block);
+    let mut p = 2 * spot.below + 1;
+    let mut left = searches::count_of(block) - spot.below;
     while 0 < left {
         let low = blocks::word(block, p);
         let high = blocks::word(block, p + 1);

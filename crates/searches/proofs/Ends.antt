@@ -46,13 +46,21 @@ module _ {l : Layout} {w : List ℕ} (two : 2 ≤ l .width) (b : SoundBlock l w)
 
   in-order : (k : ℕ) → k < n → low k ≤ high k
   in-order k h =
-      omega (arith, sound-ok zero-item (entriesOf (l .width) w) (b .sound) k (omega (arith, count)), ap (λ (e : Entry). e .low) (item k h),
-      ap (λ (e : Entry). e .high) (item k h))
+      omega (
+        arith,
+        sound-ok zero-item (entriesOf (l .width) w) (b .sound) k (omega (arith, count)),
+        ap (λ (e : Entry). e .low) (item k h),
+        ap (λ (e : Entry). e .high) (item k h),
+      )
 
   apart : (k : ℕ) → suc k < n → high k < low (suc k)
   apart k h =
-      omega (arith, rises zero-item (entriesOf (l .width) w) (b .sound) k (suc k) (omega arith) (omega (arith, count)),
-      ap (λ (e : Entry). e .high) (item k (omega arith)), ap (λ (e : Entry). e .low) (item (suc k) h))
+      omega (
+        arith,
+        rises zero-item (entriesOf (l .width) w) (b .sound) k (suc k) (omega arith) (omega (arith, count)),
+        ap (λ (e : Entry). e .high) (item k (omega arith)),
+        ap (λ (e : Entry). e .low) (item (suc k) h),
+      )
 
   -- the items below x, whatever holds x
   first : FirstFrom w (l .width) 2 n x (r .below)

@@ -20,7 +20,7 @@ use Rattle.searches.specs.declared.Spot.{Spot}
 use Rattle.searches.specs.Parts.{part}
 use Rattle.searches.specs.Calls.{windowPart}
 use Rattle.searches.specs.Steps.{SpotOf, EntryOf}
-use Rattle.searches.proofs.Spots.{spot-below, inside-is}
+use Rattle.searches.proofs.Spots.{spot-first, inside-is}
 
 no-value : (o : Option Value) → has o ≡ false → o ≡ none
 no-value none e = refl
@@ -32,7 +32,7 @@ module _ {l : Layout} {w : List ℕ} (two : 2 ≤ l .width) (b : SoundBlock l w)
   one-item t e =
       let i : l .width * r .below + 1 ≡ 1 + l .width * r .below = omega arith in
       let k : l .width * r .below + 1 ≡ 1 + l .width * length (whollyBelow x (entriesOf (l .width) w)) =
-      i ∙ ap (λ (n : ℕ). 1 + l .width * n) (sym (spot-below two b g)) in
+      i ∙ ap (λ (n : ℕ). 1 + l .width * n) (g .below) in
       let m : length (meeting x x (entriesOf (l .width) w)) ≡ pick t 1 0 =
       one-meets (entriesOf (l .width) w) x (b .sound) ∙ ap (λ (h : Bool). pick h 1 0) (sym (g .inside) ∙ e) in
       ap₂ part k (ap (λ (n : ℕ). l .width * n) (sym m))
@@ -41,7 +41,7 @@ module _ {l : Layout} {w : List ℕ} (two : 2 ≤ l .width) (b : SoundBlock l w)
   below-held = omega (
     arith,
     (held l two w (getD w 0 0) refl b) .held,
-    mul-le-mul-left {m = r .below} {n = getD w 0 0} (l .width) (g .first .within),
+    mul-le-mul-left {m = r .below} {n = getD w 0 0} (l .width) (spot-first two b g .within),
   )
 
   -- [M1, M8] no entry holds x

@@ -1,19 +1,21 @@
--- Where a number stands in a sound block: from the one search, and what that tells of the items before it and of the next one.
+-- Where a number sits in a sound block: from the one search, and what that tells of the items before it and of the next one.
 use mathlib.Core.Path.{_≡_, refl, sym, _∙_, ap}
-use mathlib.Core.Bool.{true, false}
+use mathlib.Core.Bool.{Bool, true, false}
 use mathlib.Core.Option.{some}
 use mathlib.Core.List.{List}
 use Prim.Native.Nat.{ℕ, suc, _+_, _*_, _-_, _≤_, _<_}
 use native.Mathlib.Omega.{arith}
 use native.Mathlib.Nat.{mul-suc, mul-le-mul-left}
 use native.Mathlib.Decide.{decLt}
+use lib.Dec.{leb}
 use lib.ListN.{length, getD, take, drop}
 use lib.Seq.{length-take-le}
+use borrow.Author.Tests.{leb-true, leb-false}
 use Rattle.entries.specs.Entries.{Entry, valueAt}
 use Rattle.entries.specs.Sets.{has}
 use Rattle.entries.specs.Questions.{whollyBelow}
 use Rattle.entries.proofs.Values.{true≢false}
-use Rattle.entries.proofs.Windows.{Passed, below-take}
+use Rattle.entries.proofs.Windows.{Passed, below-take, below-passed}
 use Rattle.entries.proofs.Finding.{found-in, found-under, found-end}
 use Rattle.blocks.specs.declared.Layout.{Layout}
 use Rattle.blocks.specs.Blocks.{entriesOf, SoundBlock}
@@ -31,9 +33,6 @@ module _ {l : Layout} {w : List ℕ} (two : 2 ≤ l .width) (b : SoundBlock l w)
   count : length (entriesOf (l .width) w) ≡ n
   count = entries-count (l .width) two w n e
 
-  first : FirstFrom w (l .width) 2 (getD w 0 0) x i
-  first = rw e at p
-
   pub below-is : length (whollyBelow x (entriesOf (l .width) w)) ≡ i
   below-is =
       ap length (below-take zero-item (entriesOf (l .width) w) x i (b .sound) here)
@@ -41,7 +40,7 @@ module _ {l : Layout} {w : List ℕ} (two : 2 ≤ l .width) (b : SoundBlock l w)
 
   pub spot-end : n ≤ i → SpotOf l w x (record { below = i; inside = false })
   spot-end h = record {
-    first = first;
+    below = sym below-is;
     inside = sym (ap has (found-end zero-item (entriesOf (l .width) w) x i (b .sound) here (omega (arith, count))));
   }
 
@@ -60,26 +59,42 @@ module _ {l : Layout} {w : List ℕ} (two : 2 ≤ l .width) (b : SoundBlock l w)
     module _ (low : ℕ) (q : low ≡ getD w (l .width * i + 1) 0) where
       pub spot-under : x < low → SpotOf l w x (record { below = i; inside = false })
       spot-under k = record {
-        first = first;
+        below = sym below-is;
         inside = sym (ap has (found-under zero-item (entriesOf (l .width) w) x i (b .sound) here (omega (arith, count)) (omega (arith, low-is))));
       }
 
       pub spot-in : low ≤ x → SpotOf l w x (record { below = i; inside = true })
       spot-in k = record {
-        first = first;
+        below = sym below-is;
         inside = sym (ap has (found-in zero-item (entriesOf (l .width) w) x i (b .sound) here (omega (arith, count)) (omega (arith, low-is))));
       }
+
+      -- by the code's one test
+      pub spot-by : SpotOf l w x (record { below = i; inside = leb low x })
+      spot-by = go (leb low x) refl
+        where
+          go : (t : Bool) → leb low x ≡ t → SpotOf l w x (record { below = i; inside = t })
+          go true k = spot-in (leb-true low x k)
+          go false k = spot-under (leb-false low x k)
 
 -- WHAT A SPOT TELLS
 module _ {l : Layout} {w : List ℕ} (two : 2 ≤ l .width) (b : SoundBlock l w) {x : ℕ} {r : Spot} (g : SpotOf l w x r) where
   pub spot-passed : Passed zero-item (entriesOf (l .width) w) x (r .below)
-  spot-passed = passed (l .width) two w (getD w 0 0) refl x (r .below) (g .first)
-
-  pub spot-below : length (whollyBelow x (entriesOf (l .width) w)) ≡ r .below
-  spot-below = below-is two b refl (g .first)
+  spot-passed = rw (g .below) (below-passed zero-item (entriesOf (l .width) w) x (b .sound))
 
   all : length (entriesOf (l .width) w) ≡ getD w 0 0
   all = entries-count (l .width) two w (getD w 0 0) refl
+
+  -- the count is what the search found
+  pub spot-first : FirstFrom w (l .width) 2 (getD w 0 0) x (r .below)
+  spot-first = record {
+    within = omega (arith, spot-passed .within, all);
+    before = λ k h. omega (arith, spot-passed .before k h, high-at k (omega (arith, spot-passed .within, all)));
+    from = λ h. omega (arith, spot-passed .from (omega (arith, all)), high-at (r .below) h);
+  }
+    where
+      high-at : (k : ℕ) → k < getD w 0 0 → (getD (entriesOf (l .width) w) k zero-item) .high ≡ getD w (l .width * k + 2) 0
+      high-at k h = ap (λ (f : Entry). f .high) (entry-is (l .width) two w (getD w 0 0) refl k h)
 
   -- the item behind those below x, and its words
   pub record Next : Type 0 where
@@ -93,7 +108,7 @@ module _ {l : Layout} {w : List ℕ} (two : 2 ≤ l .width) (b : SoundBlock l w)
   next h = record {
     within = h;
     among = omega (arith, all);
-    held = item-held two b refl (g .first) h;
+    held = item-held two b refl spot-first h;
     low = ap (λ (f : Entry). f .low) (entry-is (l .width) two w (getD w 0 0) refl (r .below) h);
     high = ap (λ (f : Entry). f .high) (entry-is (l .width) two w (getD w 0 0) refl (r .below) h);
   }
@@ -108,11 +123,11 @@ module _ {l : Layout} {w : List ℕ} (two : 2 ≤ l .width) (b : SoundBlock l w)
   inside-is t = go (decLt (r .below) (getD w 0 0))
     where
       go : Dec (r .below < getD w 0 0) → Inside
-      go (no h) = absurd (true≢false (sym t ∙ g .inside ∙ sym ((spot-end two b refl (g .first) (omega arith)) .inside)))
+      go (no h) = absurd (true≢false (sym t ∙ g .inside ∙ sym ((spot-end two b refl spot-first (omega arith)) .inside)))
       go (yes h) = under (decLt x (getD w (l .width * r .below + 1) 0))
         where
           under : Dec (x < getD w (l .width * r .below + 1) 0) → Inside
-          under (yes k) = absurd (true≢false (sym t ∙ g .inside ∙ sym ((spot-under two b refl (g .first) h _ refl k) .inside)))
+          under (yes k) = absurd (true≢false (sym t ∙ g .inside ∙ sym ((spot-under two b refl spot-first h _ refl k) .inside)))
           under (no k) =
               let m = next h in
               let f : (getD (entriesOf (l .width) w) (r .below) zero-item) .low ≤ x = omega (arith, m .low) in
@@ -132,4 +147,4 @@ module _ {l : Layout} {w : List ℕ} (two : 2 ≤ l .width) (b : SoundBlock l w)
 
       go : Dec (x < getD w (l .width * r .below + 1) 0) → x < (getD (entriesOf (l .width) w) (r .below) zero-item) .low
       go (yes k) = omega (arith, m .low)
-      go (no k) = absurd (true≢false ((spot-in two b refl (g .first) (m .within) _ refl (omega arith)) .inside ∙ sym (g .inside) ∙ t))
+      go (no k) = absurd (true≢false ((spot-in two b refl spot-first (m .within) _ refl (omega arith)) .inside ∙ sym (g .inside) ∙ t))

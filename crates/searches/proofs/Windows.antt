@@ -5,13 +5,13 @@ use mathlib.Core.List.{List, [], _∷_}
 use Prim.Native.Nat.{ℕ, zero, suc, _+_, _*_, _-_, _≤_, _<_}
 use native.Mathlib.Omega.{arith}
 use native.Mathlib.Nat.{mul-add, mul-le-mul-left}
-use native.Mathlib.Decide.{decLt}
 use lib.Dec.{ltb, eqb}
 use lib.ListN.{length, getD, take, drop, length-drop}
 use lib.Seq.{length-take-le, drop-drop}
 use borrow.Author.Tests.{le-ltb, lt-ltb, eqb-true, eq-eqb, ne-eqb}
 use denote.Ref.{RefT, now}
-use Rattle.entries.specs.Entries.{Entry}
+use Rattle.entries.specs.Entries.{Entry, valueAt}
+use Rattle.entries.specs.Sets.{has}
 use Rattle.entries.specs.Build.{pick}
 use Rattle.entries.specs.Questions.{meeting, whollyBelow}
 use Rattle.entries.proofs.Windows.{Passed, Begun, meeting-part, in-order as ends-in-order}
@@ -29,9 +29,10 @@ use Rattle.blocks.proofs.Words.{items-drop, items-take, write-back}
 use Rattle.searches.specs.Calls.{windowPart, windowRefusals, windowCall, windowAtCall, windowRefusalCall}
 use Rattle.searches.specs.declared.Part.{Part}
 use Rattle.searches.specs.Parts.{part, noPart, wordsAt, IsPart, partSays}
-use Rattle.searches.specs.Steps.{FirstFrom, Windowed, PartOf}
+use Rattle.searches.specs.Steps.{FirstFrom, SpotOf, Windowed, PartOf}
 use Rattle.searches.proofs.Finding.{passed, begun}
-use Rattle.searches.proofs.Spots.{below-is}
+use Rattle.searches.proofs.Spots.{below-is, spot-first}
+use Rattle.searches.proofs.Ends.{begun-by}
 
 -- the two ends of the part, in words
 pub record Spanned (s i j : ℕ) (w : List ℕ) : Type 0 where
@@ -100,39 +101,13 @@ module _ {l : Layout} {w : List ℕ} {a b : ℕ} (g : Windowed l w a b) {n i j :
       dropped : drop i es ≡ itemsOf s (n - i) behind
       dropped = ap (λ (k : ℕ). drop i (itemsOf s k (drop 1 w))) (sym e) ∙ items-drop s (g .two) n i (drop 1 w) (p .within)
 
--- the first item from x on, whatever the words
-record Found (ws : List ℕ) (s off n x : ℕ) : Type 0 where
-  index : ℕ
-  first : FirstFrom ws s off n x index
-
-find : (ws : List ℕ) (s off n x : ℕ) → Found ws s off n x
-find ws s off zero x =
-    record { index = 0; first = record { within = omega arith; before = λ k h. absurd (omega arith); from = λ h. absurd (omega arith) } }
-find ws s off (suc n) x = go (find ws s off n x) (decLt (getD ws (s * n + off) 0) x)
-  where
-    go : Found ws s off n x → Dec (getD ws (s * n + off) 0 < x) → Found ws s off (suc n) x
-    go f d = split (decLt (f .index) n) d
-      where
-        last : (k : ℕ) → k < suc n → Dec (k < n) → n ≤ f .index → getD ws (s * n + off) 0 < x → getD ws (s * k + off) 0 < x
-        last k h (yes p) e q = f .first .before k (omega arith)
-        last k h (no p) e q = let i : k ≡ n = omega arith in omega (arith, ap (λ (m : ℕ). getD ws (s * m + off) 0) i)
-
-        split : Dec (f .index < n) → Dec (getD ws (s * n + off) 0 < x) → Found ws s off (suc n) x
-        split (yes p) d =
-            record { index = f .index; first = record { within = omega arith; before = f .first .before; from = λ h. f .first .from p } }
-        split (no p) (yes q) =
-            record {
-              index = suc n;
-              first = record { within = omega arith; before = λ k h. last k h (decLt k n) (omega arith) q; from = λ h. absurd (omega arith) };
-            }
-        split (no p) (no q) =
-            record { index = n; first = record { within = omega arith; before = λ k h. f .first .before k (omega arith); from = λ h. omega arith } }
-
 -- [S6, M7] the window holds exactly the words of the items that share a number with a..b, in order
 pub window-words : {l : Layout} {w : List ℕ} {a b : ℕ} → Windowed l w a b
     → wordsAt w (windowPart (l .width) w a b) ≡ wordsOf (meeting a b (entriesOf (l .width) w))
-window-words {l} {w} {a} {b} g =
-    words-are g refl (find w (l .width) 2 (getD w 0 0) a .first) (find w (l .width) 1 (getD w 0 0) (b + 1) .first)
+window-words {l} {w} {a} {b} g = words-are g refl (spot-first (g .two) (g .block) (sits a)) (begun-by (g .two) (g .block) (sits b) refl)
+  where
+    sits : (x : ℕ) → SpotOf l w x (record { below = length (whollyBelow x (entriesOf (l .width) w)); inside = has (valueAt (entriesOf (l .width) w) x) })
+    sits x = record { below = refl; inside = refl }
 
 -- the refusals of a window, by the tests of the code
 module _ (l : Layout) (w : List ℕ) (a b : ℕ) {v : ℕ} (e : v ≡ verdict l w) where

@@ -6,6 +6,7 @@ use Prim.Native.Nat.{ℕ, _+_, _*_, _-_, _≤_, _<_}
 use lib.ListN.{length, getD, take, drop}
 use Rattle.entries.specs.Entries.{valueAt}
 use Rattle.entries.specs.Sets.{has}
+use Rattle.entries.specs.Questions.{whollyBelow}
 use Rattle.blocks.specs.declared.Layout.{Layout}
 use Rattle.blocks.specs.Blocks.{entriesOf, SoundBlock}
 use Rattle.searches.specs.Calls.{windowPlace, windowLength, windowPart}
@@ -33,9 +34,9 @@ pub record Sorted (s off n : ℕ) (w : List ℕ) : Type 0 where
 abbrev pub FirstFrom : (ws : List ℕ) (s off n x r : ℕ) → Type 0
 FirstFrom ws s off n x r = First (λ k. getD ws (s * k + off) 0) n x r
 
--- where x stands in the block w: so many items end below it, the next does not, and that one holds it or none does
+-- [W1, W2] where x sits in the block w: how many items lie wholly below it, whether one holds it or not; and whether one does
 pub record SpotOf (l : Layout) (w : List ℕ) (x : ℕ) (r : Spot) : Type 0 where
-  pub first : FirstFrom w (l .width) 2 (getD w 0 0) x (r .below)
+  pub below : r .below ≡ length (whollyBelow x (entriesOf (l .width) w))
   pub inside : r .inside ≡ has (valueAt (entriesOf (l .width) w) x)
 
 -- r is the window x..x of w, within its block: the entry that holds x, or no words; where it has words, they are its value's from the third on

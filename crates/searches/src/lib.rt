@@ -21,7 +21,7 @@ pub struct Part {
     pub length: usize,
 }
 
-// Where a number stands in a block: how many items lie wholly below it, and whether the next one holds it.
+// Where a number sits in a block: how many items lie wholly below it, and whether the next one holds it.
 pub struct Spot {
     pub below: usize,
     pub inside: bool,
@@ -35,57 +35,68 @@ pub fn count_of(block: &[u64]) -> usize
     blocks::wide(blocks::word(block, 0))
 }
 
-// [L1] The first of n items of s words whose word at off (1 its low, 2 its high) is at least x, or n. These words do not fall, and it
-// is found by halving, in 12 steps at most among 4,095. A step is a choice and not a branch, which no predictor could foretell.
-pub fn first_from(block: &[u64], s: usize, off: usize, n: usize, x: u64) -> usize
-    requires { ⌜ Sorted s off n (now block) ⌝ }
-    ensures { λ r. ⌜ FirstFrom (now (block .entry)) s off n x r ⌝ }
+// [L1] The first of n items of s words whose high is at least x, or n. The highs do not fall, and it is found by halving, in 12 steps at
+// most among 4,095. A step is a choice and not a branch, which no predictor could foretell.
+fn first_from(block: &[u64], s: usize, n: usize, x: u64) -> usize
+    requires { ⌜ Sorted s 2 n (now block) ⌝ }
+    ensures { λ r. ⌜ FirstFrom (now (block .entry)) s 2 n x r ⌝ }
 {
     let mut low: usize = 0;
     let mut high = n;
     while low < high {
         let middle = low + (high - low) / 2;
-        let under = blocks::word(block, s * middle + off) < x;
+        let under = blocks::word(block, s * middle + 2) < x;
         low = blocks::chosen(under, middle + 1, low);
         high = blocks::chosen(under, high, middle);
     }
     low
 }
 
-// The first whose word at off is above x, or n.
-pub fn first_past(block: &[u64], s: usize, off: usize, n: usize, x: u64) -> usize
-    requires { ⌜ Sorted s off n (now block) ⌝ }
-    ensures { λ r. ⌜ FirstFrom (now (block .entry)) s off n (x + 1) r ⌝ }
-{
-    if x == blocks::M {
-        return n;
-    }
-    first_from(block, s, off, n, x + 1)
-}
-
-// Where x stands in a sound block. Membership, the least member and non-member, look-up and the deciding entry rest on this search.
+// [W2] Where x sits in a sound block: how many items lie wholly below it, and whether one holds it. This is the one search of blocks: every
+// call that needs the place of a number asks it.
 pub fn spot_of(block: &[u64], layout: Layout, x: u64) -> Spot
     requires { ⌜ (2 ≤ layout .width) × SoundBlock layout (now block) ⌝ }
     ensures { λ r. ⌜ SpotOf layout (now (block .entry)) x r ⌝ }
 {
     let n = count_of(block);
-    let i = first_from(block, layout.width, 2, n, x);
-    if n <= i {
+    let below = first_from(block, layout.width, n, x);
+    if n <= below {
         return Spot {
-            below: i,
+            below,
             inside: false,
         };
     }
-    if x < blocks::word(block, layout.width * i + 1) {
-        return Spot {
-            below: i,
-            inside: false,
-        };
-    }
+    let low = blocks::word(block, layout.width * below + 1);
     Spot {
-        below: i,
-        inside: true,
+        below,
+        inside: low <= x,
     }
+}
+
+// How many items of a sound block begin below x: those wholly below it, and the one that holds it, unless it begins there.
+pub fn begun_before(block: &[u64], layout: Layout, x: u64) -> usize
+    requires { ⌜ (2 ≤ layout .width) × SoundBlock layout (now block) ⌝ }
+    ensures { λ r. ⌜ FirstFrom (now (block .entry)) (layout .width) 1 (getD (now (block .entry)) 0 0) x r ⌝ }
+{
+    let spot = spot_of(block, layout, x);
+    if spot.inside {
+        let low = blocks::word(block, layout.width * spot.below + 1);
+        return blocks::chosen(low < x, spot.below + 1, spot.below);
+    }
+    spot.below
+}
+
+// How many items of a sound block end at or below x: those wholly below it, and the one that holds it, if it ends there.
+pub fn ended_by(block: &[u64], layout: Layout, x: u64) -> usize
+    requires { ⌜ (2 ≤ layout .width) × SoundBlock layout (now block) ⌝ }
+    ensures { λ r. ⌜ FirstFrom (now (block .entry)) (layout .width) 2 (getD (now (block .entry)) 0 0) (x + 1) r ⌝ }
+{
+    let spot = spot_of(block, layout, x);
+    if spot.inside {
+        let high = blocks::word(block, layout.width * spot.below + 2);
+        return blocks::chosen(high == x, spot.below + 1, spot.below);
+    }
+    spot.below
 }
 
 // The window x..x of a sound block: the entry that holds x, as a part of the block; no words, behind the entries below x, where none does.
@@ -132,11 +143,11 @@ pub fn part_at(block: &[u64], layout: Layout, a: u64, b: u64) -> Part
     requires { ⌜ Windowed layout (now block) a b ⌝ }
     ensures { λ r. ⌜ PartOf (layout .width) (now (block .entry)) a b r ⌝ }
 {
-    let n = count_of(block);
-    let i = first_from(block, layout.width, 2, n, a);
-    let j = first_past(block, layout.width, 1, n, b);
-    let from = layout.width * i + 1;
-    let to = layout.width * j + 1;
+    let first = spot_of(block, layout, a);
+    let last = spot_of(block, layout, b);
+    let end = blocks::chosen(last.inside, last.below + 1, last.below);
+    let from = layout.width * first.below + 1;
+    let to = layout.width * end + 1;
     Part {
         place: from,
         length: to - from,

@@ -1,28 +1,27 @@
 use denote.Ref.{now}
 use mathlib.Core.Path.{sym, _∙_}
-use Rattle.edits.proofs.Sides.{LeftOf, left-none, left-beside}
-use Rattle.searches.proofs.Finding.{sorted-lows}
+use Rattle.edits.proofs.Sides.{LeftOf, sides-ok, among-n, left-none, left-beside}
 use native.Mathlib.Omega.{arith}
 use borrow.Author.Needs.{needs}
 use Rattle.edits.proofs.left_of.Statement.{statement}
 use Rattle.edits.proofs.left_of.Tie as tie
 
-first-from-requires : tie.Need-first-from-requires
-first-from-requires c κs =
-    let start = c .before .before .before in
-    sorted-lows (record { two = start .pre .two; held = start .pre .held }) (start .pre .sound)
+begun-before-requires : tie.Need-begun-before-requires
+begun-before-requires c κs = let e = c .before .before .before .pre .edit in (e .two, e .block)
 
 returns : tie.Need-returns
 returns c =
     let at-word = c .before .before in
-    left-none (at-word .before .before .before .pre) (at-word .word .ensures) (c .before .first-from .ensures) (c .if1 .taken)
+    let p = at-word .before .before .before .pre in
+    left-none (sides-ok p) (at-word .word .ensures) (among-n (p .edit) _ _ _ (c .before .begun-before .ensures)) (c .if1 .taken)
 
 -- the item before the new entry
 next : (c : tie.Else1) → let a = c .before .before .before .before .before .args in
-    LeftOf (now (a .block)) (now (a .new)) (a .s) (a .n) (c .before .first-from .result) (c .before .before .word .result)
+    LeftOf (now (a .block)) (now (a .new)) (a .layout .width) (a .n) (c .before .begun-before .result) (c .before .before .word .result)
 next c =
     let at-word = c .before .before in
-    left-beside (at-word .before .before .before .pre) (at-word .word .ensures) (c .before .first-from .ensures) (c .if1 .left)
+    let p = at-word .before .before .before .pre in
+    left-beside (sides-ok p) (at-word .word .ensures) (among-n (p .edit) _ _ _ (c .before .begun-before .ensures)) (c .if1 .left)
 
 returns-2 : tie.Need-returns-2
 returns-2 c = next (c .before .before .before) .apart-from (c .before .before .word2 .ensures) (c .before .beyond .ensures) (c .if2 .taken)
@@ -38,7 +37,7 @@ returns-4 c = next (c .before .before .before .before .before) .differs (sym (c 
 
 pub left-of-spec : {M : Type 1} → statement M
 left-of-spec =
-    tie.close (tie.spec (λ c κs. search needs) first-from-requires returns (λ c. search needs) (λ c. omega (arith, next c .words))
+    tie.close (tie.spec (λ c κs. search needs) begun-before-requires returns (λ c. search needs) (λ c. omega (arith, next c .words))
     (λ c. omega (arith, next c .words)) (λ c κs. omega (arith, next c .words)) (λ c κs. search needs) returns-2
     (λ c. omega (arith, next (c .before .before .before) .words)) (λ c. omega (arith, next (c .before .before .before) .words)) (λ c. search needs)
     (λ c κs. next (c .before .before .before) .words) (λ c. omega (arith, next (c .before .before .before .before .before) .words))

@@ -1,7 +1,7 @@
 use denote.Ref.{now}
 use Prim.Native.Nat.{_*_, _≤_, _<_}
 use lib.ListN.{length}
-use Rattle.edits.proofs.Sides.{side-ok, among, put-no, put-done, put-ok, ends-length}
+use Rattle.edits.proofs.Sides.{among, put-no, put-done, put-ok, ends-length}
 use mathlib.Core.Path.{refl, _∙_}
 use native.Mathlib.Omega.{arith}
 use borrow.Author.Needs.{needs}
@@ -9,10 +9,10 @@ use Rattle.edits.proofs.put_value.Statement.{statement}
 use Rattle.edits.proofs.put_value.Tie as tie
 
 left-of-requires : tie.Need-left-of-requires
-left-of-requires c κs = let p = c .before .before .before .before .pre in side-ok (p .edit) _ (p .whole)
+left-of-requires c κs = c .before .before .before .before .pre
 
 right-of-requires : tie.Need-right-of-requires
-right-of-requires c κs = let p = c .before .before .before .before .before .before .before .pre in side-ok (p .edit) _ (p .whole)
+right-of-requires c κs = c .before .before .before .before .before .before .before .pre
 
 -- both sides stand among the items
 sides : (c : tie.After-right-of) → let at-left-of = c .before .before .before in

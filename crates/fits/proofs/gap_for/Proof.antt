@@ -1,8 +1,12 @@
 -- Invariant: the gap held is the chosen one of the gaps before `from` (`Walked`). Measure: the ranges left.
 use denote.Ref.{now}
 use mathlib.Core.Path.{refl, sym, _∙_}
+use Prim.Native.Nat.{_+_, _*_, _≤_}
+use lib.ListN.{length, getD}
+use Rattle.blocks.proofs.Items.{held}
+use Rattle.searches.proofs.Spots.{spot-passed, spot-first}
 use Rattle.entries.specs.Questions.{filter}
-use Rattle.blocks.specs.Blocks.{entriesOf}
+use Rattle.blocks.specs.Blocks.{entriesOf, setLayout}
 use Rattle.fits.specs.Fits.{gaps, fits, anywhere}
 use Rattle.fits.specs.Steps.{chooser}
 use Rattle.fits.proofs.Walking.{Walked, walked-start, walked-inside, walked-enough, walked-over, walked-on, walked-end}
@@ -18,13 +22,26 @@ Inv-loop block a b k shortest enough best₀ from₀ p₀ left₀ best from p le
 abbrev μ-loop : tie.MeasureT-loop
 μ-loop block a b k shortest enough best₀ from₀ p₀ left₀ best from p left = left
 
+spot-of-requires : tie.Need-spot-of-requires Inv-loop μ-loop
+spot-of-requires c κs = (omega arith, c .before .before .pre .block)
+
+-- the ranges below the window are some of the block's, which has more words than ranges
+below : (c : tie.After-spot-of Inv-loop μ-loop) → let w = now (c .before .before .before .args .block) in
+    (c .spot-of .result .below ≤ getD w 0 0) × (2 * c .spot-of .result .below + 1 ≤ length w)
+below c =
+    let p = c .before .before .before .pre .block in
+    let first = spot-first (omega arith) p (c .spot-of .ensures) in
+    (first .within, omega (arith, first .within, held setLayout (omega arith) _ _ refl p))
+
 loop-holds : tie.Need-loop-holds Inv-loop μ-loop
 loop-holds c =
-    let at-enough-for = c .before in
+    let at-spot-of = c .before .before .before in
+    let at-enough-for = at-spot-of .before in
     let start = at-enough-for .before .before in
     walked-start (now (start .args .block)) (start .args .a) (start .args .b) (start .args .k) (start .args .shortest)
-    (at-enough-for .enough-for .result) (c .count-of .result) _ (start .pre) (omega arith) (at-enough-for .enough-for .ensures)
-    (c .count-of .ensures) refl refl refl
+    (at-enough-for .enough-for .result) (c .before .count-of .result) (at-spot-of .spot-of .result .below) _ (start .pre) (omega arith)
+    (at-enough-for .enough-for .ensures) (c .before .count-of .ensures) (spot-passed (omega arith) (start .pre .block) (at-spot-of .spot-of .ensures))
+    refl refl refl
 
 word-requires : tie.Need-word-requires Inv-loop μ-loop
 word-requires c κs = omega (arith, walked-inside (c .before .loop .inv) (c .loop-test .taken))
@@ -63,11 +80,12 @@ returns-2 c =
     walked-over (at-loop .loop .inv) (at-loop-test .loop-test .taken) (at-word .word .result) (at-word2 .word2 .result) (at-word .word .ensures)
     (at-word2 .word2 .ensures) (at-gap-before .gap-before .result) (at-gap-before .gap-before .ensures) (c .if2 .taken)
 
-add-p : tie.Need-add-p Inv-loop μ-loop
+add-p : tie.Need-add-p-2 Inv-loop μ-loop
 add-p c =
     let at-loop-test = c .before .before .before .before .before .before .before in
     let at-loop = at-loop-test .before in
-    record { fits = omega (arith, walked-inside (at-loop .loop .inv) (at-loop-test .loop-test .taken)) }
+    let start = at-loop .before .before .before .before .before .before .before in
+    record { fits = omega (arith, start .fits, walked-inside (at-loop .loop .inv) (at-loop-test .loop-test .taken)) }
 
 loop-again : tie.Need-loop-again Inv-loop μ-loop
 loop-again c =
@@ -91,6 +109,8 @@ returns-3 c = walked-end (c .before .before .loop .inv) (omega arith) (c .tried 
 
 pub gap-for-spec : {M : Type 1} → statement M
 gap-for-spec =
-    tie.close (tie.spec Inv-loop μ-loop (λ c κs. search needs) (λ c κs. search needs) loop-holds word-requires add-word word-requires-2
+    tie.close (tie.spec Inv-loop μ-loop (λ c κs. search needs) spot-of-requires (λ c. record { fits = omega (arith, below (c .before)) })
+    (λ c. record { fits = omega (arith, below (c .before)) }) (λ c κs. search needs)
+    (λ c. omega (arith, c .before .count-of .ensures, below (c .before .before .before))) loop-holds word-requires add-word word-requires-2
     gap-before-requires within-requires returns returns-2 (λ c κs. search needs) add-p (λ c. search needs) (λ c. search needs) loop-again
     tried-requires returns-3)

@@ -1,4 +1,4 @@
--- Invariant: each item before low has its word at off below x, and that at high has not. Measure: the steps that what is open takes at most.
+-- Invariant: each item before low has its high below x, and that at high has not. Measure: the steps that what is open takes at most.
 use Prim.Native.Nat.{ℕ, _+_, _*_, _-_, _≤_, _<_}
 use mathlib.Core.Path.{ap}
 use lib.Dec.{ltb}
@@ -11,10 +11,10 @@ use Rattle.searches.proofs.first_from.Statement.{statement}
 use Rattle.searches.proofs.first_from.Tie as tie
 
 abbrev Inv-loop : tie.InvT-loop
-Inv-loop block s off n x low₀ high₀ low high = Open (λ (k : ℕ). getD block (s * k + off) 0) n x low high
+Inv-loop block s n x low₀ high₀ low high = Open (λ (k : ℕ). getD block (s * k + 2) 0) n x low high
 
 abbrev μ-loop : tie.MeasureT-loop
-μ-loop block s off n x low₀ high₀ low high = steps (high - low)
+μ-loop block s n x low₀ high₀ low high = steps (high - low)
 
 -- the middle item stands among n, and so do its words
 inside : (s n low high : ℕ) → low < high → high ≤ n → s * middle low high + s ≤ s * n

@@ -1,32 +1,40 @@
 use denote.Ref.{now}
+use mathlib.Core.Path.{refl}
 use Rattle.searches.proofs.Windows.{Spanned, spanned, part-is}
-use Rattle.searches.proofs.Finding.{lows, highs}
+use Rattle.searches.proofs.Spots.{spot-first}
+use Rattle.searches.proofs.Ends.{few, begun-by}
 use native.Mathlib.Omega.{arith}
 use borrow.Author.Needs.{needs}
 use Rattle.searches.proofs.part_at.Statement.{statement}
 use Rattle.searches.proofs.part_at.Tie as tie
 
-first-from-requires : tie.Need-first-from-requires
-first-from-requires c κs = let start = c .before .before in highs (start .pre .two) (start .pre .block) (c .count-of .ensures)
+spot-of-requires : tie.Need-spot-of-requires
+spot-of-requires c κs = let p = c .before .pre in (p .two, p .block)
 
-first-past-requires : tie.Need-first-past-requires
-first-past-requires c κs =
-    let start = c .before .before .before in lows (start .pre .two) (start .pre .block) (c .before .count-of .ensures)
+spot-of-requires-2 : tie.Need-spot-of-requires-2
+spot-of-requires-2 c κs = let p = c .before .before .pre in (p .two, p .block)
+
+add-chosen : tie.Need-add-chosen
+add-chosen c = let p = c .before .before .before .before .pre in record { fits = omega (arith, few (p .two) (p .block) (c .before .spot-of2 .ensures)) }
 
 -- the two items that were found stand in order, and in the block
-found : (c : tie.After-first-past) → let a = c .before .before .before .before .args in
-    Spanned (a .layout .width) (c .before .first-from .result) (c .first-past .result) (now (a .block))
-found c = spanned (c .before .before .before .before .pre) (c .before .before .count-of .ensures) (c .before .first-from .ensures) (c .first-past .ensures)
+found : (c : tie.After-chosen) → let a = c .before .before .before .before .before .args in
+    Spanned (a .layout .width) (c .before .before .before .spot-of .result .below) (c .chosen .result) (now (a .block))
+found c =
+    let p = c .before .before .before .before .before .pre in
+    spanned p refl (spot-first (p .two) (p .block) (c .before .before .before .spot-of .ensures))
+    (begun-by (p .two) (p .block) (c .before .before .spot-of2 .ensures) (c .chosen .ensures))
 
 returns : tie.Need-returns
 returns c =
-    let at-first-past = c .before .before in
-    let at-first-from = at-first-past .before in
-    let at-count-of = at-first-from .before in
-    part-is (at-count-of .before .before .pre) (at-count-of .count-of .ensures) (at-first-from .first-from .ensures) (at-first-past .first-past .ensures)
+    let at-chosen = c .before .before .before in
+    let p = at-chosen .before .before .before .before .before .pre in
+    part-is p refl (spot-first (p .two) (p .block) (at-chosen .before .before .before .spot-of .ensures))
+    (begun-by (p .two) (p .block) (at-chosen .before .before .spot-of2 .ensures) (at-chosen .chosen .ensures))
 
 pub part-at-spec : {M : Type 1} → statement M
 part-at-spec =
-    tie.close (tie.spec (λ c κs. search needs) first-from-requires first-past-requires (λ c. record { fits = omega (arith, found (c .before)) })
-    (λ c. record { fits = omega (arith, found (c .before)) }) (λ c. record { fits = omega (arith, found (c .before .before)) })
-    (λ c. record { fits = omega (arith, found (c .before .before)) }) (λ c. omega (arith, found (c .before .before))) returns)
+    tie.close (tie.spec spot-of-requires spot-of-requires-2 add-chosen (λ c κs. search needs)
+    (λ c. record { fits = omega (arith, found (c .before .before)) }) (λ c. record { fits = omega (arith, found (c .before .before)) })
+    (λ c. record { fits = omega (arith, found (c .before .before .before)) }) (λ c. record { fits = omega (arith, found (c .before .before .before)) })
+    (λ c. omega (arith, found (c .before .before .before))) returns)

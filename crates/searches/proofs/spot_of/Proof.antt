@@ -2,7 +2,7 @@ use denote.Ref.{now}
 use Prim.Native.Nat.{_+_, _*_, _≤_}
 use lib.ListN.{length}
 use Rattle.searches.proofs.Finding.{highs}
-use Rattle.searches.proofs.Spots.{spot-end, item-held, spot-under, spot-in}
+use Rattle.searches.proofs.Spots.{spot-end, item-held, spot-by}
 use native.Mathlib.Omega.{arith}
 use borrow.Author.Needs.{needs}
 use Rattle.searches.proofs.spot_of.Statement.{statement}
@@ -27,22 +27,11 @@ item c =
 
 returns-2 : tie.Need-returns-2
 returns-2 c =
-    let at-word = c .before in
-    let at-if1 = at-word .before .before in
+    let at-if1 = c .before .before in
     let p = at-if1 .before .before .before .before .pre in
-    spot-under (p .0) (p .1) (at-if1 .before .before .count-of .ensures) (at-if1 .before .first-from .ensures) (at-if1 .if1 .left) _ (at-word .word .ensures)
-    (c .if2 .taken)
-
-returns-3 : tie.Need-returns-3
-returns-3 c =
-    let at-word = c .before in
-    let at-if1 = at-word .before .before in
-    let p = at-if1 .before .before .before .before .pre in
-    spot-in (p .0) (p .1) (at-if1 .before .before .count-of .ensures) (at-if1 .before .first-from .ensures) (at-if1 .if1 .left) _ (at-word .word .ensures)
-    (c .if2 .left)
+    spot-by (p .0) (p .1) (at-if1 .before .before .count-of .ensures) (at-if1 .before .first-from .ensures) (at-if1 .if1 .left) _ (c .word .ensures)
 
 pub spot-of-spec : {M : Type 1} → statement M
 spot-of-spec =
     tie.close (tie.spec (λ c κs. search needs) first-from-requires returns (λ c. record { fits = omega (arith, item (c .before)) })
-    (λ c. record { fits = omega (arith, item (c .before)) })
-    (λ c κs. omega (arith, c .before .before .before .before .before .pre .0, item (c .before))) returns-2 returns-3)
+    (λ c. record { fits = omega (arith, item (c .before)) }) (λ c κs. omega (arith, c .before .before .before .before .before .pre .0, item (c .before))) returns-2)
