@@ -1,7 +1,7 @@
 // Runs the worked numbers that are not in the proved table, and published examples of both checks; writes what each gave.
 use answers::Judged;
 use answers::Refusal;
-use answers::Truth;
+use answers::Seated;
 use answers::Written;
 
 // The refusal, to the end of the line.
@@ -26,23 +26,35 @@ fn judged(name: &[u8], answer: Judged) {
     }
 }
 
-// A question, and its answer.
-fn truth(name: &[u8], answer: Truth) {
+// Yes or no, and how many ranges lie wholly below, to the end of the line.
+fn counted(answer: &[u8], below: usize) {
+    io::write_all(1, answer);
+    io::print_decimal(1, below as u64);
+    io::write_all(1, b" below\n");
+}
+
+// A question about a member, and its answer.
+fn seated(name: &[u8], answer: Seated) {
     io::write_all(1, name);
     match answer {
-        Truth::Yes => {
-            io::write_all(1, b"yes\n");
-        }
-        Truth::No => {
-            io::write_all(1, b"no\n");
-        }
-        Truth::Refused(f) => refused(f),
+        Seated::Yes(below) => counted(b"yes, ", below),
+        Seated::No(below) => counted(b"no, ", below),
+        Seated::Refused(f) => refused(f),
     }
+}
+
+// [W1] Where numbers sit in a set.
+fn sits(set: &[u64]) {
+    seated(b"4 in {5..9, 20..29}: ", sets::member(set, 4));
+    seated(b"9 in {5..9, 20..29}: ", sets::member(set, 9));
+    seated(b"12 in {5..9, 20..29}: ", sets::member(set, 12));
+    seated(b"20 in {5..9, 20..29}: ", sets::member(set, 20));
+    seated(b"30 in {5..9, 20..29}: ", sets::member(set, 30));
 }
 
 // [N-N] a block of no words as an input. The words lent here are cut to none.
 fn no_input(words: &[u64], out: &mut [u64]) {
-    truth(b"N member: ", sets::member(&words[0..0], 5));
+    seated(b"N member: ", sets::member(&words[0..0], 5));
     judged(
         b"N second input of a union: ",
         sets::union(words, &words[0..0], out),
@@ -108,6 +120,8 @@ fn main() {
     let mut block = [0u64; 1];
     no_input(&empty, &mut block);
     no_block(&empty, &mut block);
+    let two_ranges = [2u64, 5, 9, 20, 29];
+    sits(&two_ranges);
     old_check(
         b"O old check of 0..0: ",
         b"\x10\x00\x00\x00\x00\x00\x00\x00\x00\x00\x00\x00\x00\x00\x00\x00\x00",

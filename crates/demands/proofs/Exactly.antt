@@ -8,10 +8,9 @@ use lib.ListN.{length}
 use borrow.Author.Tests.{le-ltb, le-leb}
 use Rattle.entries.specs.Entries.{Value, Entry}
 use Rattle.entries.specs.Build.{pick}
-use Rattle.entries.specs.Sets.{member}
 use Rattle.answers.specs.declared.Finding.{Finding}
 use Rattle.answers.specs.Answers.{outcome, refuse, truth, Clear}
-use Rattle.blocks.specs.Blocks.{setLayout, mapLayout, capacity, entriesOf, blockOf, verdict}
+use Rattle.blocks.specs.Blocks.{setLayout, mapLayout, capacity, entriesOf, blockOf}
 use Rattle.blocks.specs.Calls.{input, output, backwards}
 use Rattle.blocks.proofs.Refusing.{some-words, in-order}
 use Rattle.edits.specs.Calls.{edited, editCall}
@@ -19,12 +18,12 @@ use Rattle.operations.specs.Calls.{fromTwo, fromOne}
 use Rattle.sets.specs.Calls.{memberCall, insertCall, removeCall}
 use Rattle.maps.specs.Calls.{worth, lookUpCall}
 use Rattle.forms.proofs.Forms.{has-words}
-use Rattle.demands.specs.Plain.{SetLeft, Iff, In, ValueOf, between, leaves, Left}
+use Rattle.demands.specs.Plain.{SetLeft, Iff, In, ValueOf, between, truthOf, leaves, Left}
 use Rattle.demands.specs.Changes.{EditRoom, TwoRoom, OneRoom, ChangesKeep}
 use Rattle.demands.specs.Changes.{InsertedMember, RemovedMember, OtherMember, AssignedValue, ErasedValue, OtherValue}
 use Rattle.demands.proofs.Sets.{edit-keeps, two-keeps, one-keeps, empty-keeps, insert-means, remove-means}
 use Rattle.demands.proofs.Maps.{assign-means, erase-means}
-use Rattle.demands.proofs.Questions.{asked-sound}
+use Rattle.demands.proofs.Questions.{truth-sound}
 use Rattle.demands.proofs.MapQuestions.{looked}
 use Rattle.demands.proofs.Changes.{edit-accepted}
 use Rattle.demands.proofs.Rooms.{input-not, range-not, output-not, refused-alone}
@@ -80,37 +79,33 @@ pub changes-keep : ChangesKeep
 changes-keep = (edit-keeps, two-keeps, one-keeps, empty-keeps)
 
 -- FROM A CHANGE TO THE NEXT QUESTION
-asked : (w : List ℕ) (x : ℕ) → verdict setLayout w ≡ 0 → memberCall w x ≡ outcome (truth (In w x)) []
-unfolding memberCall
-asked w x s = asked-sound w (λ es. truth (member es x)) s
-
 in-between : (a b x : ℕ) → a ≤ x → x ≤ b → between a b x ≡ true
 in-between a b x h k = rw (le-leb a x h, le-leb x b k)
 
 pub inserted-member : InsertedMember
 inserted-member w a b after e x h k =
     let l = insert-means w a b [] after e in
-    asked after x (l .sound) ∙ ap (λ (t : Bool). outcome (truth t) []) (l .members x ∙ ap (λ (t : Bool). pick t true (In w x)) (in-between a b x h k))
+    truth-sound after x (l .sound) ∙ ap (λ (t : Bool). outcome (truth t) []) (l .members x ∙ ap (λ (t : Bool). pick t true (In w x)) (in-between a b x h k))
 
 pub removed-member : RemovedMember
 removed-member w a b after e x h k =
     let l = remove-means w a b [] after e in
-    asked after x (l .sound) ∙ ap (λ (t : Bool). outcome (truth t) []) (l .members x ∙ ap (λ (t : Bool). pick t false (In w x)) (in-between a b x h k))
+    truth-sound after x (l .sound) ∙ ap (λ (t : Bool). outcome (truth t) []) (l .members x ∙ ap (λ (t : Bool). pick t false (In w x)) (in-between a b x h k))
 
 pub other-member : OtherMember
 other-member w a b after x out = (kept-in, kept-out)
   where
     -- a change that leaves the value t on a..b, and elsewhere what was there
     kept : (o : Option Value) (t : Bool) → editCall setLayout w a b o ≡ leaves after → SetLeft (length w) (λ y. pick (between a b y) t (In w y)) after
-        → memberCall after x ≡ memberCall w x
+        → truthOf (memberCall after x) ≡ truthOf (memberCall w x)
     kept o t e l =
-        asked after x (l .sound) ∙ ap (λ (u : Bool). outcome (truth u) []) (l .members x ∙ ap (λ (u : Bool). pick u t (In w x)) out)
-        ∙ sym (asked w x (edit-accepted setLayout w a b o after e .sound))
+        truth-sound after x (l .sound) ∙ ap (λ (u : Bool). outcome (truth u) []) (l .members x ∙ ap (λ (u : Bool). pick u t (In w x)) out)
+        ∙ sym (truth-sound w x (edit-accepted setLayout w a b o after e .sound))
 
-    kept-in : insertCall w a b ≡ leaves after → memberCall after x ≡ memberCall w x
+    kept-in : insertCall w a b ≡ leaves after → truthOf (memberCall after x) ≡ truthOf (memberCall w x)
     kept-in e = kept (some []) true e (insert-means w a b [] after e)
 
-    kept-out : removeCall w a b ≡ leaves after → memberCall after x ≡ memberCall w x
+    kept-out : removeCall w a b ≡ leaves after → truthOf (memberCall after x) ≡ truthOf (memberCall w x)
     kept-out e = kept none false e (remove-means w a b [] after e)
 
 pub assigned-value : AssignedValue

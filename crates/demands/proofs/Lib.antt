@@ -11,6 +11,7 @@ pub mod Changes
 pub mod Exactly
 pub mod Fits
 pub mod Signed
+pub mod Seats
 pub mod Stored
 pub mod Bulletins
 pub mod Forms

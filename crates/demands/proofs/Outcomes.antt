@@ -13,9 +13,9 @@ use borrow.Author.Tests.{le-ltb}
 use Rattle.entries.specs.Entries.{Value, Entry, Each}
 use Rattle.entries.specs.Build.{pick}
 use Rattle.entries.specs.Sets.{intersection, difference, symmetricDifference}
-use Rattle.entries.specs.Questions.{rangeAt, sizeOf, leastMember, isEmpty}
+use Rattle.entries.specs.Questions.{rangeAt, sizeOf, leastMember, isEmpty, whollyBelow}
 use Rattle.answers.specs.declared.Finding.{Finding}
-use Rattle.answers.specs.Answers.{given, Outcome, outcome, refuse, judged, inTurn, handed, Clear, at, truth, optional, lessOne}
+use Rattle.answers.specs.Answers.{given, Outcome, outcome, refuse, judged, inTurn, handed, Clear, at, truth, seated, optional, lessOne}
 use Rattle.answers.specs.Steps.{Named}
 use Rattle.answers.proofs.Turns.{turn-keeps, turn-accepted, clear-turn, refused≢given, refused-named}
 use Rattle.blocks.specs.declared.Layout.{Layout}
@@ -232,6 +232,11 @@ truth-gives : (t : Bool) → Accepts (outcome (truth t) [])
 truth-gives true = gives (1 ∷ [])
 truth-gives false = gives (0 ∷ [])
 
+-- with a count,
+seated-gives : (t : Bool) (below : ℕ) → Accepts (outcome (seated t below) [])
+seated-gives true below = gives (1 ∷ below ∷ [])
+seated-gives false below = gives (0 ∷ below ∷ [])
+
 -- a number or none,
 optional-gives : (o : Option ℕ) → Accepts (outcome (optional o) [])
 optional-gives (some n) = gives (n ∷ [])
@@ -276,7 +281,7 @@ both-accept l w v o d = iff-by (accepts-clear (input 0 l w ∷ input 1 l v ∷ [
 pub asked-accepted-exactly : AskedAccepted
 unfolding memberCall rangeAtCall sizeCall leastMemberCall leastNonMemberCall lookUpCall
 asked-accepted-exactly w x = (
-  sound-accepts setLayout w _ (truth-gives (In w x)),
+  sound-accepts setLayout w _ (seated-gives (In w x) (length (whollyBelow x (entriesOf 2 w)))),
   sound-accepts setLayout w _ (ends-gives (rangeAt (entriesOf 2 w) x)),
   sound-accepts setLayout w _ (size-gives (sizeOf (entriesOf 2 w))),
   sound-accepts setLayout w _ (optional-gives (leastMember (entriesOf 2 w) x)),

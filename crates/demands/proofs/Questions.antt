@@ -11,11 +11,11 @@ use borrow.Author.Tests.{le-ltb, leb-true, eqb-true, eqb-false, ne-eqb}
 use Rattle.entries.specs.Entries.{Value, Entry, Sound, valueAt}
 use Rattle.entries.specs.Build.{pick, andb}
 use Rattle.entries.specs.Sets.{M, pastM, has, member, lessb, symmetricDifference, difference, intersection, complement}
-use Rattle.entries.specs.Questions.{rangeAt, sizeOf, leastMember, isEmpty, meeting, count}
+use Rattle.entries.specs.Questions.{rangeAt, sizeOf, leastMember, isEmpty, meeting, whollyBelow, count}
 use Rattle.entries.proofs.Values.{true≢false}
 use Rattle.entries.proofs.Sets.{complement-is}
 use Rattle.entries.proofs.Questions.{size-counts, LeastOf, least-member, outside, non-member, non-member-none, range-in, range-out, none-empty}
-use Rattle.answers.specs.Answers.{Answer, given, Outcome, outcome, truth, optional, lessOne, handed}
+use Rattle.answers.specs.Answers.{Answer, given, Outcome, outcome, truth, seated, optional, lessOne, handed}
 use Rattle.answers.proofs.Turns.{clear-turn}
 use Rattle.blocks.specs.Blocks.{setLayout, entriesOf, wordsOf, verdict, Lent}
 use Rattle.blocks.specs.Steps.{zero-item}
@@ -30,7 +30,7 @@ use Rattle.sets.specs.Calls.{asked, ends, nonMember, memberCall, rangeAtCall, s
 use Rattle.sets.specs.Calls.{disjointCall}
 use Rattle.sweeps.proofs.Tables.{bounded}
 use Rattle.sets.proofs.Sizes.{entries-under}
-use Rattle.demands.specs.Plain.{SoundSet, InRange, In, answers, yes, no}
+use Rattle.demands.specs.Plain.{SoundSet, InRange, In, answers, yes, no, truthOf}
 use Rattle.demands.specs.Questions.{Answers, InSet, Member, RangeAt, Size, LeastMember, LeastNonMember, SetWindow, Equal, Within, Disjoint}
 use Rattle.demands.proofs.Sets.{equal-means, means-equal, within-means, means-within, disjoint-means, means-disjoint}
 use Rattle.demands.proofs.Words.{split, InItem, in-item, item-in}
@@ -87,9 +87,21 @@ decided call b P e f g = (
     not-true true n = absurd (n refl)
     not-true false n = refl
 
-pub member-means : Member
+-- [S1, W1] membership of a sound block: yes or no, with the count;
+pub seated-sound : (w : List ℕ) (x : ℕ) → SoundSet w → memberCall w x ≡ outcome (seated (In w x) (length (whollyBelow x (entriesOf 2 w)))) []
 unfolding memberCall
-member-means w x s = decided (memberCall w x) (In w x) (InRange w x) (asked-sound w (λ es. truth (member es x)) s) (in-range w x s) (range-in-set w x s)
+seated-sound w x s = asked-sound w (λ es. seated (member es x) (length (whollyBelow x es))) s
+
+-- without it, yes or no
+pub truth-sound : (w : List ℕ) (x : ℕ) → SoundSet w → truthOf (memberCall w x) ≡ outcome (truth (In w x)) []
+truth-sound w x s = ap truthOf (seated-sound w x s) ∙ go (In w x)
+  where
+    go : (t : Bool) → truthOf (outcome (seated t (length (whollyBelow x (entriesOf 2 w)))) []) ≡ outcome (truth t) []
+    go true = refl
+    go false = refl
+
+pub member-means : Member
+member-means w x s = decided (truthOf (memberCall w x)) (In w x) (InRange w x) (truth-sound w x s) (in-range w x s) (range-in-set w x s)
 
 -- the range at an index
 pub range-at-means : RangeAt

@@ -95,10 +95,10 @@ module _ (x y : ℕ) where
 
 -- the same of a number x, whose key is l, and a key k and its word
 module _ (x : ℕ) {l : ℤ} (p : keyOf x ≡ l) (k : ℤ) (i : IsKey k) where
-  up-to : Iff (x ≤ wordOf k) (leZ l k ≡ true)
+  pub up-to : Iff (x ≤ wordOf k) (leZ l k ≡ true)
   up-to = at-most x (wordOf k) p (key-back k i)
 
-  down-to : Iff (wordOf k ≤ x) (leZ k l ≡ true)
+  pub down-to : Iff (wordOf k ≤ x) (leZ k l ≡ true)
   down-to = at-most (wordOf k) x (key-back k i) p
 
 -- and of two keys and their words

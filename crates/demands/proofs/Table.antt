@@ -86,6 +86,10 @@ lessM = M - 1
 abbrev F : List ℕ
 F = 3 ∷ 0 ∷ 3 ∷ 8 ∷ 9 ∷ 12 ∷ M ∷ []
 
+-- the set in which a number's place is asked for
+abbrev W : List ℕ
+W = 2 ∷ 5 ∷ 9 ∷ 20 ∷ 29 ∷ []
+
 -- the bytes of cases H and I
 abbrev H : List ℕ
 H = 0xC5 ∷ 0x3A ∷ 0x01 ∷ 0x00 ∷ 0x01 ∷ 0x04 ∷ 0x02 ∷ 0xC5 ∷ 0x3A ∷ 0x10 ∷ 0 ∷ 0 ∷ 0 ∷ 0 ∷ 0 ∷ 0 ∷ 0 ∷ 5 ∷ 0 ∷ 0 ∷ 0 ∷ 0 ∷ 0 ∷ 0 ∷ 0 ∷ 9 ∷ 0x47 ∷ 0x1E ∷ []
@@ -308,7 +312,7 @@ table =
     -- [B3, B4, R1, R2, R3] blocks that are not sound: no words; a count above the capacity of one word, of three, and M in every word; M
     -- as a high that is not last
     ∷ case (memberCall [] 7) (outcome (refused 1 0) [])
-    ∷ case (memberCall (0 ∷ []) 7) (answer (0 ∷ []))
+    ∷ case (memberCall (0 ∷ []) 7) (answer (0 ∷ 0 ∷ []))
     ∷ case (memberCall (1 ∷ []) 7) (outcome (refused 2 0) [])
     ∷ case (memberCall (2 ∷ 1 ∷ 2 ∷ []) 7) (outcome (refused 2 0) [])
     ∷ case (memberCall (M ∷ M ∷ M ∷ []) 7) (outcome (refused 2 0) [])
@@ -330,6 +334,18 @@ table =
     ∷ case (lookUpCall (2 ∷ 0 ∷ 4 ∷ 1 ∷ 5 ∷ 9 ∷ 1 ∷ []) 5) (outcome (refused 3 0) [])
     ∷ case (lookUpCall (2 ∷ 0 ∷ 4 ∷ 0 ∷ 5 ∷ 9 ∷ 1 ∷ []) 4) (answer (0 ∷ []))
     ∷ case (lookUpCall (2 ∷ 0 ∷ 4 ∷ 0 ∷ 5 ∷ 9 ∷ 1 ∷ []) 10) (answer [])
+    -- [S1, W1, W3] where a number sits in {5..9, 20..29}: below the first range, at its ends, between the two, in the second, behind it; in the
+    -- full set, at 0 and at M
+    ∷ case (memberCall W 4) (answer (0 ∷ 0 ∷ []))
+    ∷ case (memberCall W 5) (answer (1 ∷ 0 ∷ []))
+    ∷ case (memberCall W 9) (answer (1 ∷ 0 ∷ []))
+    ∷ case (memberCall W 12) (answer (0 ∷ 1 ∷ []))
+    ∷ case (memberCall W 20) (answer (1 ∷ 1 ∷ []))
+    ∷ case (memberCall W 30) (answer (0 ∷ 2 ∷ []))
+    ∷ case (rangeAtCall W 0) (answer (5 ∷ 9 ∷ []))
+    ∷ case (rangeAtCall W 1) (answer (20 ∷ 29 ∷ []))
+    ∷ case (memberCall (1 ∷ 0 ∷ M ∷ []) 0) (answer (1 ∷ 0 ∷ []))
+    ∷ case (memberCall (1 ∷ 0 ∷ M ∷ []) M) (answer (1 ∷ 0 ∷ []))
     -- [S8, R1, R18] make empty: of a block that is not sound, and of one with no words
     ∷ case (makeEmptyCall (9 ∷ 9 ∷ 9 ∷ [])) (accepted (0 ∷ 0 ∷ 0 ∷ []))
     ∷ case (makeEmptyCall []) (refusing 1 0 [])
@@ -400,9 +416,10 @@ table =
     ∷ case (outcome (rangedKeysSays (rangedKeys.Range (less 5) (pos 3))) []) (rangeAtCall K 0)
     ∷ case (outcome (placedKeySays (placedKey.At (pos 4))) []) (firstFitCall K (wordOf (less 5)) (wordOf mostKey) 2)
     -- [K2] of {-5..3}: -1 and 0 are members, 4 is not; least members and non-members; the window -9..-5; fits, and their reservations
-    ∷ case (memberCall K (wordOf (less 1))) (answer (1 ∷ []))
-    ∷ case (memberCall K (wordOf (pos 0))) (answer (1 ∷ []))
-    ∷ case (memberCall K (wordOf (pos 4))) (answer (0 ∷ []))
+    ∷ case (memberCall K (wordOf (less 1))) (answer (1 ∷ 0 ∷ []))
+    ∷ case (memberCall K (wordOf (pos 0))) (answer (1 ∷ 0 ∷ []))
+    ∷ case (memberCall K (wordOf (pos 4))) (answer (0 ∷ 1 ∷ []))
+    ∷ case (memberCall K (wordOf (less 6))) (answer (0 ∷ 0 ∷ []))
     ∷ case (leastMemberCall K (wordOf leastKey)) (answer (wordOf (less 5) ∷ []))
     ∷ case (leastMemberCall K (wordOf (pos 4))) (answer [])
     ∷ case (leastNonMemberCall K (wordOf (less 1))) (answer (wordOf (pos 4) ∷ []))

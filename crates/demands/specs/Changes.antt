@@ -17,7 +17,7 @@ use Rattle.operations.specs.Calls.{fromTwo, fromOne}
 use Rattle.sets.specs.Calls.{makeEmptyCall, insertCall, removeCall, unionCall, intersectionCall, differenceCall, symmetricDifferenceCall, complementCall}
 use Rattle.sets.specs.Calls.{memberCall}
 use Rattle.maps.specs.Calls.{lookUpCall, assignCall, eraseCall, overlayCall, restrictionCall, domainCall}
-use Rattle.demands.specs.Plain.{Iff, In, ValueOf, yes, no, answers, leaves, Left, SetLeft, between}
+use Rattle.demands.specs.Plain.{Iff, In, ValueOf, yes, no, truthOf, answers, leaves, Left, SetLeft, between}
 
 -- [S8] make empty: no number is a member
 abbrev pub MakeEmpty : Type 0
@@ -111,16 +111,17 @@ ChangesKeep = ((l : Layout) (w : List ℕ) (a b : ℕ) (o : Option Value) → Ke
 
 -- [S9, S1, D2] FROM A CHANGE TO THE NEXT QUESTION, as a user's proof cites it: a number that was inserted is a member,
 abbrev pub InsertedMember : Type 0
-InsertedMember = (w : List ℕ) (a b : ℕ) (after : List ℕ) → insertCall w a b ≡ leaves after → (x : ℕ) → a ≤ x → x ≤ b → memberCall after x ≡ yes
+InsertedMember = (w : List ℕ) (a b : ℕ) (after : List ℕ) → insertCall w a b ≡ leaves after → (x : ℕ) → a ≤ x → x ≤ b → truthOf (memberCall after x) ≡ yes
 
 -- [S10, S1, D2] one that was removed is not,
 abbrev pub RemovedMember : Type 0
-RemovedMember = (w : List ℕ) (a b : ℕ) (after : List ℕ) → removeCall w a b ≡ leaves after → (x : ℕ) → a ≤ x → x ≤ b → memberCall after x ≡ no
+RemovedMember = (w : List ℕ) (a b : ℕ) (after : List ℕ) → removeCall w a b ≡ leaves after → (x : ℕ) → a ≤ x → x ≤ b → truthOf (memberCall after x) ≡ no
 
--- [S9, S10, S1, D2] and of every other number the answer is what it was.
+-- [S9, S10, S1, D2] and of every other number the answer is what it was: yes or no, since more or fewer ranges may now lie below it.
 abbrev pub OtherMember : Type 0
 OtherMember = (w : List ℕ) (a b : ℕ) (after : List ℕ) → (x : ℕ) → between a b x ≡ false
-    → (insertCall w a b ≡ leaves after → memberCall after x ≡ memberCall w x) × (removeCall w a b ≡ leaves after → memberCall after x ≡ memberCall w x)
+    → (insertCall w a b ≡ leaves after → truthOf (memberCall after x) ≡ truthOf (memberCall w x))
+    × (removeCall w a b ≡ leaves after → truthOf (memberCall after x) ≡ truthOf (memberCall w x))
 
 -- [M2, M1, D2] A number that was assigned v has the value v,
 abbrev pub AssignedValue : Type 0

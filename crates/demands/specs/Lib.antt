@@ -1,6 +1,7 @@
 pub mod Plain
 pub mod Outcomes
 pub mod Questions
+pub mod Seats
 pub mod Changes
 pub mod Fits
 pub mod Stored

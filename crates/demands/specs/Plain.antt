@@ -9,7 +9,7 @@ use lib.ListN.{length, getD, take, drop}
 use Rattle.entries.specs.Entries.{Value, valueAt}
 use Rattle.entries.specs.Build.{andb}
 use Rattle.entries.specs.Sets.{member}
-use Rattle.answers.specs.Answers.{given, Outcome, outcome}
+use Rattle.answers.specs.Answers.{given, refused, Outcome, outcome}
 use Rattle.blocks.specs.declared.Layout.{Layout}
 use Rattle.blocks.specs.Blocks.{setLayout, mapLayout, capacity, entriesOf, blockOf, verdict}
 
@@ -60,6 +60,18 @@ yes = answers (1 ∷ [])
 -- and 0
 abbrev pub no : Outcome
 no = answers (0 ∷ [])
+
+-- [W1] the answers of membership, with the count of the ranges that lie wholly below
+abbrev pub yesWith : ℕ → Outcome
+yesWith below = answers (1 ∷ below ∷ [])
+
+abbrev pub noWith : ℕ → Outcome
+noWith below = answers (0 ∷ below ∷ [])
+
+-- [S1] and what they say without it: yes or no, or the refusal
+abbrev pub truthOf : Outcome → Outcome
+truthOf (outcome (given values) lent) = outcome (given (take 1 values)) lent
+truthOf (outcome (refused number place) lent) = outcome (refused number place) lent
 
 -- a change accepted with no value, and the words that it leaves in the one block that it writes
 abbrev pub leaves : List ℕ → Outcome

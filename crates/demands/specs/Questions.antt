@@ -15,7 +15,7 @@ use Rattle.entries.specs.Sets.{has}
 use Rattle.maps.specs.Calls.{lookUpCall, mapWindowCall, siteOverFactoryCall, wordsOfTwo}
 use Rattle.sets.specs.Calls.{memberCall, rangeAtCall, sizeCall, leastMemberCall, leastNonMemberCall, setWindowCall, equalCall, withinCall, disjointCall}
 use Rattle.searches.specs.Parts.{wordsAt}
-use Rattle.demands.specs.Plain.{Iff, SoundSet, SoundMap, InRange, InEntry, In, ValueOf, answers, yes, no}
+use Rattle.demands.specs.Plain.{Iff, SoundSet, SoundMap, InRange, InEntry, In, ValueOf, answers, yes, no, truthOf}
 
 -- [B1, B2] the plain set is exactly what the words say
 abbrev pub InSet : Type 0
@@ -29,9 +29,9 @@ InMap = (w : List ℕ) (x v : ℕ) → SoundMap w → Iff (ValueOf w x ≡ some 
 abbrev pub Answers : Outcome → Type 0 → Type 0
 Answers call P = Iff (call ≡ yes) P × Iff (call ≡ no) (P → ⊥)
 
--- [S1, D2] member: yes exactly if some range holds x
+-- [S1, D2] member: yes exactly if some range holds x (`MemberIs`, `HeldAt`, `NextTo` of specs/Seats: with which count)
 abbrev pub Member : Type 0
-Member = (w : List ℕ) (x : ℕ) → SoundSet w → Answers (memberCall w x) (InRange w x)
+Member = (w : List ℕ) (x : ℕ) → SoundSet w → Answers (truthOf (memberCall w x)) (InRange w x)
 
 -- [S2] the range at index i, or none if i is at least n
 abbrev pub RangeAt : Type 0

@@ -23,7 +23,7 @@ use Rattle.sets.specs.Calls.{memberCall, rangeAtCall, sizeCall, leastMemberCall
 use Rattle.sets.specs.Calls.{insertCall, removeCall, unionCall, intersectionCall, differenceCall, symmetricDifferenceCall, complementCall}
 use Rattle.fits.specs.Calls.{firstFitCall, bestFitCall, fitCall, reserveCall}
 use Rattle.fits.specs.Meaning.{FreeRun}
-use Rattle.demands.specs.Plain.{Iff, SoundSet, In, answers, leaves}
+use Rattle.demands.specs.Plain.{Iff, SoundSet, In, truthOf, answers, leaves}
 use Rattle.demands.specs.Questions.{Answers}
 
 -- [K1] THE SHIFT: each number of 0 to M is the word of exactly one key,
@@ -61,9 +61,9 @@ pub record InKeyRange (w : List ℕ) (k : ℤ) : Type 0 where
   pub low : leZ (keyOf (getD w (1 + 2 * index) 0)) k ≡ true
   pub high : leZ k (keyOf (getD w (2 + 2 * index) 0)) ≡ true
 
--- [K2] MEMBER: yes exactly if some range holds the key
+-- [K2] MEMBER: yes exactly if some range holds the key (`SeatKey` of specs/Seats: with which count)
 abbrev pub MemberKey : Type 0
-MemberKey = (w : List ℕ) (k : ℤ) → SoundSet w → IsKey k → Answers (memberCall w (wordOf k)) (InKeyRange w k)
+MemberKey = (w : List ℕ) (k : ℤ) → SoundSet w → IsKey k → Answers (truthOf (memberCall w (wordOf k))) (InKeyRange w k)
 
 -- [K2, K3] the least member at or above x as a key, or there is none
 abbrev pub LeastKey : Type 0

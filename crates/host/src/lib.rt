@@ -27,12 +27,12 @@ pub extern "C" fn wimblorque_set_make_empty(block: &mut [u64]) -> Told
     told::tell_judged(sets::make_empty(block))
 }
 
-// Is x a member? One value, 1 or 0.
+// [W4] Is x a member? Two values: 1 or 0, and how many ranges lie wholly below x.
 #[no_mangle]
 pub extern "C" fn wimblorque_set_member(block: &[u64], x: u64) -> Told
     ensures { λ r. ⌜ Tells r [] (memberCall (now (block .entry)) x) ⌝ }
 {
-    told::tell_truth(sets::member(block, x))
+    told::tell_seated(sets::member(block, x))
 }
 
 // The low and the high of the range at index i, or no values.
@@ -207,12 +207,12 @@ pub extern "C" fn wimblorque_set_reserve_best(block: &mut [u64], a: u64, b: u64,
     told::tell_placed(fits::reserve_best(block, a, b, k))
 }
 
-// Is the key x a member? One value, 1 or 0.
+// [W4] Is the key x a member? Two values: 1 or 0, and how many ranges lie wholly below x.
 #[no_mangle]
 pub extern "C" fn wimblorque_signed_member(block: &[u64], x: i64) -> Told
     ensures { λ r. ⌜ Tells r [] (memberCall (now (block .entry)) (wordOf x)) ⌝ }
 {
-    told::tell_truth(signed::member(block, x))
+    told::tell_seated(signed::member(block, x))
 }
 
 // The low and the high key of the range at index i, or no values.

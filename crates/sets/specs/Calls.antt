@@ -5,8 +5,8 @@ use Prim.Native.Nat.{ℕ}
 use lib.ListN.{length}
 use Rattle.entries.specs.Entries.{Entry}
 use Rattle.entries.specs.Sets.{member, union, intersection, difference, symmetricDifference, complement}
-use Rattle.entries.specs.Questions.{rangeAt, sizeOf, leastMember, isEmpty}
-use Rattle.answers.specs.Answers.{Answer, given, Outcome, outcome, inTurn, truth, optional, lessOne}
+use Rattle.entries.specs.Questions.{rangeAt, sizeOf, leastMember, isEmpty, whollyBelow}
+use Rattle.answers.specs.Answers.{Answer, given, Outcome, outcome, inTurn, truth, seated, optional, lessOne}
 use Rattle.blocks.specs.Blocks.{setLayout, entriesOf}
 use Rattle.blocks.specs.Calls.{input, output, holding}
 use Rattle.edits.specs.Calls.{editCall}
@@ -22,9 +22,9 @@ asked w answer = inTurn (input 0 setLayout w ∷ []) [] (outcome (answer (entrie
 unfoldable pub makeEmptyCall : List ℕ → Outcome
 makeEmptyCall w = inTurn (output 0 (length w) ∷ []) (w ∷ []) (holding w [])
 
--- [S1] is x a member
+-- [S1, W1] is x a member, and how many ranges lie wholly below it: whether it is one or not
 unfoldable pub memberCall : List ℕ → ℕ → Outcome
-memberCall w x = asked w (λ es. truth (member es x))
+memberCall w x = asked w (λ es. seated (member es x) (length (whollyBelow x es)))
 
 -- the low and the high of a range, or none
 abbrev pub ends : Option Entry → Answer

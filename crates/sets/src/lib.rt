@@ -10,7 +10,7 @@ ghost use Rattle.blocks.specs.Blocks.{setLayout, SoundBlock, entriesOf};
 ghost use Rattle.operations.specs.Calls.{fromTwo};
 ghost use Rattle.operations.specs.Steps.{TwoFit};
 ghost use Rattle.answers.specs.Answers.{outcome, truth, optional};
-ghost use Rattle.answers.specs.Says.{judgedSays, truthSays, foundSays, rangedSays, sizedSays, partedSays};
+ghost use Rattle.answers.specs.Says.{judgedSays, truthSays, seatedSays, foundSays, rangedSays, sizedSays, partedSays};
 ghost use Rattle.searches.specs.Parts.{IsPart};
 ghost use Rattle.sets.specs.Calls.{makeEmptyCall, memberCall, ends, rangeAtCall, sizeCall, leastMemberCall, nonMember, leastNonMemberCall};
 ghost use Rattle.sets.specs.Calls.{setWindowCall, setWindowAtCall, setWindowRefusalCall, insertCall, removeCall, askedTwo, equalCall};
@@ -21,6 +21,7 @@ use answers::Found;
 use answers::Judged;
 use answers::Parted;
 use answers::Ranged;
+use answers::Seated;
 use answers::Sized;
 use answers::Truth;
 use operations::Layouts;
@@ -37,19 +38,19 @@ pub fn make_empty(block: &mut [u64]) -> Judged
     answers::judged_of(0, 0)
 }
 
-// Whether x is a member.
-pub fn member(block: &[u64], x: u64) -> Truth
-    ensures { λ r. ⌜ outcome (truthSays r) [] ≡ memberCall (now (block .entry)) x ⌝ }
+// Whether x is a member, and how many ranges lie wholly below it. The range at that index holds x, or is the next one above it.
+pub fn member(block: &[u64], x: u64) -> Seated
+    ensures { λ r. ⌜ outcome (seatedSays r) [] ≡ memberCall (now (block .entry)) x ⌝ }
 {
     let v = blocks::judge(block, blocks::SET);
     if v != 0 {
-        return Truth::Refused(answers::refusal_of(v, 0));
+        return Seated::Refused(answers::refusal_of(v, 0));
     }
     let spot = searches::spot_of(block, blocks::SET, x);
     if spot.inside {
-        return Truth::Yes;
+        return Seated::Yes(spot.below);
     }
-    Truth::No
+    Seated::No(spot.below)
 }
 
 // The range at index i of a sound set.

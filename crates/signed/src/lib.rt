@@ -6,7 +6,7 @@ ghost use mathlib.Core.Path.{_≡_};
 ghost use mathlib.Core.List.{[], _∷_};
 ghost use Rattle.keys.specs.Keys.{wordOf};
 ghost use Rattle.answers.specs.Answers.{outcome};
-ghost use Rattle.answers.specs.Says.{judgedSays, truthSays, partedSays, foundKeySays, rangedKeysSays, placedKeySays};
+ghost use Rattle.answers.specs.Says.{judgedSays, seatedSays, partedSays, foundKeySays, rangedKeysSays, placedKeySays};
 ghost use Rattle.searches.specs.Parts.{IsPart};
 ghost use Rattle.sets.specs.Calls.{memberCall, rangeAtCall, leastMemberCall, leastNonMemberCall, setWindowCall, setWindowAtCall};
 ghost use Rattle.sets.specs.Calls.{setWindowRefusalCall, insertCall, removeCall};
@@ -16,11 +16,11 @@ use answers::Judged;
 use answers::Parted;
 use answers::PlacedKey;
 use answers::RangedKeys;
-use answers::Truth;
+use answers::Seated;
 
-// Whether the key x is a member.
-pub fn member(block: &[u64], x: i64) -> Truth
-    ensures { λ r. ⌜ outcome (truthSays r) [] ≡ memberCall (now (block .entry)) (wordOf x) ⌝ }
+// Whether the key x is a member, and how many ranges lie wholly below it.
+pub fn member(block: &[u64], x: i64) -> Seated
+    ensures { λ r. ⌜ outcome (seatedSays r) [] ≡ memberCall (now (block .entry)) (wordOf x) ⌝ }
 {
     sets::member(block, keys::word_of(x))
 }
