@@ -32,7 +32,8 @@
               or byte lent to it.
      place    of a refusal: the position of the block that is refused, counted from 0 as this header lists the call's blocks (inputs
               first, then outputs); for bytes, where the refused record begins; 0 for the other refusals. Accepted: 0.
-     count    how many values the call answers, 0 to 3. Refused: 0. A question that finds nothing answers 0 values, without exception.
+     count    how many values the call answers, 0 to 3. Refused: 0. A question that finds nothing answers 0 values, without exception;
+              the answer no is a value, 0.
      first, second, third    the values; 0 where there are fewer. A key stands here in two's complement, not as its word: it is
               (int64_t)answer.first. That cast is exact with gcc and clang, and by the standard from C23 and C++20 on.
    A part of a block is answered as its offset, in words from the block's start, and its length, in words.
@@ -56,7 +57,7 @@
 
 /* The version, here and nowhere else: CHANGELOG.md says what changed, and ./install writes it into wimblorque.pc. */
 #define WIMBLORQUE_VERSION_MAJOR 1
-#define WIMBLORQUE_VERSION_MINOR 3
+#define WIMBLORQUE_VERSION_MINOR 4
 #define WIMBLORQUE_VERSION_PATCH 0
 #define WIMBLORQUE_TEXT_OF(x) #x
 #define WIMBLORQUE_DOTTED(x, y, z) WIMBLORQUE_TEXT_OF(x) "." WIMBLORQUE_TEXT_OF(y) "." WIMBLORQUE_TEXT_OF(z)
@@ -152,8 +153,11 @@ typedef struct wimblorque_answer {
 
 /* ---- Sets: questions. They change nothing. Refused if the block is not sound: 1, 2, 3. ---- */
 
-/* Is x a member of the set in a block of words? One value, 1 or 0. (Of the byte form of a set, as it came over the wire, ask
-   wimblorque_member, below.) */
+/* Is x a member of the set in a block of words, and where does it lie? Two values, be it a member or not: first, 1 or 0; second, how many
+   ranges lie wholly below x, which is those whose high is below x: the range that holds x is not counted. wimblorque_set_range_at then
+   gives the neighbours. Where first is 1, the range at index second holds x. Where first is 0, the range at index second - 1 is the next
+   below x (there is none if second is 0), and the one at index second the next above it (none if that index answers no values). (Of the
+   byte form of a set, as it came over the wire, ask wimblorque_member, below, which answers 1 or 0 alone.) */
 WIMBLORQUE_MUST_USE wimblorque_answer wimblorque_set_member(const uint64_t *block, size_t words, uint64_t x);
 
 /* The range at index i, counted from 0. Two values, its low and its high; none if there are not that many. */
@@ -259,10 +263,13 @@ WIMBLORQUE_MUST_USE wimblorque_answer wimblorque_set_reserve_first(uint64_t *WIM
 WIMBLORQUE_MUST_USE wimblorque_answer wimblorque_set_reserve_best(uint64_t *WIMBLORQUE_RESTRICT block, size_t words, uint64_t a,
     uint64_t b, uint64_t k);
 
-/* ---- Signed sets: a key is an int64_t, an index i and a length k stay as they are. Each call is the one on sets of the same name, at
-   the keys: what it changes, answers and refuses, and where, is the same, with keys for numbers; 4 is low above high as keys. ---- */
+/* ---- Signed sets: a key is an int64_t; an index i, a length k and how many ranges there are stay as they are. Each call is the one on
+   sets of the same name, at the keys: what it changes, answers and refuses, and where, is the same, with keys for numbers; 4 is low above
+   high as keys. ---- */
 
-/* Is the key x a member? One value, 1 or 0. */
+/* Is the key x a member, and where does it lie? Two values, be it a member or not: first, 1 or 0; second, how many ranges lie wholly
+   below the key x, a number and no key: the range that holds x is not counted. wimblorque_signed_range_at then gives that range, at
+   index second, or the neighbours of x, at index second - 1 and second, as with wimblorque_set_member. */
 WIMBLORQUE_MUST_USE wimblorque_answer wimblorque_signed_member(const uint64_t *block, size_t words, int64_t x);
 
 /* The range at index i, counted from 0. Two values, its low and its high key; none if there are not that many. */
@@ -391,10 +398,11 @@ WIMBLORQUE_MUST_USE wimblorque_answer wimblorque_bulletin_read(const uint8_t *by
 /* Judges the byte form of a set and stores nothing. One value, the number of its ranges. Refused with 8 to 13. */
 WIMBLORQUE_MUST_USE wimblorque_answer wimblorque_set_judge_form(const uint8_t *bytes, size_t length);
 
-/* Is x a member of the set whose byte form is in the buffer? (Of a set in a block of words ask wimblorque_set_member.) Returns 1 or 0,
-   or 16 plus the refusal, 8 to 13. COMPARE WITH 1: a refusal is a number too, so `if (wimblorque_member(..))` takes a damaged list for
-   a yes. The whole form is judged before 1 or 0 is given: a form that reading refuses never answers 1 or 0. In an old form damage that
-   turns a 00 into FF or back may go unnoticed, in a new one no change of one byte. Changes nothing. */
+/* Is x a member of the set whose byte form is in the buffer? (Of a set in a block of words ask wimblorque_set_member, which tells also
+   where x lies.) Returns 1 or 0, or 16 plus the refusal, 8 to 13. COMPARE WITH 1: a refusal is a number too, so
+   `if (wimblorque_member(..))` takes a damaged list for a yes. The whole form is judged before 1 or 0 is given: a form that reading
+   refuses never answers 1 or 0. In an old form damage that turns a 00 into FF or back may go unnoticed, in a new one no change of one
+   byte. Changes nothing. */
 WIMBLORQUE_MUST_USE uint64_t wimblorque_member(const uint8_t *bytes, size_t length, uint64_t x);
 
 /* The same question, to be used as a condition: 1 if x is a member of the set whose byte form is in the buffer, else 0, also where the
