@@ -283,19 +283,42 @@ def mark_case(name, mark, i, way, seed):
 # ---- at every place of a list
 
 
-def place_case(name, count, place, seed):
-    """[L1] A call that searches, on a list of so many items: for a number just below one of them, its low, its high, or just above it. Each
-    four places are an item's. A window or a change is of that number alone."""
-    rng = random.Random(seed)
+def placed(name, rng, count, place):
+    """So many items, and a number just below one of them, its low, its high, or just above it: each four places are an item's."""
     items = shapes.fresh(rng, (kinds_of(name) or [SET])[0], count)
     items = shapes.about_zero(rng, items) if is_signed(name) else items
     low, high = items[place // 4][:2]
-    x = shapes.clipped([low - 1, low, high, high + 1][place % 4])
+    return items, shapes.clipped([low - 1, low, high, high + 1][place % 4])
+
+
+def place_case(name, count, place, seed):
+    """[L1, W1, W3] A call that searches, on a list of so many items: for the number at a place. A window or a change is of that number alone.
+    The range at an index is a neighbour of that number, or holds it: the next below it at the first of an item's places, and at the others
+    the one at the index that is told with the membership of the number."""
+    rng = random.Random(seed)
+    items, x = placed(name, rng, count, place)
     if name == "member":
         return Case(name, [form_of(name, [items], shapes.some_mark(rng))], [x], placement=rng.randrange(2))
     lists = [items] + some_lists(name, rng)[1:]
-    given = {"x": [x], "ab": [x, x], "abv": [x, x, shapes.number(rng)]}[ARGS_OF[name]]
+    index = sum(item[1] < x for item in items) - (1 if place % 4 == 0 else 0)
+    given = {"x": [x], "i": [index % 2**64], "ab": [x, x], "abv": [x, x, shapes.number(rng)]}[ARGS_OF[name]]
     return Case(name, [shapes.block(rng, kind, each) for kind, each in zip(kinds_of(name), lists)], as_given(name, given), placement=rng.randrange(2))
+
+
+BEGUN = ["fits", "too long", "far"]
+
+
+def begun_case(name, count, place, way, seed):
+    """[L1] A fit, on a list of so many ranges, in a window that begins at the number at a place: up to the end of the first gap from there on,
+    which the run just fills or is a number too long for; or far up, for a run about as long as one of the gaps."""
+    rng = random.Random(seed)
+    items, a = placed(name, rng, count, place)
+    low, high = (model.gaps(items, a, M) or [(M, M)])[0]
+    k = high - low + 1 + (way == "too long")
+    if way == "far":
+        high = rng.choice([M, max(a, shapes.near(rng, shapes.points_of(items)))])
+        k = max(1, some_k(rng, items, a, high))
+    return Case(name, [shapes.block(rng, SET, items)], as_given(name, [a, high, min(M, k)]), placement=rng.randrange(2))
 
 
 # ---- prefix blocks

@@ -224,10 +224,14 @@ def share_nothing(released, withdrawn):
 # ---- the calls on blocks; each answers the values, and writes into what it was lent
 
 
+def where(ranges, x):
+    """Is x in one of the ranges, 1 or 0; and how many of them lie wholly below x, so that the one that holds it is not counted."""
+    return [int(any(low <= x <= high for low, high in ranges)), sum(high < x for _, high in ranges)]
+
+
 def set_member(block, x):
-    """Is x a member."""
-    ranges = judged(SET, block, 0)
-    return [int(any(low <= x <= high for low, high in ranges))]
+    """Is x a member, and where does it lie."""
+    return where(judged(SET, block, 0), x)
 
 
 def set_range_at(block, i):
@@ -400,8 +404,8 @@ def store_keys(block, ranges):
 
 
 def signed_member(block, x):
-    """Is the key x a member."""
-    return [int(any(low <= x <= high for low, high in keys_in(block)))]
+    """Is the key x a member, and where does it lie."""
+    return where(keys_in(block), x)
 
 
 def signed_range_at(block, i):

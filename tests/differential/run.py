@@ -3,9 +3,10 @@
     run.py [--cases N] [--seconds S] [--seed X] [--sample N] [--tally] [--replay FILE] -- DRIVER...
 
 DRIVER... is the command of the C program of driver.c. Without options the seed and the number of cases are fixed. With --cases or
---seconds and no --seed a seed is drawn, and printed first; the cases made for refusals, limits, marks, searches and prefix blocks, about
-19,200, are always run. --sample N runs N cases of the fixed run, drawn by the seed, and asks nothing of the tally. --tally prints what was
-tried of each call. --replay runs one case that a mismatch left behind. The exit status is 1 on a mismatch, or if something was not tried.
+--seconds and no --seed a seed is drawn, and printed first; the cases made for refusals, limits, marks, searches, windows of fits and
+prefix blocks, about 28,900, are always run. --sample N runs N cases of the fixed run, drawn by the seed, and asks nothing of the tally.
+--tally prints what was tried of each call. --replay runs one case that a mismatch left behind. The exit status is 1 on a mismatch, or if
+something was not tried.
 """
 
 import argparse
@@ -26,7 +27,7 @@ CASES = 60000
 SEED = "1"
 PAIR_TIMES, SINGLE_TIMES, LIMIT_TIMES, FOREIGN_TIMES, MARK_TIMES = 5, 5, 10, 20, 2
 AT_LEAST = {"call": 10, "refusal": 5, "pair": PAIR_TIMES, "empty answer": 20, "refused foreign form": FOREIGN_TIMES // 2, "searched place": 1}
-AT_LEAST |= {"aligned range": 1, "long output": 10, "changed mark": MARK_TIMES, "taken form": 50}
+AT_LEAST |= {"begun window": 1, "aligned range": 1, "long output": 10, "changed mark": MARK_TIMES, "taken form": 50}
 BATCH = 500
 KEPT = "build/differential-mismatch.json"
 NAMES = [name for name, _, _ in model.CALLS]
@@ -34,9 +35,12 @@ NAMES = [name for name, _, _ in model.CALLS]
 MAY_FIND_NOTHING = ["set_range_at", "set_size", "set_least_member", "set_least_non_member", "set_window"]
 MAY_FIND_NOTHING += ["signed_range_at", "signed_least_member", "signed_least_non_member", "signed_window", "key_difference"]
 MAY_FIND_NOTHING += ["map_look_up", "map_window", "map_site_over_factory"]
-# The calls that search a list for a number, and the places of lists with so many items: four for each item.
-SEARCHING = [name for name in NAMES if name == "member" or refusals.ARGS_OF.get(name) in ("x", "ab", "abv")]
+# The calls that search a list for a number, and those that give the range at the index so found; the places of lists with so many items:
+# four for each item. The fits search for the first range of their window: each in a window that begins at each of the places.
+SEARCHING = [name for name in NAMES if name == "member" or refusals.ARGS_OF.get(name) in ("x", "i", "ab", "abv")]
 PLACES = [(count, place) for count in (1, 2, 3, 4, 5, 6, 7, 8, 9, 15, 16, 17) for place in range(4 * count)]
+FITS = [name for name in NAMES if refusals.ARGS_OF.get(name) == "abk"]
+WINDOWS = [(*place, way) for place in PLACES for way in generate.BEGUN]
 # The ranges about a prefix block of 2^e numbers, with ends at its own or one beside them; and the long outputs of prefix blocks: which
 # ranges, and how many words more than they need, or as many as a full set has.
 POWERS = [(e, i, j) for e in range(65) for i in (-1, 0, 1) for j in (-1, 0, 1)]
@@ -57,8 +61,8 @@ def header_calls():
 
 def jobs(cases):
     """What to try, in short: the wanted refusals of each call, alone and in pairs, the limits, forms of another kind than the one that is
-    read, another mark at every record, every place of a list that is searched, prefix blocks at every power of two and many of them, and
-    random cases up to so many."""
+    read, another mark at every record, every place of a list that is searched, windows of fits that begin at each, prefix blocks at every
+    power of two and many of them, and random cases up to so many."""
     listed = []
     for name in NAMES:
         listed += [("refusals", name, (x,), i) for x in refusals.refusals_of(name) for i in range(SINGLE_TIMES)]
@@ -67,6 +71,7 @@ def jobs(cases):
     listed += [("foreign", name, (kind,), i) for name, kind in FOREIGN for i in range(FOREIGN_TIMES)]
     listed += [("mark", name, mark, i) for name in READING for mark in MARKS for i in range(MARK_TIMES)]
     listed += [("place", name, place, 0) for name in SEARCHING for place in PLACES]
+    listed += [("begun", name, window, 0) for name in FITS for window in WINDOWS]
     listed += [("power", name, power, 0) for name in refusals.PREFIXES for power in POWERS]
     listed += [("long", name, long, 0) for name in refusals.PREFIXES for long in LONG]
     listed += [("random", NAMES[i % len(NAMES)], (), i // len(NAMES)) for i in range(max(0, cases - len(listed)))]
@@ -74,7 +79,8 @@ def jobs(cases):
 
 
 # What makes the case of a job that was listed by what it tries.
-LISTED = {"mark": generate.mark_case, "place": generate.place_case, "power": generate.power_case, "long": generate.long_case}
+LISTED = {"mark": generate.mark_case, "place": generate.place_case, "begun": generate.begun_case}
+LISTED |= {"power": generate.power_case, "long": generate.long_case}
 
 
 def case_of(job, seed):
@@ -92,12 +98,12 @@ def case_of(job, seed):
 
 class Tally:
     """How often each call, each refusal of a call, each ordered pair of refusals and each empty answer was tried, forms of another kind that
-    were refused as such, another mark at each record, forms of either mark that were taken, each place of a list that was searched, prefix
-    blocks at each power of two, and more of them than a set can hold ranges."""
+    were refused as such, another mark at each record, forms of either mark that were taken, each place of a list that was searched, windows
+    of fits that begin at each, prefix blocks at each power of two, and more of them than a set can hold ranges."""
 
     def __init__(self):
         self.calls, self.refusals, self.pairs, self.nothing, self.foreign, self.places = (Counter() for _ in range(6))
-        self.powers, self.long, self.marks, self.taken = (Counter() for _ in range(4))
+        self.powers, self.long, self.marks, self.taken, self.begun = (Counter() for _ in range(5))
 
     def count(self, job, case, outcome):
         """Counts a case."""
@@ -108,6 +114,8 @@ class Tally:
             self.pairs[name, pair] += 1
         if sort == "place":
             self.places[name, pair] += 1
+        if sort == "begun":
+            self.begun[name, pair] += 1
         if sort == "power":
             self.powers[name, pair] += 1
         if sort == "mark":
@@ -132,6 +140,7 @@ class Tally:
         yield "changed mark", {(name, mark): self.marks[name, mark] for name in READING for mark in MARKS}
         yield "taken form", {(name, mark): self.taken[name, mark] for name in READING for mark in model.CHECK}
         yield "searched place", {(name, place): self.places[name, place] for name in SEARCHING for place in PLACES}
+        yield "begun window", {(name, window): self.begun[name, window] for name in FITS for window in WINDOWS}
         yield "aligned range", {(name, power): self.powers[name, power] for name in refusals.PREFIXES for power in POWERS}
         yield "long output", {name: self.long[name] for name in refusals.PREFIXES}
 

@@ -87,13 +87,25 @@ def zeros(block, length):
     return block + [0] * (length - len(block))
 
 
+def check_member(line, one, block, runs):
+    """Both ends of every cell: is it in the set, and at how many cells below it does a run end; and what stands at the indices that this
+    tells. A cell ends a run if the next one is not in the set."""
+    for cell in line.cells:
+        below = len([c for c in range(cell) if c in one and c + 1 not in one])
+        for x in {line.low[cell], line.high[cell]}:
+            expect(f"member {x} of {runs}", values(line.own + "_member", [block], [x]), [int(cell in one), below])
+        due = [[run for run in runs if run[1] < line.low[cell]][-1:], [run for run in runs if run[1] >= line.low[cell]][:1]]
+        for i, found in zip((below - 1, below), due):
+            expect(f"range {i}, at {x}", keys(line.own + "_range_at", [block], [i % 2**64]), found[0] if found else [])
+
+
 def check_questions(line, rng, one, two):
     """Every question about one set, and the three about two."""
     block, other = line.block(one, rng.randrange(3)), line.block(two)
     x = rng.choice(line.low + line.high)
     cell = line.cell_of(x)
     runs = line.runs(one)
-    expect("member", values(line.own + "_member", [block], [x]), [int(cell in one)])
+    check_member(line, one, block, runs)
     for i in (0, max(1, len(runs)) - 1, len(runs), M):
         expect("range at", keys(line.own + "_range_at", [block], [i]), runs[i] if i < len(runs) else [])
     expect("size", values("set_size", [block]), [sum(line.widths[c] for c in one) - 1] if one else [])
@@ -425,6 +437,22 @@ def check_sets_worked():
     expect("N", values("set_size", [[]]), 1)
 
 
+def check_member_worked():
+    """The worked numbers about where a number lies, of plain sets and at the keys of the same words; and that a refused question has no
+    values."""
+    two = [2, 5, 9, 20, 29]
+    cases = [(two, x, [0, 0]) for x in (0, 4)] + [(two, x, [1, 0]) for x in (5, 9)] + [(two, x, [0, 1]) for x in (10, 12, 19)]
+    cases += [(two, x, [1, 1]) for x in (20, 29)] + [(two, x, [0, 2]) for x in (30, M)]
+    cases += [([0], x, [0, 0]) for x in (0, 7, M)] + [([1, 0, M], x, [1, 0]) for x in (0, 7, M)]
+    cases += [([2, 0, 0, M, M], x, due) for x, due in ((0, [1, 0]), (1, [0, 1]), (M - 1, [0, 1]), (M, [1, 1]))]
+    for block, x, due in cases:
+        expect(f"member {x} of {block}", values("set_member", [block], [x]), due)
+        expect(f"member {x} of {block}, as a key", values("signed_member", [block], [x - 2**63]), due)
+    for name, x in (("set_member", 7), ("signed_member", -7)):
+        for block, number in (([], 1), ([2, 5, 9], 2), ([1, 9, 5], 3), ([2, 5, 9, 10, 12], 3)):
+            expect(f"{name} of {block}", model.run(name, [block], [x])[:2], (16 + number, (0, 0, 0, 0, 0)))
+
+
 def check_others_worked():
     """The worked numbers G and J."""
     three = written("map_assign", [[1, 0, 9, 1, 0, 0, 0, 0, 0, 0]], [3, 5, 2])
@@ -536,6 +564,7 @@ def check_signed_worked():
 def main():
     """The model's own check."""
     check_sets_worked()
+    check_member_worked()
     check_prefixes_worked()
     check_most_prefixes()
     check_signed_worked()
