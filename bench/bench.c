@@ -8,7 +8,7 @@
 #include "bench.h"
 
 enum { PROVED, PLAIN, ICL, CONTENDERS };
-enum { SIZES = 4, ROUNDS = 41, MEASURES = 20 };
+enum { SIZES = 4, ROUNDS = 41, MEASURES = 23 };
 
 /* The inputs of a size are as many as make about 16,000 ranges. The contenders go through all of them in each round, so that no
    branch predictor learns one small input by heart. */
@@ -147,7 +147,7 @@ static void print_measure(int shape, size_t m) {
     bool maps = strcmp(measures[m].name, "overlay") == 0;
     for (int s = 0; s < SIZES; s++) {
         const timing *t = timings[shape][s][m];
-        printf("%-21s%7zu", s == 0 ? measures[m].name : "", maps ? entries_for(sizes[s]) : sizes[s]);
+        printf("%-28s%7zu", s == 0 ? measures[m].name : "", maps ? entries_for(sizes[s]) : sizes[s]);
         print_time(t[PROVED].least);
         print_time(t[PLAIN].least);
         print_time(t[ICL].least);
@@ -187,7 +187,7 @@ int main(int argc, char **argv) {
     for (int shape = 0; shape < SHAPES; shape++) {
         time_shape(shape);
         printf("%s ranges, time per call, the least of %d rounds\n", shapes[shape], ROUNDS);
-        printf("%-21s%7s%12s%12s%12s%14s%12s%8s\n", "", "ranges", "proved", "plain C", "Boost.ICL", "proved/plain", "ICL/proved",
+        printf("%-28s%7s%12s%12s%12s%14s%12s%8s\n", "", "ranges", "proved", "plain C", "Boost.ICL", "proved/plain", "ICL/proved",
                "growth");
         for (size_t m = 0; m < measure_count; m++) {
             print_measure(shape, m);

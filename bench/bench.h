@@ -28,6 +28,10 @@ typedef struct job {
     size_t form_length;
     /* a number to ask for, a range to insert into a gap and one to remove, both in the middle of the first set */
     uint64_t x, insert[2], removal[2];
+    /* two windows: from the low of the first set's first range on, and from the low of its last range on, both up to the last number. And
+       two lengths of a run: one more than the longest gap between ranges, so that it fits behind the last range and nowhere else; and half
+       of that gap, for which about half of the random gaps are long enough, and all of the regular ones */
+    uint64_t window[2], late, long_run, run;
     /* results; of prefix blocks, pairs */
     block out, out2, merged, pairs;
     uint8_t *bytes;

@@ -59,7 +59,8 @@ static outcome agreed(const measure *m, job *t, const char *what) {
     return proved;
 }
 
-/* Whether Boost.ICL gives the words that stand in the job's results, or the value that was answered. */
+/* Whether Boost.ICL gives the words that stand in the job's results, or yes or no as it was answered. How many ranges lie below a number it
+   does not tell, but by a walk over all of them; so that value, the second of the answer, is compared with the plain C's only. */
 static bool icl_agrees(const measure *m, job *t, const outcome *proved) {
     uint64_t found = 0;
     memcpy(t->results, proved->results, t->results_size);
@@ -138,21 +139,57 @@ static void damage_other(job *t, unsigned how) {
     }
 }
 
-enum { BLOCKS = 9, BLOCK_DAMAGES = 6, OTHER_DAMAGES = 22, BYTES = 7 + 21 + 21 };
+/* Makes both windows go up to b, from a and from `late` on, and both runs as long. */
+static void fit_in(job *t, uint64_t a, uint64_t late, uint64_t b, uint64_t run) {
+    t->window[0] = a;
+    t->late = late;
+    t->window[1] = b;
+    t->long_run = t->run = run;
+}
 
-/* Damage number k of a job: to each block in each way, then to the rest, then to each byte of the first records of both forms; the lowest bit
-   of a mark's second byte makes the other mark of it. */
+/* Damages the windows or the runs of the fits, or lays them elsewhere: about the middle range, about a part of the gap below it, and in sets
+   of no range or of one. */
+static void damage_fit(job *t, unsigned how) {
+    const uint64_t low = t->removal[0], high = t->removal[1], from = t->insert[0], to = t->insert[1], first = t->window[0];
+    switch (how) {
+    case 0: t->window[1] = first - 1; break;
+    case 1: t->long_run = t->run = 0; break;
+    case 2: t->long_run = t->run = UINT64_MAX; break;
+    case 3: t->long_run = t->run = 1; break;
+    case 4: fit_in(t, 0, from, UINT64_MAX, t->run); break;
+    case 5: fit_in(t, first, from, low - 1, t->run); break;
+    case 6: fit_in(t, first, from, low, t->run); break;
+    case 7: fit_in(t, low, high, high, 1); break;
+    case 8: fit_in(t, low - 1, low, UINT64_MAX, t->run); break;
+    case 9: fit_in(t, high, high + 1, UINT64_MAX, t->run); break;
+    case 10: fit_in(t, from, from, to, to - from + 1); break;
+    case 11: fit_in(t, from, from, to, to - from + 2); break;
+    case 12: t->one.words[0] = 0, fit_in(t, 0, 1, UINT64_MAX, UINT64_MAX); break;
+    case 13: t->one.words[0] = 0, fit_in(t, 0, UINT64_MAX, UINT64_MAX, 1); break;
+    case 14: one_range(t, 0, UINT64_MAX), fit_in(t, 0, UINT64_MAX, UINT64_MAX, 1); break;
+    case 15: one_range(t, 0, UINT64_MAX - 1), fit_in(t, 0, UINT64_MAX, UINT64_MAX, 1); break;
+    case 16: one_range(t, 0, 0), fit_in(t, 0, 1, UINT64_MAX, UINT64_MAX); break;
+    case 17: one_range(t, UINT64_MAX, UINT64_MAX), fit_in(t, 0, UINT64_MAX, UINT64_MAX, UINT64_MAX); break;
+    }
+}
+
+enum { BLOCKS = 9, BLOCK_DAMAGES = 6, OTHER_DAMAGES = 22, FIT_DAMAGES = 18, BYTES = 7 + 21 + 21 };
+enum { OTHERS = BLOCKS * BLOCK_DAMAGES, FITS = OTHERS + OTHER_DAMAGES, OF_BYTES = FITS + FIT_DAMAGES, DAMAGES = OF_BYTES + BYTES };
+
+/* Damage number k of a job: to each block in each way, then to the rest, to the fits, and to each byte of the first records of both forms;
+   the lowest bit of a mark's second byte makes the other mark of it. */
 static void damage(job *t, unsigned k) {
     block *blocks[] = {&t->one,       &t->two,        &t->version, &t->released1, &t->withdrawn1,
                        &t->released2, &t->withdrawn2, &t->upper,   &t->lower};
-    if (k < BLOCKS * BLOCK_DAMAGES) {
+    if (k < OTHERS) {
         damage_block(blocks[k / BLOCK_DAMAGES], k % BLOCK_DAMAGES);
-    } else if (k < BLOCKS * BLOCK_DAMAGES + OTHER_DAMAGES) {
-        damage_other(t, k - BLOCKS * BLOCK_DAMAGES);
+    } else if (k < FITS) {
+        damage_other(t, k - OTHERS);
+    } else if (k < OF_BYTES) {
+        damage_fit(t, k - FITS);
     } else {
-        unsigned at = k - BLOCKS * BLOCK_DAMAGES - OTHER_DAMAGES;
-        t->form[at] ^= 1;
-        t->old_form[at] ^= 1;
+        t->form[k - OF_BYTES] ^= 1;
+        t->old_form[k - OF_BYTES] ^= 1;
     }
 }
 
@@ -162,7 +199,7 @@ void check_damaged(job *t) {
         exit(1);
     }
     memcpy(inputs, t->inputs, t->inputs_size);
-    for (unsigned k = 0; k < BLOCKS * BLOCK_DAMAGES + OTHER_DAMAGES + BYTES; k++) {
+    for (unsigned k = 0; k < DAMAGES; k++) {
         job damaged = *t;
         damage(&damaged, k);
         for (size_t i = 0; i < measure_count; i++) {

@@ -56,6 +56,22 @@ static void share_out(block from, block released, block withdrawn, int shape) {
     }
 }
 
+/* The windows and runs of the fits. */
+static void choose_runs(job *t) {
+    const uint64_t *w = t->one.words;
+    size_t n = w[0];
+    uint64_t longest = 0;
+    for (size_t i = 1; i < n; i++) {
+        uint64_t gap = w[2 * i + 1] - w[2 * i] - 1;
+        longest = gap > longest ? gap : longest;
+    }
+    t->window[0] = w[1];
+    t->window[1] = UINT64_MAX;
+    t->late = w[2 * n - 1];
+    t->long_run = longest + 1;
+    t->run = longest / 2;
+}
+
 /* The arguments: a number at a part of the way through the first set, a range within its middle gap, and its middle range. */
 static void choose_arguments(job *t, double where) {
     const uint64_t *w = t->one.words;
@@ -154,6 +170,7 @@ static void draw_inputs(job *t, int shape, double where) {
     fill(t->upper, 3, entries_for(n), shape, base, 0);
     fill(t->lower, 3, entries_for(n), shape, base, 2);
     choose_arguments(t, where);
+    choose_runs(t);
     plain_library.set_write(t->one.words, t->one.length, t->form, t->form_length, 0);
     write_old_form(t);
 }

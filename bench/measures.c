@@ -87,6 +87,22 @@ static wimblorque_answer audit_blocks(const library *lib, job *t) {
     return lib->set_audit_blocks(OF(t->one), OF(t->pairs));
 }
 
+/* Only the numbers behind the last range are as many as the run, so that the walk goes over all ranges: no first fit of this list takes
+   longer, and one that finds its gap halfway takes the judge and half of the walk. */
+static wimblorque_answer first_fit(const library *lib, job *t) {
+    return lib->set_first_fit(OF(t->one), t->window[0], t->window[1], t->long_run);
+}
+
+/* All gaps have to be looked at, whatever the run is. With this one about half of the random gaps are long enough. */
+static wimblorque_answer best_fit(const library *lib, job *t) {
+    return lib->set_best_fit(OF(t->one), t->window[0], t->window[1], t->run);
+}
+
+/* The window begins at the last range's low: all that there is beside the judge is to find that range. */
+static wimblorque_answer first_fit_at_the_last(const library *lib, job *t) {
+    return lib->set_first_fit(OF(t->one), t->late, t->window[1], t->long_run);
+}
+
 const measure measures[] = {
     {"judge", judge, NULL, false, false, false},
     {"member", member, icl_member, false, false, false},
@@ -108,5 +124,8 @@ const measure measures[] = {
     {"write", writing, NULL, false, true, false},
     {"prefix blocks", prefix_blocks, NULL, false, true, true},
     {"audit of blocks", audit_blocks, NULL, false, true, true},
+    {"first fit", first_fit, NULL, false, false, false},
+    {"best fit", best_fit, NULL, false, false, false},
+    {"first fit at the last range", first_fit_at_the_last, NULL, false, false, false},
 };
 const size_t measure_count = sizeof measures / sizeof *measures;

@@ -106,7 +106,7 @@ static wimblorque_answer set_member(const uint64_t *w, size_t words, uint64_t x)
         return told(refusal, 0);
     }
     size_t i = ends_below(w, w[0], 2, x);
-    return value(i < w[0] && w[2 * i + 1] <= x);
+    return (wimblorque_answer){.count = 2, .first = i < w[0] && w[2 * i + 1] <= x, .second = i};
 }
 
 /* The ranges from i up to j give way to the k ranges of `fresh`, if there is room; 0 behind the last. */
@@ -165,6 +165,84 @@ static wimblorque_answer set_remove(uint64_t *w, size_t words, uint64_t a, uint6
         fresh[2 * k++ + 1] = w[2 * j];
     }
     return replace(w, words, i, j, fresh, k);
+}
+
+/* ---- fits ----
+   The gaps of a window are the one in front of its first range, those between its ranges, and the one behind its last. The first and the
+   last of them are clipped, so that they stand outside the walk, which looks at nothing but the ends of neighbours. */
+
+/* What a fit walks: the ranges from i up to j, which begin in the window, behind `from`; from there on a number may be free. */
+typedef struct walk {
+    size_t i, j;
+    uint64_t from;
+} walk;
+
+/* The refusal of a fit, before a gap is looked for, or 0. */
+static uint64_t judge_fit(const uint64_t *w, size_t words, uint64_t a, uint64_t b, uint64_t k) {
+    uint64_t refusal = judge_change(w, words, a, b);
+    return refusal == 0 && k == 0 ? WIMBLORQUE_ZERO_RUN : refusal;
+}
+
+/* Finds the window's ranges by two binary searches. False if the range that holds a goes on to b: then there is no gap at all. */
+static bool window_begins(const uint64_t *w, uint64_t a, uint64_t b, walk *v) {
+    size_t n = w[0], i = ends_below(w, n, 2, a);
+    v->from = a;
+    if (i < n && w[2 * i + 1] <= a) {
+        if (w[2 * i + 2] >= b) {
+            return false;
+        }
+        v->from = w[2 * i + 2] + 1;
+        i++;
+    }
+    v->i = i;
+    v->j = b == LAST ? n : ends_below(w, n, 1, b + 1);
+    return true;
+}
+
+static wimblorque_answer set_first_fit(const uint64_t *w, size_t words, uint64_t a, uint64_t b, uint64_t k) {
+    uint64_t refusal = judge_fit(w, words, a, b, k);
+    walk v;
+    if (refusal || !window_begins(w, a, b, &v)) {
+        return told(refusal ? refusal : WIMBLORQUE_NO_GAP, 0);
+    }
+    size_t i = v.i, j = v.j;
+    if (i == j) {
+        return b - v.from >= k - 1 ? value(v.from) : told(WIMBLORQUE_NO_GAP, 0);
+    }
+    if (w[2 * i + 1] - v.from >= k) {
+        return value(v.from);
+    }
+    for (i++; i < j; i++) {
+        if (w[2 * i + 1] - w[2 * i] > k) {
+            return value(w[2 * i] + 1);
+        }
+    }
+    return w[2 * j] < b && b - w[2 * j] >= k ? value(w[2 * j] + 1) : told(WIMBLORQUE_NO_GAP, 0);
+}
+
+/* The shortest gap that is long enough is the one of which the least is left. Of one that is too short that number wraps, and is then above
+   LAST - k, which what is left of the others is not: so the walk asks only which is less, and that by selects. */
+static wimblorque_answer set_best_fit(const uint64_t *w, size_t words, uint64_t a, uint64_t b, uint64_t k) {
+    uint64_t refusal = judge_fit(w, words, a, b, k);
+    walk v;
+    if (refusal || !window_begins(w, a, b, &v)) {
+        return told(refusal ? refusal : WIMBLORQUE_NO_GAP, 0);
+    }
+    size_t i = v.i, j = v.j;
+    if (i == j) {
+        return b - v.from >= k - 1 ? value(v.from) : told(WIMBLORQUE_NO_GAP, 0);
+    }
+    uint64_t least = w[2 * i + 1] - v.from - k, place = v.from;
+    for (i++; i < j; i++) {
+        uint64_t left = w[2 * i + 1] - w[2 * i] - 1 - k;
+        place = left < least ? w[2 * i] + 1 : place;
+        least = left < least ? left : least;
+    }
+    if (w[2 * j] < b && b - w[2 * j] - k < least) {
+        least = b - w[2 * j] - k;
+        place = w[2 * j] + 1;
+    }
+    return least <= LAST - k ? value(place) : told(WIMBLORQUE_NO_GAP, 0);
 }
 
 /* ---- operations on two and three sets ----
@@ -810,6 +888,8 @@ const library plain_library = {
     .set_complement = set_complement,
     .set_prefix_blocks = set_prefix_blocks,
     .set_audit_blocks = set_audit_blocks,
+    .set_first_fit = set_first_fit,
+    .set_best_fit = set_best_fit,
     .bulletin_apply = bulletin_apply,
     .bulletin_fold = bulletin_fold,
     .map_overlay = map_overlay,
