@@ -53,14 +53,28 @@ static int take_bulletin(const char *path) {
     return 1;
 }
 
-/* Says whether a pack is released, and which calibration record decides. */
-static void ask(uint64_t pack) {
-    const wimblorque_answer member = wimblorque_set_member(blocks[now], WORDS, pack);
-    const wimblorque_answer entry = wimblorque_map_site_over_factory(site, MAP_WORDS, factory, MAP_WORDS, pack);
-    if (refused("list", member) || refused("maps", entry)) {
+/* Shows a neighbour of a pack that is not released: the range at an index of the list, if there is one. */
+static void show_neighbour(const char *side, uint64_t index) {
+    const wimblorque_answer range = wimblorque_set_range_at(blocks[now], WORDS, index);
+    if (refused("list", range)) {
         return;
     }
-    printf("pack %" PRIu64 ": %s, ", pack, member.first == 1 ? "released" : "not released");
+    if (range.count == 0) {
+        printf("  none %s\n", side);
+    } else {
+        printf("  next %s: %" PRIu64 "..%" PRIu64 "\n", side, range.first, range.second);
+    }
+}
+
+/* Shows both neighbours of a pack that is not released, for the service, by how many ranges of the list lie below it. If none does, the
+   first index wraps: there is no range at 2^64 - 1, and that is what the library answers. */
+static void show_neighbours(uint64_t below) {
+    show_neighbour("below", below - 1);
+    show_neighbour("above", below);
+}
+
+/* Says which calibration record decides, from what the maps answered. */
+static void show_record(wimblorque_answer entry) {
     if (entry.count == 0) {
         printf("no calibration record\n");
         return;
@@ -68,6 +82,20 @@ static void ask(uint64_t pack) {
     /* first is where the entry's three words begin, third which of the two maps they are in */
     const uint64_t *const holder = entry.third == 0 ? site : factory;
     printf("calibration record %" PRIu64 " of the %s\n", holder[entry.first + 2], entry.third == 0 ? "site" : "factory");
+}
+
+/* Says whether a pack is released, and which calibration record decides; of one that is not released, its neighbours. */
+static void ask(uint64_t pack) {
+    const wimblorque_answer member = wimblorque_set_member(blocks[now], WORDS, pack);
+    const wimblorque_answer entry = wimblorque_map_site_over_factory(site, MAP_WORDS, factory, MAP_WORDS, pack);
+    if (refused("list", member) || refused("maps", entry)) {
+        return;
+    }
+    printf("pack %" PRIu64 ": %s, ", pack, member.first == 1 ? "released" : "not released");
+    show_record(entry);
+    if (member.first == 0) {
+        show_neighbours(member.second);
+    }
 }
 
 /* Reserves numbers for 50 packs to come: the first that are neither released nor withdrawn. */
@@ -107,9 +135,11 @@ int main(int count, char **words) {
         || !take_bulletin(words[2]) || !reserve()) {
         return 1;
     }
+    ask(999);
     ask(1500);
     ask(1999);
     ask(3000);
+    ask(5000);
     for (uint64_t i = 0; i < blocks[now][0]; i++) {
         const wimblorque_answer range = wimblorque_set_range_at(blocks[now], WORDS, i);
         printf("%" PRIu64 "..%" PRIu64 "\n", range.first, range.second);
