@@ -10,20 +10,17 @@ use lib.Dec.{leb, ltb}
 use lib.IntN.{ℤ, pos, negsuc}
 use lib.Signed.{ltZ, leZ}
 use lib.ListN.{length, getD}
-use borrow.Author.Tests.{leb-true, leb-false, ltb-true, ltb-false, le-leb, lt-leb, lt-ltb, le-ltb}
+use borrow.Author.Tests.{le-leb, lt-leb, lt-ltb, le-ltb}
 use Rattle.keys.specs.Keys.{IsKey, wordOf, keyOf}
 use Rattle.entries.specs.Entries.{Entry, valueAt}
 use Rattle.entries.specs.Sets.{has}
 use Rattle.entries.specs.Questions.{bit, whollyBelow}
 use Rattle.entries.proofs.Values.{true≢false}
-use Rattle.entries.proofs.Index.{rises, sound-ok}
 use Rattle.answers.specs.Answers.{outcome, seated}
 use Rattle.blocks.specs.Blocks.{setLayout, entriesOf, SoundBlock}
-use Rattle.blocks.specs.Steps.{zero-item}
-use Rattle.blocks.proofs.Items.{entries-count, entry-is}
 use Rattle.blocks.proofs.Judging.{verdict-sound}
 use Rattle.searches.specs.Steps.{First, FirstFrom, SpotOf}
-use Rattle.searches.proofs.Finding.{highs}
+use Rattle.searches.proofs.Finding.{highs, item-order, items-apart}
 use Rattle.searches.proofs.Spots.{spot-first}
 use Rattle.searches.proofs.Ends.{first-by, holding, out}
 use Rattle.sets.specs.Calls.{memberCall, rangeAtCall}
@@ -78,23 +75,10 @@ module _ (w : List ℕ) (s : SoundSet w) where
   high-is k = let p : 2 + 2 * k ≡ 2 * k + 2 = omega arith in ap (λ (q : ℕ). getD w q 0) p
 
   in-order : (k : ℕ) → k < n → getD w (2 * k + 1) 0 ≤ getD w (2 * k + 2) 0
-  in-order k h =
-      let e = entry-is 2 (omega arith) w n refl k h in
-      omega (
-        arith,
-        sound-ok zero-item es (block .sound) k (omega (arith, entries-count 2 (omega arith) w n refl)),
-        ap (λ (f : Entry). f .low) e,
-        ap (λ (f : Entry). f .high) e,
-      )
+  in-order = item-order (omega arith) block refl
 
   apart : (i j : ℕ) → i < j → j < n → getD w (2 * i + 2) 0 < getD w (2 * j + 1) 0
-  apart i j h k =
-      omega (
-        arith,
-        rises zero-item es (block .sound) i j h (omega (arith, entries-count 2 (omega arith) w n refl)),
-        ap (λ (f : Entry). f .high) (entry-is 2 (omega arith) w n refl i (omega arith)),
-        ap (λ (f : Entry). f .low) (entry-is 2 (omega arith) w n refl j k),
-      )
+  apart = items-apart (omega arith) block refl
 
   module _ (x : ℕ) where
     abbrev below : ℕ

@@ -1,5 +1,5 @@
 -- How many items begin below a number, begin at or below it, or end at or below it: from where the number sits.
-use mathlib.Core.Path.{_≡_, refl, ap}
+use mathlib.Core.Path.{_≡_, refl}
 use mathlib.Core.Bool.{Bool, true, false}
 use mathlib.Core.List.{List}
 use Prim.Native.Nat.{ℕ, suc, _+_, _*_, _-_, _≤_, _<_}
@@ -7,17 +7,14 @@ use native.Mathlib.Omega.{arith}
 use lib.Dec.{ltb, eqb}
 use lib.ListN.{length, getD}
 use borrow.Author.Tests.{ltb-true, ltb-false, eqb-true, eqb-false}
-use Rattle.entries.specs.Entries.{Entry}
 use Rattle.entries.specs.Build.{pick}
-use Rattle.entries.proofs.Index.{rises, sound-ok}
 use Rattle.blocks.specs.declared.Layout.{Layout}
-use Rattle.blocks.specs.Blocks.{entriesOf, SoundBlock}
-use Rattle.blocks.specs.Steps.{zero-item, itemAt}
-use Rattle.blocks.proofs.Items.{entries-count, entry-is, held}
+use Rattle.blocks.specs.Blocks.{SoundBlock}
+use Rattle.blocks.proofs.Items.{held}
 use Rattle.blocks.proofs.Tests.{le-mul}
 use Rattle.searches.specs.declared.Spot.{Spot}
 use Rattle.searches.specs.Steps.{Rises, First, FirstFrom, SpotOf}
-use Rattle.searches.proofs.Finding.{lows, highs}
+use Rattle.searches.proofs.Finding.{lows, highs, item-order, items-apart}
 use Rattle.searches.proofs.Spots.{spot-first, next, inside-is, outside-is}
 
 -- the first place at which a function that does not fall is at least y, by the places beside it
@@ -38,29 +35,8 @@ module _ {l : Layout} {w : List ℕ} (two : 2 ≤ l .width) (b : SoundBlock l w)
   abbrev high : ℕ → ℕ
   high k = getD w (l .width * k + 2) 0
 
-  item : (k : ℕ) → k < n → getD (entriesOf (l .width) w) k zero-item ≡ itemAt (l .width) w k
-  item k h = entry-is (l .width) two w n refl k h
-
-  count : length (entriesOf (l .width) w) ≡ n
-  count = entries-count (l .width) two w n refl
-
   in-order : (k : ℕ) → k < n → low k ≤ high k
-  in-order k h =
-      omega (
-        arith,
-        sound-ok zero-item (entriesOf (l .width) w) (b .sound) k (omega (arith, count)),
-        ap (λ (e : Entry). e .low) (item k h),
-        ap (λ (e : Entry). e .high) (item k h),
-      )
-
-  apart : (k : ℕ) → suc k < n → high k < low (suc k)
-  apart k h =
-      omega (
-        arith,
-        rises zero-item (entriesOf (l .width) w) (b .sound) k (suc k) (omega arith) (omega (arith, count)),
-        ap (λ (e : Entry). e .high) (item k (omega arith)),
-        ap (λ (e : Entry). e .low) (item (suc k) h),
-      )
+  in-order = item-order two b refl
 
   -- the items below x, whatever holds x
   first : FirstFrom w (l .width) 2 n x (r .below)
@@ -95,10 +71,10 @@ module _ {l : Layout} {w : List ℕ} (two : 2 ≤ l .width) (b : SoundBlock l w)
   behind : r .inside ≡ true → suc (r .below) < n → (x < low (suc (r .below))) × (x < high (suc (r .below)))
   behind t h =
       let o = holding t in
-      let a = apart (r .below) h in
+      let a = items-apart two b refl (r .below) (suc (r .below)) (omega arith) h in
       (omega (arith, o .upto), omega (arith, o .upto, in-order (suc (r .below)) h))
 
-  -- HOW MANY BEGIN BELOW x
+  -- [W2] HOW MANY BEGIN BELOW x: where no item holds x, those wholly below it; else one more, if the item that holds it begins below x
   pub begun-out : r .inside ≡ false → FirstFrom w (l .width) 1 n x (r .below)
   begun-out t = first-by (lows two b refl .rises) (first .within) (λ k e. under k e .0) (λ h. omega (arith, out t h))
 
@@ -114,7 +90,7 @@ module _ {l : Layout} {w : List ℕ} (two : 2 ≤ l .width) (b : SoundBlock l w)
           (λ h. omega (arith, behind t h .0)))
       go false p q = rw q (first-by (lows two b refl .rises) (first .within) (λ k m. under k m .0) (λ h. omega (arith, ltb-false y x p)))
 
-  -- HOW MANY BEGIN AT OR BELOW IT
+  -- [W2] HOW MANY BEGIN AT OR BELOW IT: and the one that holds it
   pub begun-by : {c : ℕ} → c ≡ pick (r .inside) (r .below + 1) (r .below) → FirstFrom w (l .width) 1 n (x + 1) c
   begun-by {c} q = go (r .inside) refl q
     where
@@ -125,7 +101,7 @@ module _ {l : Layout} {w : List ℕ} (two : 2 ≤ l .width) (b : SoundBlock l w)
           (λ h. omega (arith, behind t h .0)))
       go false t q = rw q (first-by (lows two b refl .rises) (first .within) (λ k m. omega (arith, under k m .0)) (λ h. omega (arith, out t h)))
 
-  -- HOW MANY END AT OR BELOW IT
+  -- [W2] HOW MANY END AT OR BELOW IT: and the one that holds it, if it ends there
   pub ended-out : r .inside ≡ false → FirstFrom w (l .width) 2 n (x + 1) (r .below)
   ended-out t = first-by (highs two b refl .rises) (first .within) (λ k e. omega (arith, under k e .1)) (λ h. omega (arith, out t h, in-order (r .below) h))
 

@@ -10,7 +10,7 @@ use Rattle.entries.proofs.Index.{rises, sound-ok}
 use Rattle.entries.proofs.Windows.{Passed, Begun}
 use Rattle.blocks.specs.declared.Layout.{Layout}
 use Rattle.blocks.specs.Blocks.{entriesOf, itemsOf, SoundBlock}
-use Rattle.blocks.specs.Steps.{zero-item, Held}
+use Rattle.blocks.specs.Steps.{zero-item, itemAt, Held}
 use Rattle.blocks.proofs.Words.{items-length}
 use Rattle.blocks.proofs.Moves.{entry-at}
 use Rattle.blocks.proofs.Items.{entries-count, entry-is, held}
@@ -83,6 +83,20 @@ module _ {l : Layout} {w : List ℕ} (two : 2 ≤ l .width) (b : SoundBlock l w)
 
   pub highs : Sorted (l .width) 2 n w
   highs = sorted-highs (held l two w n e b) sound-items
+
+  item : (k : ℕ) → k < n → getD (entriesOf (l .width) w) k zero-item ≡ itemAt (l .width) w k
+  item k h = entry-is (l .width) two w n e k h
+
+  -- the words of its items: each low is at most its high, and each high below every later low
+  pub item-order : (k : ℕ) → k < n → getD w (l .width * k + 1) 0 ≤ getD w (l .width * k + 2) 0
+  item-order k h =
+      let o = sound-ok zero-item (entriesOf (l .width) w) (b .sound) k (omega (arith, entries-count (l .width) two w n e)) in
+      omega (arith, ap (λ (i : Entry). i .low) (item k h), ap (λ (i : Entry). i .high) (item k h))
+
+  pub items-apart : (i j : ℕ) → i < j → j < n → getD w (l .width * i + 2) 0 < getD w (l .width * j + 1) 0
+  items-apart i j h k =
+      let o = rises zero-item (entriesOf (l .width) w) (b .sound) i j h (omega (arith, entries-count (l .width) two w n e)) in
+      omega (arith, ap (λ (i : Entry). i .high) (item i (omega arith)), ap (λ (i : Entry). i .low) (item j k))
 
 -- what is found tells of the entries
 module _ (s : ℕ) (two : 2 ≤ s) (w : List ℕ) (n : ℕ) (e : n ≡ getD w 0 0) where

@@ -85,7 +85,7 @@ module _ {l : Layout} {w : List ℕ} (two : 2 ≤ l .width) (b : SoundBlock l w)
   all : length (entriesOf (l .width) w) ≡ getD w 0 0
   all = entries-count (l .width) two w (getD w 0 0) refl
 
-  -- the count is what the search found
+  -- [W1] the count is the first item whose high is at least x
   pub spot-first : FirstFrom w (l .width) 2 (getD w 0 0) x (r .below)
   spot-first = record {
     within = omega (arith, spot-passed .within, all);
