@@ -66,10 +66,13 @@ static void show_neighbour(const char *side, uint64_t index) {
     }
 }
 
-/* Shows both neighbours of a pack that is not released, for the service, by how many ranges of the list lie below it. If none does, the
-   first index wraps: there is no range at 2^64 - 1, and that is what the library answers. */
+/* Shows both neighbours of a pack that is not released, for the service, by how many ranges of the list lie below it. */
 static void show_neighbours(uint64_t below) {
-    show_neighbour("below", below - 1);
+    if (below == 0) {
+        printf("  none below\n");
+    } else {
+        show_neighbour("below", below - 1);
+    }
     show_neighbour("above", below);
 }
 

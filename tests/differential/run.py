@@ -23,11 +23,11 @@ import model
 import refusals
 import wire
 
-CASES = 60000
+CASES = 70000
 SEED = "1"
 PAIR_TIMES, SINGLE_TIMES, LIMIT_TIMES, FOREIGN_TIMES, MARK_TIMES = 5, 5, 10, 20, 2
 AT_LEAST = {"call": 10, "refusal": 5, "pair": PAIR_TIMES, "empty answer": 20, "refused foreign form": FOREIGN_TIMES // 2, "searched place": 1}
-AT_LEAST |= {"begun window": 1, "aligned range": 1, "long output": 10, "changed mark": MARK_TIMES, "taken form": 30}
+AT_LEAST |= {"begun window": 1, "aligned range": 1, "long output": 10, "changed mark": MARK_TIMES, "taken form": 50}
 BATCH = 500
 KEPT = "build/differential-mismatch.json"
 NAMES = [name for name, _, _ in model.CALLS]
