@@ -48,7 +48,7 @@ pub record Beside (w : List ℕ) (x i : ℕ) : Type 0 where
 abbrev pub NextTo : Type 0
 NextTo = (w : List ℕ) (x i : ℕ) → SoundSet w → Iff (memberCall w x ≡ noWith i) (Beside w x i)
 
--- [W3, S2] by the calls alone, as a host shows where a pack sits: the range at the index that came with yes is answered, and holds x;
+-- [W3, S2] the range at index i, as the call answers it, holds x
 pub record Holder (w : List ℕ) (x i : ℕ) : Type 0 where
   pub low : ℕ
   pub high : ℕ
@@ -56,19 +56,19 @@ pub record Holder (w : List ℕ) (x i : ℕ) : Type 0 where
   pub from : low ≤ x
   pub upto : x ≤ high
 
--- [W3, S2, D2] so it is
+-- [W3, S2, D2] BY THE CALLS ALONE, as a host shows where a pack sits: the range at the index that came with yes does
 abbrev pub MemberHolder : Type 0
 MemberHolder = (w : List ℕ) (x i : ℕ) → SoundSet w → memberCall w x ≡ yesWith i → Holder w x i
 
--- [W3, S2] and the ranges at the index that came with no, and before it, are the neighbours of x: no member lies between them and x, and where
--- one is not there, no member lies on that side at all
+-- [W3, S2] the ranges at index i - 1 and i, as the call answers them, are the neighbours of x: no member lies between them and x, and where one
+-- is not there, no member lies on that side at all
 pub record Neighbours (w : List ℕ) (x i : ℕ) : Type 0 where
   pub below : (k low high : ℕ) → suc k ≡ i → rangeAtCall w k ≡ answers (low ∷ high ∷ []) → (high < x) × ((z : ℕ) → high < z → z ≤ x → In w z ≡ false)
   pub above : (low high : ℕ) → rangeAtCall w i ≡ answers (low ∷ high ∷ []) → (x < low) × ((z : ℕ) → x ≤ z → z < low → In w z ≡ false)
   pub none-below : i ≡ 0 → (z : ℕ) → z ≤ x → In w z ≡ false
   pub none-above : rangeAtCall w i ≡ answers [] → (z : ℕ) → x ≤ z → In w z ≡ false
 
--- [W3, S2, D2] so they are
+-- [W3, S2, D2] and those at the index that came with no, and before it, are
 abbrev pub MemberNeighbours : Type 0
 MemberNeighbours = (w : List ℕ) (x i : ℕ) → SoundSet w → memberCall w x ≡ noWith i → Neighbours w x i
 
