@@ -27,7 +27,7 @@ use Rattle.searches.specs.Parts.{wordsAt, noPart}
 use Rattle.searches.specs.Calls.{windowPart, windowRefusals, windowCall}
 use Rattle.searches.proofs.Windows.{window-words}
 use Rattle.sets.specs.Calls.{asked, ends, nonMember, memberCall, rangeAtCall, sizeCall, leastMemberCall, leastNonMemberCall, askedTwo, equalCall, withinCall}
-use Rattle.sets.specs.Calls.{disjointCall}
+use Rattle.sets.specs.Calls.{disjointCall, seatOf}
 use Rattle.sweeps.proofs.Tables.{bounded}
 use Rattle.sets.proofs.Sizes.{entries-under}
 use Rattle.demands.specs.Plain.{SoundSet, InRange, In, answers, yes, no, truthOf}
@@ -90,7 +90,7 @@ decided call b P e f g = (
 -- [S1, W1] membership of a sound block: yes or no, with the count;
 pub seated-sound : (w : List ℕ) (x : ℕ) → SoundSet w → memberCall w x ≡ outcome (seated (In w x) (length (whollyBelow x (entriesOf 2 w)))) []
 unfolding memberCall
-seated-sound w x s = asked-sound w (λ es. seated (member es x) (length (whollyBelow x es))) s
+seated-sound w x s = asked-sound w (seatOf x) s
 
 -- without it, yes or no
 pub truth-sound : (w : List ℕ) (x : ℕ) → SoundSet w → truthOf (memberCall w x) ≡ outcome (truth (In w x)) []

@@ -61,14 +61,15 @@ yes = answers (1 ∷ [])
 abbrev pub no : Outcome
 no = answers (0 ∷ [])
 
--- [W1] the answers of membership, with the count of the ranges that lie wholly below
+-- [W1] the answers of membership, with the count of the ranges that lie wholly below: yes
 abbrev pub yesWith : ℕ → Outcome
 yesWith below = answers (1 ∷ below ∷ [])
 
+-- [W1] and no
 abbrev pub noWith : ℕ → Outcome
 noWith below = answers (0 ∷ below ∷ [])
 
--- [S1] and what they say without it: yes or no, or the refusal
+-- [S1] what they say without the count: yes or no, or the refusal
 abbrev pub truthOf : Outcome → Outcome
 truthOf (outcome (given values) lent) = outcome (given (take 1 values)) lent
 truthOf (outcome (refused number place) lent) = outcome (refused number place) lent

@@ -113,7 +113,8 @@ module _ {l : Layout} {w : List ℕ} (two : 2 ≤ l .width) (b : SoundBlock l w)
 
       go : (u : Bool) → eqb y x ≡ u → c ≡ pick u (r .below + 1) (r .below) → FirstFrom w (l .width) 2 n (x + 1) c
       go true p q = let z : c ≡ suc (r .below) = omega arith in
-          rw z (first-by (highs two b refl .rises) (omega (arith, o .within)) (λ k m. let j : k ≡ r .below = omega arith in rw j (omega (arith, eqb-true y x p)))
+          rw z (first-by (highs two b refl .rises) (omega (arith, o .within))
+          (λ k m. let j : k ≡ r .below = omega arith in rw j (omega (arith, eqb-true y x p)))
           (λ h. omega (arith, behind t h .1)))
       go false p q =
           let d : y ≡ x → ⊥ = eqb-false y x p in

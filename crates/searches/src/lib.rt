@@ -1,4 +1,4 @@
-// Finding a place in a judged block: where a number stands, the items that meet a window, and whether two sets share a number.
+// Finding a place in a judged block: where a number sits, the items that meet a window, and whether two sets share a number.
 ghost use mathlib.Core.Path.{_≡_};
 ghost use mathlib.Core.List.{[]};
 ghost use Prim.Native.Nat.{_+_, _≤_, _<_};

@@ -22,9 +22,13 @@ asked w answer = inTurn (input 0 setLayout w ∷ []) [] (outcome (answer (entrie
 unfoldable pub makeEmptyCall : List ℕ → Outcome
 makeEmptyCall w = inTurn (output 0 (length w) ∷ []) (w ∷ []) (holding w [])
 
--- [S1, W1] is x a member, and how many ranges lie wholly below it: whether it is one or not
+-- [S1, W1] where x sits: whether it is a member; and, either way, how many ranges lie wholly below it
+abbrev pub seatOf : ℕ → List Entry → Answer
+seatOf x es = seated (member es x) (length (whollyBelow x es))
+
+-- [S1, W1] is x a member, with that count
 unfoldable pub memberCall : List ℕ → ℕ → Outcome
-memberCall w x = asked w (λ es. seated (member es x) (length (whollyBelow x es)))
+memberCall w x = asked w (seatOf x)
 
 -- the low and the high of a range, or none
 abbrev pub ends : Option Entry → Answer

@@ -23,8 +23,8 @@ returns c =
     let at-ended = at-room-for .before in
     let at-begun = at-ended .before .before in
     let start = at-begun .before .before .before in
-    out-no (start .pre .0) _ _ _ _ (start .pre .1) (among-n (start .pre .0) _ _ _ (at-begun .begun-before .ensures)) (among-n (start .pre .0) _ _ _ (at-ended .ended-by .ensures)) _
-    (at-room-for .room-for .ensures) (c .if1 .taken)
+    out-no (start .pre .0) _ _ _ _ (start .pre .1) (among-n (start .pre .0) _ _ _ (at-begun .begun-before .ensures))
+    (among-n (start .pre .0) _ _ _ (at-ended .ended-by .ensures)) _ (at-room-for .room-for .ensures) (c .if1 .taken)
 
 place-requires : tie.Need-place-requires
 place-requires c κs =
@@ -33,8 +33,8 @@ place-requires c κs =
     let at-ended = at-room-for .before in
     let at-begun = at-ended .before .before in
     let start = at-begun .before .before .before in
-    out-ok (start .pre .0) _ _ _ _ (start .pre .1) (among-n (start .pre .0) _ _ _ (at-begun .begun-before .ensures)) (among-n (start .pre .0) _ _ _ (at-ended .ended-by .ensures)) _
-    (at-room-for .room-for .ensures) _ refl (at-if1 .if1 .left)
+    out-ok (start .pre .0) _ _ _ _ (start .pre .1) (among-n (start .pre .0) _ _ _ (at-begun .begun-before .ensures))
+    (among-n (start .pre .0) _ _ _ (at-ended .ended-by .ensures)) _ (at-room-for .room-for .ensures) _ refl (at-if1 .if1 .left)
 
 returns-2 : tie.Need-returns-2
 returns-2 c =
@@ -44,8 +44,8 @@ returns-2 c =
     let at-ended = at-room-for .before in
     let at-begun = at-ended .before .before in
     let start = at-begun .before .before .before in
-    out-yes (start .pre .0) _ _ _ _ (start .pre .1) (among-n (start .pre .0) _ _ _ (at-begun .begun-before .ensures)) (among-n (start .pre .0) _ _ _ (at-ended .ended-by .ensures)) _
-    (at-room-for .room-for .ensures) _ (at-if1 .if1 .left) (at-place .place .ensures)
+    out-yes (start .pre .0) _ _ _ _ (start .pre .1) (among-n (start .pre .0) _ _ _ (at-begun .begun-before .ensures))
+    (among-n (start .pre .0) _ _ _ (at-ended .ended-by .ensures)) _ (at-room-for .room-for .ensures) _ (at-if1 .if1 .left) (at-place .place .ensures)
 
 pub take-out-spec : {M : Type 1} → statement M
 take-out-spec =

@@ -34,4 +34,5 @@ returns-2 c =
 pub spot-of-spec : {M : Type 1} → statement M
 spot-of-spec =
     tie.close (tie.spec (λ c κs. search needs) first-from-requires returns (λ c. record { fits = omega (arith, item (c .before)) })
-    (λ c. record { fits = omega (arith, item (c .before)) }) (λ c κs. omega (arith, c .before .before .before .before .before .pre .0, item (c .before))) returns-2)
+    (λ c. record { fits = omega (arith, item (c .before)) })
+    (λ c κs. omega (arith, c .before .before .before .before .before .pre .0, item (c .before))) returns-2)

@@ -1,14 +1,9 @@
 use denote.Ref.{now}
 use mathlib.Core.Path.{sym, _∙_, ap₂}
-use mathlib.Core.List.{List}
-use lib.ListN.{length}
 use Rattle.blocks.specs.Blocks.{setLayout}
-use Rattle.entries.specs.Entries.{Entry}
-use Rattle.entries.specs.Sets.{member}
-use Rattle.entries.specs.Questions.{whollyBelow}
 use Rattle.answers.specs.Answers.{seated}
 use Rattle.blocks.proofs.Judging.{verdict-sound}
-use Rattle.sets.specs.Calls.{memberCall}
+use Rattle.sets.specs.Calls.{seatOf, memberCall}
 use Rattle.sets.proofs.Asking.{refuse-asked, give-asked}
 use native.Mathlib.Omega.{arith}
 use borrow.Author.Needs.{needs}
@@ -21,7 +16,7 @@ returns c =
     let at-if1 = c .before in
     let at-judge = at-if1 .before in
     let start = at-judge .before .before in
-    refuse-asked (now (start .args .block)) (λ (es : List Entry). seated (member es (start .args .x)) (length (whollyBelow (start .args .x) es))) (at-judge .judge .result)
+    refuse-asked (now (start .args .block)) (seatOf (start .args .x)) (at-judge .judge .result)
     (c .refusal-of .result) (at-judge .judge .ensures) (at-if1 .if1 .taken) (c .refusal-of .ensures)
 
 spot-of-requires : tie.Need-spot-of-requires
@@ -35,8 +30,9 @@ returns-2 c =
     let at-if1 = at-spot-of .before in
     let at-judge = at-if1 .before in
     let start = at-judge .before .before in
-    give-asked (now (start .args .block)) (λ (es : List Entry). seated (member es (start .args .x)) (length (whollyBelow (start .args .x) es))) (at-judge .judge .result) _
-    (at-judge .judge .ensures) (at-if1 .if1 .left) (ap₂ seated (sym (c .if2 .taken) ∙ at-spot-of .spot-of .ensures .inside) (at-spot-of .spot-of .ensures .below))
+    give-asked (now (start .args .block)) (seatOf (start .args .x)) (at-judge .judge .result) _
+    (at-judge .judge .ensures) (at-if1 .if1 .left)
+    (ap₂ seated (sym (c .if2 .taken) ∙ at-spot-of .spot-of .ensures .inside) (at-spot-of .spot-of .ensures .below))
 
 returns-3 : tie.Need-returns-3
 unfolding memberCall
@@ -45,8 +41,9 @@ returns-3 c =
     let at-if1 = at-spot-of .before in
     let at-judge = at-if1 .before in
     let start = at-judge .before .before in
-    give-asked (now (start .args .block)) (λ (es : List Entry). seated (member es (start .args .x)) (length (whollyBelow (start .args .x) es))) (at-judge .judge .result) _
-    (at-judge .judge .ensures) (at-if1 .if1 .left) (ap₂ seated (sym (c .if2 .left) ∙ at-spot-of .spot-of .ensures .inside) (at-spot-of .spot-of .ensures .below))
+    give-asked (now (start .args .block)) (seatOf (start .args .x)) (at-judge .judge .result) _
+    (at-judge .judge .ensures) (at-if1 .if1 .left)
+    (ap₂ seated (sym (c .if2 .left) ∙ at-spot-of .spot-of .ensures .inside) (at-spot-of .spot-of .ensures .below))
 
 pub member-spec : {M : Type 1} → statement M
 member-spec =
