@@ -56,8 +56,8 @@
 #endif
 
 /* The version, here and nowhere else: CHANGELOG.md says what changed, and ./install writes it into wimblorque.pc. */
-#define WIMBLORQUE_VERSION_MAJOR 1
-#define WIMBLORQUE_VERSION_MINOR 4
+#define WIMBLORQUE_VERSION_MAJOR 2
+#define WIMBLORQUE_VERSION_MINOR 0
 #define WIMBLORQUE_VERSION_PATCH 0
 #define WIMBLORQUE_TEXT_OF(x) #x
 #define WIMBLORQUE_DOTTED(x, y, z) WIMBLORQUE_TEXT_OF(x) "." WIMBLORQUE_TEXT_OF(y) "." WIMBLORQUE_TEXT_OF(z)
