@@ -29,7 +29,7 @@ NEEDS = {
 # one search is a matter of the code, and that neighbours can be shown one of theorems.
 OWN_NEEDS = {"H3": ["tests", "code"], "K4": ["theorems", "edits", "tests"], "P6": ["theorems", "tests"]}
 OWN_NEEDS |= {number: ["theorems", "tests"] for number in ("C4", "C5", "C6", "W3")}
-OWN_NEEDS |= {"W2": ["definitions", "theorems", "edits", "code"], "W4": ["edits", "tests", "code"]}
+OWN_NEEDS |= {"W2": ["definitions", "theorems", "edits", "tests", "code"], "W4": ["edits", "tests", "code"]}
 # Programs and tables of tests, where a line says in a comment which requirement it is about.
 TESTS = [
     "crates/demands/proofs/Table.antt",

@@ -309,7 +309,7 @@ BEGUN = ["fits", "too long", "far"]
 
 
 def begun_case(name, count, place, way, seed):
-    """[L1] A fit, on a list of so many ranges, in a window that begins at the number at a place: up to the end of the first gap from there on,
+    """[L1, W2] A fit, on a list of so many ranges, in a window that begins at the number at a place: up to the end of the first gap from there on,
     which the run just fills or is a number too long for; or far up, for a run about as long as one of the gaps."""
     rng = random.Random(seed)
     items, a = placed(name, rng, count, place)
