@@ -19,16 +19,16 @@ use Rattle.entries.proofs.Values.{true≢false}
 use Rattle.answers.specs.Answers.{outcome, seated}
 use Rattle.blocks.specs.Blocks.{setLayout, entriesOf, SoundBlock}
 use Rattle.blocks.proofs.Judging.{verdict-sound}
-use Rattle.searches.specs.Steps.{First, FirstFrom, SpotOf}
+use Rattle.searches.specs.Steps.{FirstFrom, SpotOf}
 use Rattle.searches.proofs.Finding.{highs, item-order, items-apart}
 use Rattle.searches.proofs.Spots.{spot-first}
-use Rattle.searches.proofs.Ends.{first-by, holding, out}
+use Rattle.searches.proofs.Ends.{first-by, one-first, holding, out}
 use Rattle.sets.specs.Calls.{memberCall, rangeAtCall}
 use Rattle.demands.specs.Plain.{Iff, SoundSet, InRange, In, answers, yesWith, noWith}
 use Rattle.demands.specs.Seats.{MemberIs, CountBelow, MemberCount, Holds, HeldAt, Beside, NextTo, Holder, MemberHolder, Neighbours, MemberNeighbours}
 use Rattle.demands.specs.Seats.{HoldsKey, BesideKey, SeatKey}
 use Rattle.demands.proofs.Questions.{in-set, seated-sound, range-at-means}
-use Rattle.demands.proofs.Signed.{up-to, down-to}
+use Rattle.demands.proofs.Signed.{up-to, down-to, in-keys}
 use Rattle.demands.proofs.Outcomes.{iff-by}
 
 pub member-is : MemberIs
@@ -46,15 +46,6 @@ says-yes false c i e = let z : _≡_ {A = ℕ} 0 1 = cc in absurd (omega arith)
 says-no : (t : Bool) (c i : ℕ) → outcome (seated t c) [] ≡ noWith i → (t ≡ false) × (c ≡ i)
 says-no true c i e = let z : _≡_ {A = ℕ} 1 0 = cc in absurd (omega arith)
 says-no false c i e = (refl, cc)
-
--- there is one first place
-one-first : {f : ℕ → ℕ} {n x i j : ℕ} → First f n x i → First f n x j → i ≡ j
-one-first {f} {n} {x} {i} {j} a b = go (decLt i j) (decLt j i)
-  where
-    go : Dec (i < j) → Dec (j < i) → i ≡ j
-    go (yes h) d = absurd (omega (arith, b .before i h, a .from (omega (arith, b .within))))
-    go (no h) (yes k) = absurd (omega (arith, a .before j k, b .from (omega (arith, a .within))))
-    go (no h) (no k) = omega arith
 
 -- OF A SOUND BLOCK
 module _ (w : List ℕ) (s : SoundSet w) where
@@ -116,7 +107,10 @@ module _ (w : List ℕ) (s : SoundSet w) where
     held : In w x ≡ true → Holds w x below
     held t =
         let o = holding (omega arith) block sits t in
-        record { within = o .within; from = omega (arith, o .from, low-is below); upto = omega (arith, o .upto, high-is below) }
+        record {
+          range = record { index = below; below = o .within; low = omega (arith, o .from, low-is below); high = omega (arith, o .upto, high-is below) };
+          at = refl;
+        }
 
     beside : In w x ≡ false → Beside w x below
     beside t = record {
@@ -183,13 +177,17 @@ member-count w x i s = record { to = to; from = λ c. from c (In w x) refl }
     from c true t = inl (yes-is w s x i t (is c))
     from c false t = inr (no-is w s x i t (is c))
 
+-- the count, by the range that holds x
+count-held : (w : List ℕ) (s : SoundSet w) (x : ℕ) (r : InRange w x) → length (whollyBelow x (entriesOf 2 w)) ≡ r .index
+count-held w s x r =
+    count-is w s x (r .index) (omega (arith, r .below))
+    (λ k e. omega (arith, apart w s k (r .index) (omega arith) (r .below), r .low, low-is w s (r .index)))
+    (λ m. omega (arith, r .high, high-is w s (r .index)))
+
 pub held-at : HeldAt
 held-at w x i s = record {
   to = λ e. let y = yes-says w s x i e in subst (Holds w x) (y .1) (held w s x (y .0));
-  from = λ h. yes-is w s x i
-      (in-set w x s .from (record { index = i; below = h .within; low = h .from; high = h .upto }))
-      (count-is w s x i (omega (arith, h .within))
-      (λ k e. omega (arith, apart w s k i (omega arith) (h .within), h .from, low-is w s i)) (λ m. omega (arith, h .upto, high-is w s i)));
+  from = λ h. yes-is w s x i (in-set w x s .from (h .range)) (count-held w s x (h .range) ∙ h .at);
 }
 
 pub next-to : NextTo
@@ -204,7 +202,8 @@ next-to w x i s = record {
 pub member-holder : MemberHolder
 member-holder w x i s e =
     let h = held-at w x i s .to e in
-    record { low = _; high = _; is = range-at-means w i s .0 (h .within); from = h .from; upto = h .upto }
+    let r = h .range in
+    record { low = _; high = _; is = ap (rangeAtCall w) (sym (h .at)) ∙ range-at-means w (r .index) s .0 (r .below); from = r .low; upto = r .high }
 
 -- the range at an index, where there is one
 record Ranged (w : List ℕ) (k l h : ℕ) : Type 0 where
@@ -284,8 +283,7 @@ above {x} {y} a b i = record { to = λ h. above-is a b ∙ ap not (not-upto h (l
 pub seat-key : SeatKey
 seat-key w k i s j = (
   iff-by (held-at w (wordOf k) i s)
-      (λ h. record { within = h .within; from = up-to _ refl k j .to (h .from); upto = down-to _ refl k j .to (h .upto) })
-      (λ h. record { within = h .within; from = up-to _ refl k j .from (h .from); upto = down-to _ refl k j .from (h .upto) }),
+      (λ h. record { range = in-keys w k j .to (h .range); at = h .at }) (λ h. record { range = in-keys w k j .from (h .range); at = h .at }),
   iff-by (next-to w (wordOf k) i s)
       (λ h. record { within = h .within; below = λ m e. under m .to (h .below m e); above = λ l. over .to (h .above l) })
       (λ h. record { within = h .within; below = λ m e. under m .from (h .below m e); above = λ l. over .from (h .above l) }),

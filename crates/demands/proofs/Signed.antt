@@ -25,11 +25,12 @@ use Rattle.fits.specs.Fits.{firstFit}
 use Rattle.fits.specs.Meaning.{FreeRun, IsGap}
 use Rattle.fits.specs.Calls.{askRefusals, fitCall}
 use Rattle.fits.proofs.Reserving.{fit-chosen}
-use Rattle.demands.specs.Plain.{Iff, In, answers, SetLeft, between}
+use Rattle.demands.specs.Plain.{Iff, InRange, In, answers, SetLeft, between}
 use Rattle.demands.specs.Questions.{Answers}
 use Rattle.demands.specs.Signed.{OneKey, AllKeys, KeyOrder, NextKey, KeyDifference, InKeys, betweenKeys, MemberKey, LeastKey, LeastFreeKey}
 use Rattle.demands.specs.Signed.{SizeKeys, WindowKeys, EqualKeys, WithinKeys, DisjointKeys, KeysLeft, InsertKeys, RemoveKeys, BackwardsKeys}
 use Rattle.demands.specs.Signed.{UnionKeys, IntersectionKeys, DifferenceKeys, SymmetricDifferenceKeys, ComplementKeys, FreeKeys, FreeRuns, FirstFitKeys}
+use Rattle.demands.specs.Signed.{InKeyRange}
 use Rattle.demands.specs.Signed.{KeyGap, BestFitKeys, NoFreeKeys, NoFitKeys, ReserveKeys, RangeAtKeys}
 use Rattle.demands.specs.Outcomes.{RunAsked, FreeSomewhere}
 use Rattle.demands.proofs.Words.{split}
@@ -122,12 +123,15 @@ plus-key (negsuc m) n i h = go (ltb (n - 1) (suc m)) refl
 answers-so : {call : Outcome} {P Q : Type 0} → Iff P Q → Answers call P → Answers call Q
 answers-so i a = (iff-by (a .0) (i .to) (i .from), iff-by (a .1) (λ n q. n (i .from q)) (λ n p. n (i .to p)))
 
+-- a range holds the word of a key exactly if it holds the key
+abbrev pub in-keys : (w : List ℕ) (k : ℤ) → IsKey k → Iff (InRange w (wordOf k)) (InKeyRange w k)
+in-keys w k i = record {
+  to = λ r. record { index = r .index; below = r .below; low = up-to _ refl k i .to (r .low); high = down-to _ refl k i .to (r .high) };
+  from = λ r. record { index = r .index; below = r .below; low = up-to _ refl k i .from (r .low); high = down-to _ refl k i .from (r .high) };
+}
+
 pub member-key : MemberKey
-member-key w k s i =
-    answers-so (record {
-      to = λ r. record { index = r .index; below = r .below; low = up-to _ refl k i .to (r .low); high = down-to _ refl k i .to (r .high) };
-      from = λ r. record { index = r .index; below = r .below; low = up-to _ refl k i .from (r .low); high = down-to _ refl k i .from (r .high) };
-    }) (member-means w (wordOf k) s)
+member-key w k s i = answers-so (in-keys w k i) (member-means w (wordOf k) s)
 
 -- what is said of all numbers from x on, and from x to below y, said of keys
 module _ (m : ℕ → Bool) (t : Bool) (x : ℤ) (i : IsKey x) where

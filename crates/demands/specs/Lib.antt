@@ -1,11 +1,11 @@
 pub mod Plain
 pub mod Outcomes
 pub mod Questions
-pub mod Seats
 pub mod Changes
 pub mod Fits
 pub mod Stored
 pub mod Signed
+pub mod Seats
 pub mod Prefixes
 pub mod Bytes
 pub mod Damage

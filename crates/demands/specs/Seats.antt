@@ -7,12 +7,13 @@ use mathlib.Core.List.{List, [], _∷_}
 use Prim.Native.Nat.{ℕ, suc, _+_, _*_, _≤_, _<_}
 use lib.ListN.{length, getD}
 use lib.IntN.{ℤ}
-use lib.Signed.{ltZ, leZ}
+use lib.Signed.{ltZ}
 use Rattle.keys.specs.Keys.{IsKey, wordOf, keyOf}
 use Rattle.entries.specs.Questions.{bit, whollyBelow}
 use Rattle.blocks.specs.Blocks.{setLayout, entriesOf}
 use Rattle.sets.specs.Calls.{memberCall, rangeAtCall}
-use Rattle.demands.specs.Plain.{Iff, SoundSet, In, answers, yesWith, noWith}
+use Rattle.demands.specs.Plain.{Iff, SoundSet, InRange, In, answers, yesWith, noWith}
+use Rattle.demands.specs.Signed.{InKeyRange}
 
 -- [S1, W1, D2] what is answered: 1 or 0, and the number of ranges that lie wholly below x
 abbrev pub MemberIs : Type 0
@@ -28,11 +29,10 @@ pub record CountBelow (w : List ℕ) (x i : ℕ) : Type 0 where
 abbrev pub MemberCount : Type 0
 MemberCount = (w : List ℕ) (x i : ℕ) → SoundSet w → Iff ((memberCall w x ≡ yesWith i) ⊎ (memberCall w x ≡ noWith i)) (CountBelow w x i)
 
--- [W1, W3] the range at index i holds x
+-- [W1, W3] the range at index i holds x: x is in a range, and that is its index
 pub record Holds (w : List ℕ) (x i : ℕ) : Type 0 where
-  pub within : i < getD w 0 0
-  pub from : getD w (1 + 2 * i) 0 ≤ x
-  pub upto : x ≤ getD w (2 + 2 * i) 0
+  pub range : InRange w x
+  pub at : range .index ≡ i
 
 -- [W1, W3, D2] A MEMBER: yes with i exactly if the range at index i holds x
 abbrev pub HeldAt : Type 0
@@ -72,11 +72,10 @@ pub record Neighbours (w : List ℕ) (x i : ℕ) : Type 0 where
 abbrev pub MemberNeighbours : Type 0
 MemberNeighbours = (w : List ℕ) (x i : ℕ) → SoundSet w → memberCall w x ≡ noWith i → Neighbours w x i
 
--- [K2, W1, W3] of a signed set: the range at index i holds the key;
+-- [K2, W1, W3] of a signed set: the range at index i holds the key
 pub record HoldsKey (w : List ℕ) (k : ℤ) (i : ℕ) : Type 0 where
-  pub within : i < getD w 0 0
-  pub from : leZ (keyOf (getD w (1 + 2 * i) 0)) k ≡ true
-  pub upto : leZ k (keyOf (getD w (2 + 2 * i) 0)) ≡ true
+  pub range : InKeyRange w k
+  pub at : range .index ≡ i
 
 -- [K2, W1, W3] the key lies between the ranges at index i - 1 and i, where there are such
 pub record BesideKey (w : List ℕ) (k : ℤ) (i : ℕ) : Type 0 where

@@ -4,6 +4,7 @@ use mathlib.Core.Bool.{Bool, true, false}
 use mathlib.Core.List.{List}
 use Prim.Native.Nat.{ℕ, suc, _+_, _*_, _-_, _≤_, _<_}
 use native.Mathlib.Omega.{arith}
+use native.Mathlib.Decide.{decLt}
 use lib.Dec.{ltb, eqb}
 use lib.ListN.{length, getD}
 use borrow.Author.Tests.{ltb-true, ltb-false, eqb-true, eqb-false}
@@ -24,6 +25,15 @@ first-by {f} {n} {y} {i} r within last from = record {
   before = λ k h. let m : suc (i - 1) ≡ i = omega arith in omega (arith, r k (i - 1) (omega arith) (omega arith), last (i - 1) m);
   from = from;
 }
+
+-- there is one such place
+pub one-first : {f : ℕ → ℕ} {n x i j : ℕ} → First f n x i → First f n x j → i ≡ j
+one-first {f} {n} {x} {i} {j} a b = go (decLt i j) (decLt j i)
+  where
+    go : Dec (i < j) → Dec (j < i) → i ≡ j
+    go (yes h) d = absurd (omega (arith, b .before i h, a .from (omega (arith, b .within))))
+    go (no h) (yes k) = absurd (omega (arith, a .before j k, b .from (omega (arith, a .within))))
+    go (no h) (no k) = omega arith
 
 module _ {l : Layout} {w : List ℕ} (two : 2 ≤ l .width) (b : SoundBlock l w) {x : ℕ} {r : Spot} (g : SpotOf l w x r) where
   abbrev n : ℕ
@@ -74,48 +84,37 @@ module _ {l : Layout} {w : List ℕ} (two : 2 ≤ l .width) (b : SoundBlock l w)
       let a = items-apart two b refl (r .below) (suc (r .below)) (omega arith) h in
       (omega (arith, o .upto), omega (arith, o .upto, in-order (suc (r .below)) h))
 
+  -- THE COUNTS, by one test: one more than the items below x, where the one that holds it is to be counted, or just those
+  counts : {f : ℕ → ℕ} {y c : ℕ} → Rises f n → (u : Bool) → c ≡ pick u (r .below + 1) (r .below)
+      → (u ≡ true → (r .below < n) × (f (r .below) < y) × (suc (r .below) < n → y ≤ f (suc (r .below))))
+      → (u ≡ false → ((k : ℕ) → suc k ≡ r .below → f k < y) × (r .below < n → y ≤ f (r .below))) → First f n y c
+  counts {f} {y} {c} s true q more less =
+      let m = more refl in
+      let z : c ≡ suc (r .below) = omega arith in
+      rw z (first-by s (m .0) (λ k e. let j : k ≡ r .below = omega arith in rw j (m .1)) (m .2))
+  counts s false q more less = rw q (first-by s (first .within) (less refl .0) (less refl .1))
+
   -- [W2] HOW MANY BEGIN BELOW x: where no item holds x, those wholly below it; else one more, if the item that holds it begins below x
   pub begun-out : r .inside ≡ false → FirstFrom w (l .width) 1 n x (r .below)
   begun-out t = first-by (lows two b refl .rises) (first .within) (λ k e. under k e .0) (λ h. omega (arith, out t h))
 
   pub begun-in : r .inside ≡ true → {y c : ℕ} → y ≡ low (r .below) → c ≡ pick (ltb y x) (r .below + 1) (r .below) → FirstFrom w (l .width) 1 n x c
-  begun-in t {y} {c} e q = go (ltb y x) refl q
-    where
-      o : Holding
-      o = holding t
-
-      go : (u : Bool) → ltb y x ≡ u → c ≡ pick u (r .below + 1) (r .below) → FirstFrom w (l .width) 1 n x c
-      go true p q = let z : c ≡ suc (r .below) = omega arith in
-          rw z (first-by (lows two b refl .rises) (omega (arith, o .within)) (λ k m. let j : k ≡ r .below = omega arith in rw j (omega (arith, ltb-true y x p)))
-          (λ h. omega (arith, behind t h .0)))
-      go false p q = rw q (first-by (lows two b refl .rises) (first .within) (λ k m. under k m .0) (λ h. omega (arith, ltb-false y x p)))
+  begun-in t {y} e q = let o = holding t in
+      counts (lows two b refl .rises) (ltb y x) q (λ p. (o .within, omega (arith, ltb-true y x p), λ h. omega (arith, behind t h .0)))
+      (λ p. (λ k m. under k m .0, λ h. omega (arith, ltb-false y x p)))
 
   -- [W2] HOW MANY BEGIN AT OR BELOW IT: and the one that holds it
   pub begun-by : {c : ℕ} → c ≡ pick (r .inside) (r .below + 1) (r .below) → FirstFrom w (l .width) 1 n (x + 1) c
-  begun-by {c} q = go (r .inside) refl q
-    where
-      go : (u : Bool) → r .inside ≡ u → c ≡ pick u (r .below + 1) (r .below) → FirstFrom w (l .width) 1 n (x + 1) c
-      go true t q = let z : c ≡ suc (r .below) = omega arith in
-          let o = holding t in
-          rw z (first-by (lows two b refl .rises) (omega (arith, o .within)) (λ k m. let j : k ≡ r .below = omega arith in rw j (omega (arith, o .from)))
-          (λ h. omega (arith, behind t h .0)))
-      go false t q = rw q (first-by (lows two b refl .rises) (first .within) (λ k m. omega (arith, under k m .0)) (λ h. omega (arith, out t h)))
+  begun-by q =
+      counts (lows two b refl .rises) (r .inside) q
+      (λ t. (holding t .within, omega (arith, holding t .from), λ h. omega (arith, behind t h .0)))
+      (λ t. (λ k m. omega (arith, under k m .0), λ h. omega (arith, out t h)))
 
   -- [W2] HOW MANY END AT OR BELOW IT: and the one that holds it, if it ends there
   pub ended-out : r .inside ≡ false → FirstFrom w (l .width) 2 n (x + 1) (r .below)
   ended-out t = first-by (highs two b refl .rises) (first .within) (λ k e. omega (arith, under k e .1)) (λ h. omega (arith, out t h, in-order (r .below) h))
 
   pub ended-in : r .inside ≡ true → {y c : ℕ} → y ≡ high (r .below) → c ≡ pick (eqb y x) (r .below + 1) (r .below) → FirstFrom w (l .width) 2 n (x + 1) c
-  ended-in t {y} {c} e q = go (eqb y x) refl q
-    where
-      o : Holding
-      o = holding t
-
-      go : (u : Bool) → eqb y x ≡ u → c ≡ pick u (r .below + 1) (r .below) → FirstFrom w (l .width) 2 n (x + 1) c
-      go true p q = let z : c ≡ suc (r .below) = omega arith in
-          rw z (first-by (highs two b refl .rises) (omega (arith, o .within))
-          (λ k m. let j : k ≡ r .below = omega arith in rw j (omega (arith, eqb-true y x p)))
-          (λ h. omega (arith, behind t h .1)))
-      go false p q =
-          let d : y ≡ x → ⊥ = eqb-false y x p in
-          rw q (first-by (highs two b refl .rises) (first .within) (λ k m. omega (arith, under k m .1)) (λ h. omega (arith, o .upto)))
+  ended-in t {y} e q = let o = holding t in
+      counts (highs two b refl .rises) (eqb y x) q (λ p. (o .within, omega (arith, eqb-true y x p), λ h. omega (arith, behind t h .1)))
+      (λ p. (λ k m. omega (arith, under k m .1), λ h. let d : y ≡ x → ⊥ = eqb-false y x p in omega (arith, o .upto)))
