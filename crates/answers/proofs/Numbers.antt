@@ -11,7 +11,7 @@ use Rattle.entries.specs.Build.{andb}
 use Rattle.entries.proofs.Values.{and-true}
 use Rattle.answers.specs.declared.Reason.{Reason}
 use Rattle.answers.specs.declared.Reason.the-variants.{NoBlock, Count, Order, Backwards, Room, ZeroRun, NoGap, Short, Mark, Kind, Check}
-use Rattle.answers.specs.declared.Reason.the-variants.{Content, Trailing, Overlap, NoSpace}
+use Rattle.answers.specs.declared.Reason.the-variants.{Content, Trailing, Overlap, NoSpace, Align}
 use Rattle.answers.specs.declared.Refusal.{Refusal}
 use Rattle.answers.specs.declared.Judged.{Judged}
 use Rattle.answers.specs.declared.Judged.the-variants as judged
@@ -53,6 +53,7 @@ number-reason Content = refl
 number-reason Trailing = refl
 number-reason Overlap = refl
 number-reason NoSpace = refl
+number-reason Align = refl
 
 -- the refusal of a number says that number
 pub refusal-says : (k place : ℕ) → 1 ≤ k → k ≤ lastNumber → refusalSays (refusalOf k place) ≡ refused k place

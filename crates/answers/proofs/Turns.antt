@@ -147,6 +147,19 @@ turn-accepted (f ∷ fs) lent o xs after e =
     let j = judged-accepted (f .number) (f .place) lent (inTurn fs lent o) xs after e in
     let k = turn-accepted fs lent o xs after (j .1) in ((j .0, k .0), k .1)
 
+-- what is refused with a number and a place by the same refusals in turn, or then, is refused so by them before another outcome, whatever is lent
+pub turn-refused : (fs : List Finding) (lent : List (List ℕ)) {x y : Outcome} {n p : ℕ}
+    → (x ≡ outcome (refused n p) [] → y ≡ outcome (refused n p) lent)
+    → inTurn fs [] x ≡ outcome (refused n p) [] → inTurn fs lent y ≡ outcome (refused n p) lent
+turn-refused [] lent last e = last e
+turn-refused (f ∷ fs) lent {x} {y} {n} {p} last e = step (f .number) e (turn-refused fs lent last)
+  where
+    step : (v : ℕ) → judged v (f .place) [] (inTurn fs [] x) ≡ outcome (refused n p) []
+        → (inTurn fs [] x ≡ outcome (refused n p) [] → inTurn fs lent y ≡ outcome (refused n p) lent)
+        → judged v (f .place) lent (inTurn fs lent y) ≡ outcome (refused n p) lent
+    step zero h ih = ih h
+    step (suc v) h ih = let i : refused (suc v) (f .place) ≡ refused n p = cc in ap (λ (a : Answer). outcome a lent) i
+
 pub clear-turn : (fs : List Finding) (lent : List (List ℕ)) (o : Outcome) → Clear fs → inTurn fs lent o ≡ o
 clear-turn [] lent o c = refl
 clear-turn (f ∷ fs) lent o c = rw (c .0) (clear-turn fs lent o (c .1))

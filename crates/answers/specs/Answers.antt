@@ -8,9 +8,9 @@ use lib.Dec.{eqb}
 use Rattle.entries.specs.Build.{pick}
 use Rattle.answers.specs.declared.Finding.{Finding}
 
--- the highest number of the table of refusals, that of NoSpace
+-- the highest number of the table of refusals, that of Align
 abbrev pub lastNumber : ℕ
-lastNumber = 15
+lastNumber = 16
 
 -- [R0] given, with the values that the question asks for; or refused, with a number and a place
 pub data Answer : Type 0 where

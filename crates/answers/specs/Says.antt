@@ -8,7 +8,7 @@ use Rattle.keys.specs.declared.Apart.the-variants as apart
 use Rattle.entries.specs.Build.{pick}
 use Rattle.answers.specs.declared.Reason.{Reason}
 use Rattle.answers.specs.declared.Reason.the-variants.{NoBlock, Count, Order, Backwards, Room, ZeroRun, NoGap, Short, Mark, Kind, Check}
-use Rattle.answers.specs.declared.Reason.the-variants.{Content, Trailing, Overlap, NoSpace}
+use Rattle.answers.specs.declared.Reason.the-variants.{Content, Trailing, Overlap, NoSpace, Align}
 use Rattle.answers.specs.declared.Refusal.{Refusal}
 use Rattle.answers.specs.declared.Judged.{Judged}
 use Rattle.answers.specs.declared.Judged.the-variants as judged
@@ -55,6 +55,7 @@ numberOf Content = 12
 numberOf Trailing = 13
 numberOf Overlap = 14
 numberOf NoSpace = 15
+numberOf Align = 16
 
 -- [R0, G7] a refusal: its number and its place
 abbrev pub refusalSays : Refusal → Answer
@@ -176,7 +177,8 @@ reasonOf number =
     (pick (eqb number 12) Content
     (pick (eqb number 13) Trailing
     (pick (eqb number 14) Overlap
-    NoSpace)))))))))))))
+    (pick (eqb number 15) NoSpace
+    Align))))))))))))))
 
 -- the refusal of a number at a place
 abbrev pub refusalOf : ℕ → ℕ → Refusal

@@ -1,4 +1,4 @@
-// What a call can answer: the fifteen refusals of the table, and the answers of the questions and the changes.
+// What a call can answer: the refusals of the table, and the answers of the questions and the changes.
 ghost use mathlib.Core.Path.{_≡_};
 ghost use Rattle.answers.specs.Says.{numberOf, refusalOf, judgedOf, foundSays, rangedSays, placedSays, foundKeySays, rangedKeysSays, placedKeySays};
 
@@ -19,6 +19,7 @@ pub enum Reason {
     Trailing,
     Overlap,
     NoSpace,
+    Align,
 }
 
 // A refusal: the reason, and the place that the table gives for it.
@@ -121,7 +122,7 @@ pub enum Written {
     Refused(Refusal),
 }
 
-// [G7] The refusal with a number of the table, 1 to 15. A number that is not in the table gives the table's last refusal, NoSpace.
+// [G7] The refusal with a number of the table. A number that is not in the table gives the table's last refusal, Align.
 pub fn refusal_of(number: u8, place: usize) -> Refusal
     ensures { λ r. ⌜ r ≡ refusalOf number place ⌝ }
 {
@@ -140,7 +141,8 @@ pub fn refusal_of(number: u8, place: usize) -> Refusal
         12 => Reason::Content,
         13 => Reason::Trailing,
         14 => Reason::Overlap,
-        _ => Reason::NoSpace,
+        15 => Reason::NoSpace,
+        _ => Reason::Align,
     };
     Refusal { reason, place }
 }
@@ -175,6 +177,7 @@ pub fn number_of(reason: Reason) -> u8
         Reason::Trailing => 13,
         Reason::Overlap => 14,
         Reason::NoSpace => 15,
+        Reason::Align => 16,
     }
 }
 

@@ -8,24 +8,32 @@ use native.Mathlib.Decide.{decLt}
 use lib.Dec.{ltb, eqb}
 use lib.ListN.{length}
 use borrow.Author.Tests.{le-ltb, ne-eqb}
+use borrow.Author.Tests.{ltb-false}
 use Rattle.entries.specs.Entries.{Entry}
 use Rattle.answers.specs.declared.Finding.{Finding}
 use Rattle.answers.specs.Answers.{given, outcome, refuse, inTurn, Clear}
 use Rattle.answers.proofs.Turns.{clear-turn, clear-both, clear-split}
+use Rattle.answers.proofs.Turns.{applies-clear}
 use Rattle.blocks.specs.declared.Layout.{Layout}
 use Rattle.blocks.specs.Blocks.{setLayout, entriesOf, verdict}
 use Rattle.blocks.specs.Calls.{input, backwards, noRoom, room}
 use Rattle.blocks.proofs.Refusing.{in-order, room-fits}
 use Rattle.edits.specs.Calls.{edited, editCall}
 use Rattle.fits.specs.Fits.{anywhere, firstFit, bestFit}
+use Rattle.fits.specs.Fits.{aligned, firstGap, shortestGap}
 use Rattle.fits.specs.Meaning.{FirstOf}
+use Rattle.fits.specs.Starts.{Multiple, FirstAt}
 use Rattle.fits.specs.Calls.{zeroRun, gapless, noGap, placeOf, askRefusals, fitRefusals, answered, fitCall, reservedAt, reserveRefusals, reserveCall}
+use Rattle.fits.specs.Calls.{lastPower, tooHigh, alignRefusals, alignedPlace, fitAlignedCall, reserveAlignedCall}
 use Rattle.fits.proofs.Meaning.{first-fit, first-none, best-none}
+use Rattle.fits.proofs.Meaning.{first-at}
+use Rattle.fits.proofs.Multiples.{multiples}
 use Rattle.fits.proofs.Reserving.{fit-chosen}
 use Rattle.forms.proofs.Forms.{has-room}
 use Rattle.searches.specs.Calls.{windowRefusalCall}
 use Rattle.demands.specs.Plain.{Iff, SoundSet}
 use Rattle.demands.specs.Outcomes.{Accepts, BackwardsExactly, ZeroRunExactly, RunAsked, FreeSomewhere, NoGapExactly, FitAccepted, ReserveAccepted}
+use Rattle.demands.specs.Aligned.{AlignedAsked, AlignedSomewhere, NoGapAligned, FitAlignedAccepted, AlignExactly, AlignedBackwards, AlignedZeroRun}
 use Rattle.demands.proofs.Findings.{Where, Numbered, applied}
 use Rattle.demands.proofs.Rooms.{Other, input-other, range-other, room-other}
 use Rattle.demands.proofs.Fits.{some-run}
@@ -215,3 +223,163 @@ reserve-accepted-exactly fit w a b k =
 
     room-at : ℕ → List Finding
     room-at s = room 0 setLayout (length w) (reservedAt w s k) ∷ []
+
+-- ALIGNED: what is tried behind 6, and its number
+high-other : (n : ℕ) → Other n 16 → (j : ℕ) → Where (Other n) (tooHigh j .number)
+high-other n h j = applied (Other n) (ltb lastPower j) 16 h
+
+-- j is not refused exactly if it is at most 63
+low-power : (j : ℕ) → tooHigh j .number ≡ 0 → j ≤ lastPower
+low-power j e = ltb-false lastPower j (applies-clear (ltb lastPower j) 15 e)
+
+power-low : (j : ℕ) → j ≤ lastPower → tooHigh j .number ≡ 0
+power-low j h = rw (le-ltb lastPower j h)
+
+-- 16: a run that is rightly asked for, and then j, whatever is tried behind it
+align-given : (w : List ℕ) (a b k j : ℕ) (hs : List Finding) → Numbered (Other 16) hs → (lent : List (List ℕ)) (xs : List ℕ) (after : List (List ℕ))
+    → Iff (inTurn (alignRefusals w a b k j ++ hs) lent (outcome (given xs) after) ≡ refuse 16 0 lent) (RunAsked w a b k × (lastPower < j))
+align-given w a b k j hs other lent xs after =
+    iff-by (refused-one 16 0 (tooHigh j .number) (askRefusals w a b k) hs
+    (input-other 16 (omega arith) setLayout w, (range-other 16 (λ e. omega arith) a b, (zero-other 16 (λ e. omega arith) k, tt)))
+    (applied (λ m. m ≡ 16) (ltb lastPower j) 16 refl) other lent xs after)
+    (λ h. (asked-clear w a b k (h .0), above (decLt lastPower j) (h .1)))
+    (λ h. (clear-asked w a b k (h .0), λ z. omega (arith, low-power j z, h .1)))
+  where
+    above : Dec (lastPower < j) → (tooHigh j .number ≡ 0 → ⊥) → lastPower < j
+    above (yes h) n = h
+    above (no h) n = absurd (n (power-low j (omega arith)))
+
+module _ (choose : List Entry → Option Entry) (w : List ℕ) (a b k j : ℕ) where
+  -- what comes last: 7, and of a reservation then 5
+  abbrev pub asks-last : List Finding
+  asks-last = noGap (alignedPlace choose w a b k j) ∷ []
+
+  abbrev pub takes-last : List Finding
+  takes-last = noGap (alignedPlace choose w a b k j) ∷ room 0 setLayout (length w) (reservedAt w (placeOf (alignedPlace choose w a b k j)) k) ∷ []
+
+  module _ (n : ℕ) (seven : Other n 7) (five : Other n 5) where
+    last-asked : Numbered (Other n) asks-last
+    last-asked = (gap-other n seven (alignedPlace choose w a b k j), tt)
+
+    last-taken : Numbered (Other n) takes-last
+    last-taken = (last-asked .0, (room-other n five setLayout (length w) (reservedAt w (placeOf (alignedPlace choose w a b k j)) k), tt))
+
+pub align-exactly : AlignExactly
+unfolding fitAlignedCall reserveAlignedCall
+align-exactly choose w a b k j = (
+  align-given w a b k j (asks-last choose w a b k j) (last-asked choose w a b k j 16 (λ e. omega arith) (λ e. omega arith)) [] _ _,
+  align-given w a b k j (takes-last choose w a b k j) (last-taken choose w a b k j 16 (λ e. omega arith) (λ e. omega arith)) (w ∷ []) _ _,
+)
+
+-- 4, and 6: what is tried behind them is j too
+pub aligned-backwards : AlignedBackwards
+unfolding fitAlignedCall reserveAlignedCall
+aligned-backwards choose w a b k j = (
+  backwards-given setLayout w a b (zeroRun k ∷ tooHigh j ∷ asks-last choose w a b k j)
+      (zero, (high, last-asked choose w a b k j 4 (λ e. omega arith) (λ e. omega arith))) [] _ _,
+  backwards-given setLayout w a b (zeroRun k ∷ tooHigh j ∷ takes-last choose w a b k j)
+      (zero, (high, last-taken choose w a b k j 4 (λ e. omega arith) (λ e. omega arith))) (w ∷ []) _ _,
+)
+  where
+    zero : Where (Other 4) (zeroRun k .number)
+    zero = zero-other 4 (λ e. omega arith) k
+
+    high : Where (Other 4) (tooHigh j .number)
+    high = high-other 4 (λ e. omega arith) j
+
+pub aligned-zero-run : AlignedZeroRun
+unfolding fitAlignedCall reserveAlignedCall
+aligned-zero-run choose w a b k j = (
+  zero-run-given w a b k (tooHigh j ∷ asks-last choose w a b k j) (high, last-asked choose w a b k j 6 (λ e. omega arith) (λ e. omega arith)) [] _ _,
+  zero-run-given w a b k (tooHigh j ∷ takes-last choose w a b k j) (high, last-taken choose w a b k j 6 (λ e. omega arith) (λ e. omega arith)) (w ∷ []) _ _,
+)
+  where
+    high : Where (Other 6) (tooHigh j .number)
+    high = high-other 6 (λ e. omega arith) j
+
+-- 7: a place is found exactly if there is one, by first fit
+module _ (w : List ℕ) (a b k j : ℕ) where
+  aligned-clear : Clear (alignRefusals w a b k j) → AlignedAsked w a b k j
+  aligned-clear c =
+      let s = clear-split (askRefusals w a b k) (tooHigh j ∷ []) c in
+      record { run = asked-clear w a b k (s .0); power = low-power j (s .1 .0) }
+
+  clear-aligned : AlignedAsked w a b k j → Clear (alignRefusals w a b k j)
+  clear-aligned r = clear-both (askRefusals w a b k) (tooHigh j ∷ []) (clear-asked w a b k (r .run)) (power-low j (r .power), tt)
+
+  -- a fit finds a place exactly if there is one
+  abbrev Finds : (List Entry → Option Entry) → Type 0
+  Finds choose = (k ≡ 0 → ⊥) → Iff (gapless (alignedPlace choose w a b k j) ≡ 0) (AlignedSomewhere w a b k j)
+
+  first-finds : Finds firstGap
+  first-finds h = go (alignedPlace firstGap w a b k j) (first-at (aligned j) (Multiple j) (multiples j) a b k (entriesOf 2 w) (one k h))
+    where
+      one : (n : ℕ) → (n ≡ 0 → ⊥) → 1 ≤ n
+      one n h = omega arith
+
+      go : (o : Option ℕ) → FirstAt (Multiple j) a b k (entriesOf 2 w) o → Iff (gapless o ≡ 0) (AlignedSomewhere w a b k j)
+      go none n = record { to = λ e. absurd (omega arith); from = λ s. absurd (n (s .start) (s .multiple) (s .run)) }
+      go (some s) f = record { to = λ e. record { start = s; multiple = f .allowed; run = f .run }; from = λ e. refl }
+
+  best-finds : Finds shortestGap
+  best-finds h = record { to = λ e. first-finds h .to (same _ _ to-best e); from = λ s. same _ _ to-first (first-finds h .from s) }
+    where
+      to-best : alignedPlace firstGap w a b k j ≡ none → alignedPlace shortestGap w a b k j ≡ none
+      to-best = first-none (aligned j) a b k (entriesOf 2 w)
+
+      to-first : alignedPlace shortestGap w a b k j ≡ none → alignedPlace firstGap w a b k j ≡ none
+      to-first = best-none (aligned j) a b k (entriesOf 2 w)
+
+      same : (o p : Option ℕ) → (o ≡ none → p ≡ none) → gapless p ≡ 0 → gapless o ≡ 0
+      same none p f e = absurd (let z : 7 ≡ 0 = sym (ap gapless (f refl)) ∙ e in omega arith)
+      same (some s) p f e = refl
+
+  module _ (choose : List Entry → Option Entry) (finds : Finds choose) where
+    aligned-no-gap-given : (hs : List Finding) → Numbered (Other 7) hs → (lent : List (List ℕ)) (xs : List ℕ) (after : List (List ℕ))
+        → Iff (inTurn (alignRefusals w a b k j ++ (noGap (alignedPlace choose w a b k j) ∷ hs)) lent (outcome (given xs) after) ≡ refuse 7 0 lent)
+        (AlignedAsked w a b k j × (AlignedSomewhere w a b k j → ⊥))
+    aligned-no-gap-given hs other lent xs after =
+        iff-by (refused-one 7 0 (gapless (alignedPlace choose w a b k j)) (alignRefusals w a b k j) hs (
+          input-other 7 (omega arith) setLayout w,
+          (range-other 7 (λ e. omega arith) a b, (zero-other 7 (λ e. omega arith) k, (high-other 7 (λ e. omega arith) j, tt))),
+        )
+        (only (alignedPlace choose w a b k j)) other lent xs after)
+        (λ h. let r = aligned-clear (h .0) in (r, λ f. h .1 (finds (r .run .some) .from f)))
+        (λ h. (clear-aligned (h .0), λ z. h .1 (finds (h .0 .run .some) .to z)))
+      where
+        only : (o : Option ℕ) → Where (λ m. m ≡ 7) (gapless o)
+        only none z = refl
+        only (some s) z = absurd (z refl)
+
+    asks-no-gap : Iff (fitAlignedCall choose w a b k j ≡ refuse 7 0 []) (AlignedAsked w a b k j × (AlignedSomewhere w a b k j → ⊥))
+    unfolding fitAlignedCall
+    asks-no-gap = aligned-no-gap-given [] tt [] _ _
+
+    takes-no-gap : Iff (reserveAlignedCall choose w a b k j ≡ refuse 7 0 (w ∷ [])) (AlignedAsked w a b k j × (AlignedSomewhere w a b k j → ⊥))
+    unfolding reserveAlignedCall
+    takes-no-gap =
+        let es = reservedAt w (placeOf (alignedPlace choose w a b k j)) k in
+        aligned-no-gap-given (room 0 setLayout (length w) es ∷ []) (room-other 7 (λ e. omega arith) setLayout (length w) es, tt) (w ∷ []) _ _
+
+    asks-accepted : Iff (Accepts (fitAlignedCall choose w a b k j)) (AlignedAsked w a b k j × AlignedSomewhere w a b k j)
+    unfolding fitAlignedCall
+    asks-accepted =
+        let last = asks-last choose w a b k j in
+        iff-by (accepted-exactly (alignRefusals w a b k j ++ last) [] _ _)
+        (λ c. let s = clear-split (alignRefusals w a b k j) last c in
+        let r = aligned-clear (s .0) in (r, finds (r .run .some) .to (s .1 .0)))
+        (λ h. clear-both (alignRefusals w a b k j) last (clear-aligned (h .0)) (finds (h .0 .run .some) .from (h .1), tt))
+
+pub no-gap-aligned : NoGapAligned
+no-gap-aligned w a b k j = (
+  asks-no-gap w a b k j firstGap (first-finds w a b k j),
+  asks-no-gap w a b k j shortestGap (best-finds w a b k j),
+  takes-no-gap w a b k j firstGap (first-finds w a b k j),
+  takes-no-gap w a b k j shortestGap (best-finds w a b k j),
+)
+
+pub fit-aligned-accepted : FitAlignedAccepted
+fit-aligned-accepted w a b k j = (
+  asks-accepted w a b k j firstGap (first-finds w a b k j),
+  asks-accepted w a b k j shortestGap (best-finds w a b k j),
+)

@@ -23,6 +23,7 @@ pub mod Effects
 pub mod Chains
 pub mod Outcomes
 pub mod FitOutcomes
+pub mod Aligned
 pub mod BulletinOutcomes
 pub mod Prefixes
 pub mod Table

@@ -17,6 +17,8 @@ use Rattle.edits.specs.Calls.{editCall}
 use Rattle.sets.specs.Calls.{memberCall, sizeCall, leastNonMemberCall, insertCall, removeCall, unionCall, complementCall}
 use Rattle.fits.specs.Fits.{gaps, placeIn}
 use Rattle.fits.specs.Calls.{fitCall, reserveCall, firstFitCall, bestFitCall, reserveFirstCall, reserveBestCall}
+use Rattle.fits.specs.Calls.{fitAlignedCall, reserveAlignedCall, firstFitAlignedCall, bestFitAlignedCall, reserveFirstAlignedCall, reserveBestAlignedCall}
+use Rattle.fits.specs.Fits.{aligned}
 use Rattle.tilings.specs.Prefixes.{largest, taken, prefixes, audit}
 use Rattle.prefixes.specs.Calls.{prefixCall, auditCall}
 use Rattle.maps.specs.Calls.{assignCall}
@@ -485,6 +487,42 @@ table =
     ∷ case (outcome (judgedSays (judgedOf 5 2)) []) (outcome (refused 5 2) [])
     ∷ case (outcome (judgedSays (judgedOf 0 2)) []) (answer [])
     ∷ case (answer (numberOf Overlap ∷ [])) (answer (14 ∷ []))
+    -- [A3, A4] {0..3, 8..9, 12..M}, window 0..M: 2 from a multiple of 2, first fit 4, best fit 10; of 4, both 4; 3 from a multiple of 4, first fit 4
+    ∷ case (firstFitAlignedCall F 0 M 2 1) (answer (4 ∷ []))
+    ∷ case (bestFitAlignedCall F 0 M 2 1) (answer (10 ∷ []))
+    ∷ case (firstFitAlignedCall F 0 M 2 2) (answer (4 ∷ []))
+    ∷ case (bestFitAlignedCall F 0 M 2 2) (answer (4 ∷ []))
+    ∷ case (firstFitAlignedCall F 0 M 3 2) (answer (4 ∷ []))
+    -- [A3] 8 from a multiple of 8 between 0 and 17; a window whose low end is no multiple
+    ∷ case (firstFitAlignedCall (2 ∷ 0 ∷ 0 ∷ 17 ∷ M ∷ []) 0 M 8 3) (answer (8 ∷ []))
+    ∷ case (bestFitAlignedCall (2 ∷ 0 ∷ 0 ∷ 17 ∷ M ∷ []) 0 M 8 3) (answer (8 ∷ []))
+    ∷ case (firstFitAlignedCall (0 ∷ []) 5 M 1 3) (answer (8 ∷ []))
+    -- [A4] a gap of exactly 2 from 5 on is passed over for a longer one; of two gaps of 3 the lower holds no aligned run; a gap is as long as it
+    -- is from its low end on, and not from the start on: 16..22 is shorter than 1..9, of which 8..9 would be left
+    ∷ case (bestFitAlignedCall (3 ∷ 0 ∷ 4 ∷ 7 ∷ 7 ∷ 16 ∷ M ∷ []) 0 M 2 1) (answer (8 ∷ []))
+    ∷ case (bestFitAlignedCall (3 ∷ 0 ∷ 4 ∷ 8 ∷ 9 ∷ 13 ∷ M ∷ []) 0 M 3 1) (answer (10 ∷ []))
+    ∷ case (bestFitAlignedCall (3 ∷ 0 ∷ 0 ∷ 10 ∷ 15 ∷ 23 ∷ M ∷ []) 0 M 2 3) (answer (16 ∷ []))
+    -- [A3, A5] the last multiple of 2^63, with all that is behind it; behind it there is none, and none of 2 from M on
+    ∷ case (firstFitAlignedCall (0 ∷ []) 1 M (2 ^ 63) 63) (answer (2 ^ 63 ∷ []))
+    ∷ case (firstFitAlignedCall (0 ∷ []) (suc (2 ^ 63)) M 1 63) (outcome (refused 7 0) [])
+    ∷ case (bestFitAlignedCall (0 ∷ []) M M 1 1) (outcome (refused 7 0) [])
+    -- [A2] 16: j is 64, or 2^32; it comes after 3, 4 and 6, and before 7
+    ∷ case (firstFitAlignedCall (0 ∷ []) 0 M 1 64) (outcome (refused 16 0) [])
+    ∷ case (bestFitAlignedCall (0 ∷ []) 0 M 1 (2 ^ 32)) (outcome (refused 16 0) [])
+    ∷ case (firstFitAlignedCall (1 ∷ 9 ∷ 5 ∷ []) 0 M 1 64) (outcome (refused 3 0) [])
+    ∷ case (firstFitAlignedCall (0 ∷ []) 5 4 1 64) (outcome (refused 4 0) [])
+    ∷ case (firstFitAlignedCall (0 ∷ []) 0 M 0 64) (outcome (refused 6 0) [])
+    ∷ case (reserveFirstAlignedCall (1 ∷ 0 ∷ M ∷ []) 0 M 1 64) (refusing 16 0 (1 ∷ 0 ∷ M ∷ []))
+    -- [A1, F4, F5] the reservation of the best fit; three words holding {5..9}: 12 is refused for want of room though 10, which is no multiple of 4,
+    -- would join
+    ∷ case (reserveBestAlignedCall F 0 M 2 1) (outcome (given (10 ∷ [])) ((2 ∷ 0 ∷ 3 ∷ 8 ∷ M ∷ 0 ∷ 0 ∷ []) ∷ []))
+    ∷ case (reserveFirstAlignedCall (1 ∷ 5 ∷ 9 ∷ []) 10 M 1 2) (refusing 5 0 (1 ∷ 5 ∷ 9 ∷ []))
+    ∷ case (reserveFirstAlignedCall (1 ∷ 5 ∷ 9 ∷ []) 10 M 1 1) (outcome (given (10 ∷ [])) ((1 ∷ 5 ∷ 10 ∷ []) ∷ []))
+    -- [A6] j = 0
+    ∷ case (bestFitAlignedCall F 0 M 3 0) (bestFitCall F 0 M 3)
+    ∷ case (reserveFirstAlignedCall F 5 M 2 0) (reserveFirstCall F 5 M 2)
+    -- [A2, G7] its number
+    ∷ case (outcome (refusalSays (refusalOf 16 0)) []) (outcome (refused 16 0) [])
     ∷ []
 
 pub worked : wrong 0 table ≡ []
@@ -495,4 +533,5 @@ unfolding editCall verdict put blockOf memberCall sizeCall leastNonMemberCall un
     differenceCall symmetricDifferenceCall symmetricDifference lookUpCall overlayCall overlay restrictionCall restriction domainCall domain
     siteOverFactoryCall siteOverFactoryAtCall siteRefusalCall
     prefixCall auditCall prefixes taken largest audit
+    fitAlignedCall reserveAlignedCall aligned
 worked = refl

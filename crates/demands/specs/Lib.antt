@@ -4,6 +4,7 @@ pub mod Questions
 pub mod Changes
 pub mod Fits
 pub mod Stored
+pub mod Aligned
 pub mod Signed
 pub mod Seats
 pub mod Prefixes

@@ -10,7 +10,7 @@ use borrow.Author.Tests.{le-leb, lt-leb, leb-true, leb-false}
 use Rattle.entries.specs.Entries.{Each, Entry, entry}
 use Rattle.entries.specs.Build.{pick}
 use Rattle.entries.specs.Questions.{filter}
-use Rattle.fits.specs.Fits.{numbers, fits, anywhere, firstGap, shorter, shortestGap}
+use Rattle.fits.specs.Fits.{numbers, fits, aligned, firstGap, shorter, shortestGap}
 use Rattle.fits.specs.Steps.{piece, better, taken}
 
 -- the shortest gap, or the first that has at most t numbers where that comes sooner
@@ -114,12 +114,12 @@ abbrev pub stops : ℕ → List Entry → Bool
 stops t [] = false
 stops t (g ∷ gs) = leb (numbers g) t
 
-pub hold-piece : (t k : ℕ) (best : List Entry) (x y : ℕ) (gs : List Entry) → AtMostOne best → stops t best ≡ false
-    → search t (best ++ filter (fits anywhere k) (piece x y ++ gs)) ≡ search t (taken k best (piece x y) ++ filter (fits anywhere k) gs)
-hold-piece t k best x y gs one e = go (ltb x y)
+pub hold-piece : (t j k : ℕ) (best : List Entry) (x y : ℕ) (gs : List Entry) → AtMostOne best → stops t best ≡ false
+    → search t (best ++ filter (fits (aligned j) k) (piece x y ++ gs)) ≡ search t (taken j k best (piece x y) ++ filter (fits (aligned j) k) gs)
+hold-piece t j k best x y gs one e = go (ltb x y)
   where
     keep : Entry → Bool
-    keep = fits anywhere k
+    keep = fits (aligned j) k
 
     c : Entry
     c = entry x (y - 1) []
@@ -133,6 +133,6 @@ hold-piece t k best x y gs one e = go (ltb x y)
     fit true = held best one e
     fit false = refl
 
-    go : (s : Bool) → search t (best ++ filter keep (pick s (c ∷ []) [] ++ gs)) ≡ search t (taken k best (pick s (c ∷ []) []) ++ filter keep gs)
+    go : (s : Bool) → search t (best ++ filter keep (pick s (c ∷ []) [] ++ gs)) ≡ search t (taken j k best (pick s (c ∷ []) []) ++ filter keep gs)
     go true = fit (keep c)
     go false = refl

@@ -1,3 +1,4 @@
+pub mod Multiples
 pub mod Choosing
 pub mod Gaps
 pub mod Walking

@@ -8,13 +8,14 @@ use Rattle.entries.specs.Entries.{Entry}
 use Rattle.entries.specs.Questions.{filter}
 use Rattle.answers.specs.Answers.{refuse}
 use Rattle.blocks.specs.Blocks.{setLayout, entriesOf, SoundBlock}
-use Rattle.fits.specs.Calls.{fitCall, firstFitCall, bestFitCall}
+use Rattle.fits.specs.Calls.{asking, fitCall, firstFitCall, bestFitCall}
 use Rattle.fits.specs.Fits.{gaps, fits, firstGap, shortestGap, startIn, placeIn, anywhere, firstFit, bestFit}
 use Rattle.fits.specs.Meaning.{FreeRun, IsGap, FirstOf, BestOf}
 use Rattle.fits.specs.Starts.{LeastUp, FirstAt, Holds, BestAt}
+use Rattle.fits.specs.Starts.{BestFrom}
 use Rattle.fits.proofs.Listed.{In, Around}
 use Rattle.fits.proofs.Runs.{all, run-around, listed-gap, gap-listed}
-use Rattle.fits.proofs.Asking.{atPlace, fit-asked}
+use Rattle.fits.proofs.Asking.{fit-asked}
 use Rattle.fits.proofs.Chosen.{Chose, First, Shortest, chose-first, chose-shortest}
 
 -- [F1] `gaps` are exactly the gaps
@@ -122,6 +123,33 @@ best-only a b k es (some s) (some t) f g =
     let e : s ≡ t = omega (arith, f .lowest t (g .high) (g .gap) (g .enough) (sym n), g .lowest s (f .high) (f .gap) (f .enough) n) in
     ap some e
 
+-- and for any allowed starts
+module _ (Allowed : ℕ → Type 0) (a b k : ℕ) (es : List Entry) where
+  pub first-at-only : (o p : Option ℕ) → FirstAt Allowed a b k es o → FirstAt Allowed a b k es p → o ≡ p
+  first-at-only none none f g = refl
+  first-at-only none (some t) f g = absurd (f t (g .allowed) (g .run))
+  first-at-only (some s) none f g = absurd (g s (f .allowed) (f .run))
+  first-at-only (some s) (some t) f g = let e : s ≡ t = omega (arith, f .least t (g .allowed) (g .run), g .least s (f .allowed) (f .run)) in ap some e
+
+  pub best-at-only : (o p : Option ℕ) → BestAt Allowed a b k es o → BestAt Allowed a b k es p → o ≡ p
+  best-at-only none none f g = refl
+  best-at-only none (some t) f g = absurd (f (g .low) (g .high) t (g .gap) (g .holds))
+  best-at-only (some s) none f g = absurd (g (f .low) (f .high) s (f .gap) (f .holds))
+  best-at-only (some s) (some t) f g = let e : s ≡ t = omega (arith, f .least t (held f g), g .least s (held g f)) in ap some e
+    where
+      -- both have the same gap
+      held : {x y : ℕ} (f : BestFrom Allowed a b k es x) (g : BestFrom Allowed a b k es y) → Holds Allowed k (f .low) (f .high) y
+      held {x} {y} f g =
+          let n : suc (f .high) - f .low ≡ suc (g .high) - g .low = omega
+          (arith, f .shortest (g .low) (g .high) y (g .gap) (g .holds), g .shortest (f .low) (f .high) x (f .gap) (f .holds)) in
+          let l = f .lowest (g .low) (g .high) y (g .gap) (g .holds) (sym n) in
+          let m = g .lowest (f .low) (f .high) x (f .gap) (f .holds) n in
+          record {
+            allowed = g .holds .allowed;
+            from = omega (arith, l, m, g .holds .from);
+            upto = omega (arith, n, l, m, g .holds .upto, f .gap .run .some, g .gap .run .some);
+          }
+
 -- NO GAP is the same for both, whatever starts are allowed.
 module _ (up : ℕ → ℕ) (a b k : ℕ) (es : List Entry) where
   pub first-none : placeIn up firstGap a b k es ≡ none → placeIn up shortestGap a b k es ≡ none
@@ -148,12 +176,12 @@ module _ (w : List ℕ) (a b k : ℕ) (sound : SoundBlock setLayout w) (order : 
   no-place : (fit : ℕ → ℕ → ℕ → List Entry → Option ℕ) → fitCall fit w a b k ≡ refuse 7 0 [] → fit a b k (entriesOf 2 w) ≡ none
   no-place fit e = go (fit a b k (entriesOf 2 w)) refl (sym (fit-asked fit w a b k sound order one) ∙ e)
     where
-      go : (o : Option ℕ) → fit a b k (entriesOf 2 w) ≡ o → atPlace fit w a b k o ≡ refuse 7 0 [] → fit a b k (entriesOf 2 w) ≡ none
+      go : (o : Option ℕ) → fit a b k (entriesOf 2 w) ≡ o → asking [] o ≡ refuse 7 0 [] → fit a b k (entriesOf 2 w) ≡ none
       go none q h = q
       go (some s) q h = let z : _≡_ {A = ℕ} 0 1 = cc in absurd (omega arith)
 
   place-no : (fit : ℕ → ℕ → ℕ → List Entry → Option ℕ) → fit a b k (entriesOf 2 w) ≡ none → fitCall fit w a b k ≡ refuse 7 0 []
-  place-no fit e = fit-asked fit w a b k sound order one ∙ ap (atPlace fit w a b k) e
+  place-no fit e = fit-asked fit w a b k sound order one ∙ ap (asking []) e
 
   none-run : firstFit a b k (entriesOf 2 w) ≡ none → NoRun
   none-run e = subst (FirstOf a b k (entriesOf 2 w)) e (first-fit a b k (entriesOf 2 w) one)

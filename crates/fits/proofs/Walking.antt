@@ -9,7 +9,7 @@ use native.Mathlib.Decide.{decLe}
 use lib.Dec.{leb}
 use lib.ListN.{length, getD, drop}
 use lib.Seq.{drop-drop, getD-drop}
-use borrow.Author.Tests.{le-leb, lt-leb, lt-ltb, le-ltb, leb-true}
+use borrow.Author.Tests.{le-leb, lt-leb, lt-ltb, le-ltb, leb-true, leb-false}
 use Rattle.entries.specs.Entries.{Entry, entry, Sound, Each}
 use Rattle.entries.specs.Build.{pick, andb}
 use Rattle.entries.specs.Sets.{M}
@@ -23,8 +23,11 @@ use Rattle.blocks.proofs.Words.{items-drop}
 use Rattle.blocks.proofs.Items.{entries-count}
 use Rattle.blocks.proofs.Judging.{room-words}
 use Rattle.fits.specs.declared.Gap.{Gap}
-use Rattle.fits.specs.Fits.{gaps, numbers, fits, anywhere}
-use Rattle.fits.specs.Steps.{chooser, gapOf, heldIn, piece, better, taken, Took, Trying, Asked}
+use Rattle.fits.specs.Fits.{gaps, numbers, fits, aligned}
+use Rattle.fits.specs.Calls.{lastPower}
+use Rattle.fits.specs.declared.Start.{Start}
+use Rattle.fits.specs.Steps.{chooser, gapOf, heldIn, piece, better, taken, StartIn, Took, Trying, Asked, GapIs}
+use Rattle.fits.proofs.Multiples.{aligned-none, multiples, start-within}
 use Rattle.fits.proofs.Choosing.{search, filter-all, filter-keeps, search-first, search-shortest, AtMostOne, stops, hold-piece}
 use Rattle.fits.proofs.Gaps.{gapsFrom, from-none, from-passed, from-is, gaps-below}
 
@@ -49,37 +52,54 @@ pub enough-first : (t : Bool) (k : ℕ) → t ≡ false → M ≡ pick t (k - 1)
 enough-first t k e = rw e
 
 -- ONE GAP: what the tests of the code make of it
-module _ (best : Gap) (low high k : ℕ) (g : Trying best low high k) where
+module _ {j : ℕ} (best : Gap) (low high k : ℕ) (g : Trying j best low high k) where
   abbrev pub new : Entry
   new = entry low high []
 
-  -- k numbers do not fit
-  pub tried-short : high - low < k - 1 → Took k best (new ∷ []) best
-  tried-short h = record { order = g .held; is = rw (lt-leb (low + k) (suc high) (omega (arith, g .order))) }
+  -- k numbers do not fit, from the least multiple on
+  unfit : suc high < aligned j low + k → Took j k best (new ∷ []) best
+  unfit h = record { order = g .held; start = g .start; is = rw (lt-leb (aligned j low + k) (suc high) h) }
 
-  module _ (h : k - 1 ≤ high - low) where
-    fitting : fits anywhere k new ≡ true
-    fitting = le-leb (low + k) (suc high) (omega (arith, g .order, g .run))
+  -- nor from the low end on
+  pub tried-short : high - low < k - 1 → Took j k best (new ∷ []) best
+  tried-short h = unfit (omega (arith, g .order, multiples j .above low))
 
-    -- the gap that is held is no longer
-    pub tried-keep : andb (best .found) (leb (best .high - best .low) (high - low)) ≡ true → Took k best (new ∷ []) best
-    tried-keep e = record { order = g .held; is = rw fitting (go (best .found) e) }
-      where
-        go : (t : Bool) → andb t (leb (best .high - best .low) (high - low)) ≡ true
-            → pick t (entry (best .low) (best .high) [] ∷ []) [] ≡ better (pick t (entry (best .low) (best .high) [] ∷ []) []) new
-        go true q =
-            let m = leb-true (best .high - best .low) (high - low) q in
-            rw (le-leb (suc (best .high) - best .low) (suc high - low) (omega (arith, g .held, g .order)))
-        go false q = absurd (true≢false (sym q))
+  -- the gap that is held is no longer
+  pub tried-keep : andb (best .found) (leb (best .high - best .low) (high - low)) ≡ true → Took j k best (new ∷ []) best
+  tried-keep e = record { order = g .held; start = g .start; is = fitting (fits (aligned j) k new) (go (best .found) e) }
+    where
+      go : (t : Bool) → andb t (leb (best .high - best .low) (high - low)) ≡ true
+          → pick t (entry (best .low) (best .high) [] ∷ []) [] ≡ better (pick t (entry (best .low) (best .high) [] ∷ []) []) new
+      go true q =
+          let m = leb-true (best .high - best .low) (high - low) q in
+          rw (le-leb (suc (best .high) - best .low) (suc high - low) (omega (arith, g .held, g .order)))
+      go false q = absurd (true≢false (sym q))
 
-    -- no gap is held, or a longer one
-    pub tried-new : (r : Gap) → r .found ≡ true → r .low ≡ low → r .high ≡ high
-        → andb (best .found) (leb (best .high - best .low) (high - low)) ≡ false → Took k best (new ∷ []) r
-    tried-new r f l u e = record {
+      fitting : (t : Bool) → heldIn best ≡ better (heldIn best) new → heldIn best ≡ pick t (better (heldIn best) new) (heldIn best)
+      fitting true q = q
+      fitting false q = refl
+
+  -- no gap is held, or a longer one
+  module _ (e : andb (best .found) (leb (best .high - best .low) (high - low)) ≡ false) (s : Start) (i : StartIn low high j s) where
+    -- there is no multiple in it
+    pub tried-none : s .found ≡ false → Took j k best (new ∷ []) best
+    tried-none f = unfit (omega (arith, leb-false (aligned j low) high (sym (i .is) ∙ f), g .run))
+
+    -- the run from there on ends behind it
+    pub tried-over : s .found ≡ true → high - s .at < k - 1 → Took j k best (new ∷ []) best
+    tried-over f h = unfit (omega (arith, i .least f, start-within low high j s i f))
+
+    pub tried-new : s .found ≡ true → k - 1 ≤ high - s .at → (r : Gap) → r .found ≡ true → r .low ≡ low → r .high ≡ high → r .start ≡ s .at
+        → Took j k best (new ∷ []) r
+    tried-new f h r found l u at = record {
       order = omega (arith, g .order);
-      is = ap (λ (t : Bool). pick t (entry (r .low) (r .high) [] ∷ []) []) f ∙ ap₂ (λ (x y : ℕ). entry x y [] ∷ []) l u ∙ rw fitting (go (best .found) e);
+      start = at ∙ i .least f ∙ ap (aligned j) (sym l);
+      is = ap (λ (t : Bool). pick t (entry (r .low) (r .high) [] ∷ []) []) found ∙ ap₂ (λ (x y : ℕ). entry x y [] ∷ []) l u ∙ rw fitting (go (best .found) e);
     }
       where
+        fitting : fits (aligned j) k new ≡ true
+        fitting = le-leb (aligned j low + k) (suc high) (omega (arith, i .least f, start-within low high j s i f, g .run))
+
         go : (t : Bool) → andb t (leb (best .high - best .low) (high - low)) ≡ false
             → new ∷ [] ≡ better (pick t (entry (best .low) (best .high) [] ∷ []) []) new
         go true q = rw (lt-leb (suc (best .high) - best .low) (suc high - low) (longer (decLe (best .high - best .low) (high - low))))
@@ -90,33 +110,35 @@ module _ (best : Gap) (low high k : ℕ) (g : Trying best low high k) where
         go false q = refl
 
 -- the gap before a range, cut to the window
-module _ (best : Gap) (from low b k : ℕ) (g : Trying best from b k) where
-  pub before-none : low ≤ from → Took k best (piece from (min (suc b) low)) best
-  before-none h = record { order = g .held; is = rw (le-ltb from (min (suc b) low) (omega arith)) }
+module _ {j : ℕ} (best : Gap) (from low b k : ℕ) (g : Trying j best from b k) where
+  pub before-none : low ≤ from → Took j k best (piece from (min (suc b) low)) best
+  before-none h = record { order = g .held; start = g .start; is = rw (le-ltb from (min (suc b) low) (omega arith)) }
 
   piece-as : (y h : ℕ) → y ≡ suc h → from ≤ h → piece from y ≡ entry from h [] ∷ []
   piece-as y h e p = let m : suc h - 1 ≡ h = omega arith in rw (e, lt-ltb from (suc h) (omega arith)) (ap (λ (x : ℕ). entry from x [] ∷ []) m)
 
-  pub before-cut : (r : Gap) → from < low → b < low → Took k best (entry from b [] ∷ []) r → Took k best (piece from (min (suc b) low)) r
+  pub before-cut : (r : Gap) → from < low → b < low → Took j k best (entry from b [] ∷ []) r → Took j k best (piece from (min (suc b) low)) r
   before-cut r h m t =
       let e : min (suc b) low ≡ suc b = omega arith in
-      subst (λ (gs : List Entry). Took k best gs r) (sym (piece-as (min (suc b) low) b e (omega (arith, g .order)))) t
+      subst (λ (gs : List Entry). Took j k best gs r) (sym (piece-as (min (suc b) low) b e (omega (arith, g .order)))) t
 
-  pub before-range : (r : Gap) → from < low → low ≤ b → Took k best (entry from (low - 1) [] ∷ []) r → Took k best (piece from (min (suc b) low)) r
+  pub before-range : (r : Gap) → from < low → low ≤ b → Took j k best (entry from (low - 1) [] ∷ []) r → Took j k best (piece from (min (suc b) low)) r
   before-range r h m t =
       let e : min (suc b) low ≡ suc (low - 1) = omega arith in
-      subst (λ (gs : List Entry). Took k best gs r) (sym (piece-as (min (suc b) low) (low - 1) e (omega arith))) t
+      subst (λ (gs : List Entry). Took j k best gs r) (sym (piece-as (min (suc b) low) (low - 1) e (omega arith))) t
 
 -- THE WALK. The ranges from place p on are left, and with the gap that is held the gaps from `from` on still give the answer o.
-pub record Walked (w : List ℕ) (o : Option Entry) (b k enough : ℕ) (best : Gap) (from p left : ℕ) : Type 0 where
+pub record Walked (w : List ℕ) (o : Option Entry) (b j k enough : ℕ) (best : Gap) (from p left : ℕ) : Type 0 where
   pub place : p + 2 * left ≡ 1 + 2 * getD w 0 0
   pub held : 1 + 2 * getD w 0 0 ≤ length w
   pub sound : Sound (itemsOf 2 left (drop p w))
   pub run : 0 < k
   pub inside : from ≤ b
+  pub power : j ≤ lastPower
   pub order : best .low ≤ best .high
+  pub start : best .start ≡ aligned j (best .low)
   pub goes : stops (suc enough) (heldIn best) ≡ false
-  pub rest : o ≡ search (suc enough) (heldIn best ++ filter (fits anywhere k) (gapsFrom from (suc b) (itemsOf 2 left (drop p w))))
+  pub rest : o ≡ search (suc enough) (heldIn best ++ filter (fits (aligned j) k) (gapsFrom from (suc b) (itemsOf 2 left (drop p w))))
 
 held-one : (g : Gap) → AtMostOne (heldIn g)
 held-one g = go (g .found)
@@ -152,21 +174,30 @@ search-held t g = go (g .found) (leb (numbers (entry (g .low) (g .high) [])) t)
     go true u = ap some (same (leb (numbers (entry (g .low) (g .high) [])) t) (entry (g .low) (g .high) []))
     go false u = refl
 
+-- the gap that is held at the end is the one that is sought
+settled : {j k : ℕ} {best : Gap} {gs : List Entry} {o : Option Entry} {r : Gap} → Took j k best gs r → o ≡ gapOf r → GapIs j o r
+settled t e = record { gap = sym e; start = t .start }
+
+-- the next gap may be tried
+pub walked-trying : {w : List ℕ} {o : Option Entry} {b j k enough : ℕ} {best : Gap} {from p left : ℕ} → Walked w o b j k enough best from p left
+    → Trying j best from b k
+walked-trying s = record { held = s .order; start = s .start; order = s .inside; run = s .run; power = s .power }
+
 -- the place of a range that is left
-pub walked-inside : {w : List ℕ} {o : Option Entry} {b k enough : ℕ} {best : Gap} {from p left : ℕ} → Walked w o b k enough best from p left
+pub walked-inside : {w : List ℕ} {o : Option Entry} {b j k enough : ℕ} {best : Gap} {from p left : ℕ} → Walked w o b j k enough best from p left
     → 0 < left → p + 2 ≤ length w
 walked-inside s h = omega (arith, s .place, s .held)
 
 -- at a range, with the gap before it tried
-module _ {w : List ℕ} {o : Option Entry} {b k enough : ℕ} {best : Gap} {from p left : ℕ} (s : Walked w o b k enough best from p left) (some : 0 < left)
-    (low high : ℕ) (l : low ≡ getD w p 0) (h : high ≡ getD w (p + 1) 0) (r : Gap) (t : Took k best (piece from (min (suc b) low)) r) where
+module _ {w : List ℕ} {o : Option Entry} {b j k enough : ℕ} {best : Gap} {from p left : ℕ} (s : Walked w o b j k enough best from p left) (some : 0 < left)
+    (low high : ℕ) (l : low ≡ getD w p 0) (h : high ≡ getD w (p + 1) 0) (r : Gap) (t : Took j k best (piece from (min (suc b) low)) r) where
   abbrev later : List Entry
   later = itemsOf 2 (left - 1) (drop (p + 2) w)
 
   abbrev kept : List Entry → List Entry
-  kept = filter (fits anywhere k)
+  kept = filter (fits (aligned j) k)
 
-  ahead : (left : ℕ) → 0 < left → Walked w o b k enough best from p left
+  ahead : (left : ℕ) → 0 < left → Walked w o b j k enough best from p left
       → Sound (itemsOf 2 (left - 1) (drop (p + 2) w))
       × (o ≡ search (suc enough) (heldIn r ++ kept (gapsFrom (max from (suc high)) (suc b) (itemsOf 2 (left - 1) (drop (p + 2) w)))))
   ahead zero q s = absurd (omega arith)
@@ -180,53 +211,56 @@ module _ {w : List ℕ} {o : Option Entry} {b k enough : ℕ} {best : Gap} {from
       let es : List Entry = itemsOf 2 m (drop 2 (drop p w)) in (
         subst Sound i (s .sound .2),
         s .rest
-            ∙ hold-piece (suc enough) k (heldIn best) from (min (suc b) (getD (drop p w) 0 0))
+            ∙ hold-piece (suc enough) j k (heldIn best) from (min (suc b) (getD (drop p w) 0 0))
             (gapsFrom (max from (suc (getD (drop p w) 1 0))) (suc b) es) (held-one best) (s .goes)
-            ∙ ap₂ (λ (x y : ℕ). search (suc enough) (taken k (heldIn best) (piece from (min (suc b) x)) ++ kept (gapsFrom (max from (suc y)) (suc b) es))) lo hi
+            ∙ ap₂ (λ (x y : ℕ). search (suc enough) (taken j k (heldIn best) (piece from (min (suc b) x)) ++ kept (gapsFrom (max from (suc y)) (suc b) es)))
+            lo hi
             ∙ ap₂ (λ (x y : List Entry). search (suc enough) (x ++ kept (gapsFrom (max from (suc high)) (suc b) y))) (sym (t .is)) i,
       )
 
   -- no later gap can beat the one that is held
-  pub walked-enough : andb (r .found) (leb (r .high - r .low) enough) ≡ true → gapOf r ≡ o
+  pub walked-enough : andb (r .found) (leb (r .high - r .low) enough) ≡ true → GapIs j o r
   walked-enough e =
       let a = ahead left some s in
-      sym (a .1 ∙ search-stops (suc enough) r (kept (gapsFrom (max from (suc high)) (suc b) later)) (stops-is r enough (t .order) ∙ e))
+      settled t (a .1 ∙ search-stops (suc enough) r (kept (gapsFrom (max from (suc high)) (suc b) later)) (stops-is r enough (t .order) ∙ e))
 
   -- the window ends in the range
-  pub walked-over : b ≤ high → gapOf r ≡ o
+  pub walked-over : b ≤ high → GapIs j o r
   walked-over e =
       let a = ahead left some s in
-      sym (a .1 ∙ ap (λ (gs : List Entry). search (suc enough) (heldIn r ++ kept gs)) (from-none (max from (suc high)) (suc b) later (omega arith))
+      settled t (a .1 ∙ ap (λ (gs : List Entry). search (suc enough) (heldIn r ++ kept gs)) (from-none (max from (suc high)) (suc b) later (omega arith))
       ∙ search-held (suc enough) r)
 
   pub walked-on : (next q m : ℕ) → andb (r .found) (leb (r .high - r .low) enough) ≡ false → high < b → next ≡ max from (suc high) → q ≡ p + 2 → m ≡ left - 1
-      → Walked w o b k enough r next q m
+      → Walked w o b j k enough r next q m
   walked-on next q m e n x y z =
       let a = ahead left some s in
-      let g : Walked w o b k enough r (max from (suc high)) (p + 2) (left - 1) = record {
+      let g : Walked w o b j k enough r (max from (suc high)) (p + 2) (left - 1) = record {
         place = omega (arith, s .place);
         held = s .held;
         sound = a .0;
         run = s .run;
         inside = omega (arith, s .inside);
+        power = s .power;
         order = t .order;
+        start = t .start;
         goes = stops-is r enough (t .order) ∙ e;
         rest = a .1;
       } in
       rw (x, y, z) g
 
 -- behind the last range
-pub walked-end : {w : List ℕ} {o : Option Entry} {b k enough : ℕ} {best : Gap} {from p left : ℕ} → Walked w o b k enough best from p left → left ≡ 0
-    → (r : Gap) → Took k best (entry from b [] ∷ []) r → gapOf r ≡ o
-walked-end {w} {o} {b} {k} {enough} {best} {from} {p} {left} s z r t =
-    sym (s .rest ∙ ap (λ (i : ℕ). search (suc enough) (heldIn best ++ kept (gapsFrom from (suc b) (itemsOf 2 i (drop p w))))) z
+pub walked-end : {w : List ℕ} {o : Option Entry} {b j k enough : ℕ} {best : Gap} {from p left : ℕ} → Walked w o b j k enough best from p left → left ≡ 0
+    → (r : Gap) → Took j k best (entry from b [] ∷ []) r → GapIs j o r
+walked-end {w} {o} {b} {j} {k} {enough} {best} {from} {p} {left} s z r t =
+    settled t (s .rest ∙ ap (λ (i : ℕ). search (suc enough) (heldIn best ++ kept (gapsFrom from (suc b) (itemsOf 2 i (drop p w))))) z
     ∙ ap (λ (gs : List Entry). search (suc enough) (heldIn best ++ kept gs)) whole
-    ∙ hold-piece (suc enough) k (heldIn best) from (suc b) [] (held-one best) (s .goes)
-    ∙ ap (λ (l : List Entry). search (suc enough) (l ++ [])) (ap (taken k (heldIn best)) last ∙ sym (t .is))
+    ∙ hold-piece (suc enough) j k (heldIn best) from (suc b) [] (held-one best) (s .goes)
+    ∙ ap (λ (l : List Entry). search (suc enough) (l ++ [])) (ap (taken j k (heldIn best)) last ∙ sym (t .is))
     ∙ search-held (suc enough) r)
   where
     kept : List Entry → List Entry
-    kept = filter (fits anywhere k)
+    kept = filter (fits (aligned j) k)
 
     last : piece from (suc b) ≡ entry from b [] ∷ []
     last = let m : suc b - 1 ≡ b = omega arith in rw (lt-ltb from (suc b) (omega (arith, s .inside))) (ap (λ (x : ℕ). entry from x [] ∷ []) m)
@@ -235,22 +269,24 @@ walked-end {w} {o} {b} {k} {enough} {best} {from} {p} {left} s z r t =
     whole = rw last
 
 -- before the first range that does not lie wholly below the window
-pub walked-start : (w : List ℕ) (a b k : ℕ) (shortest : Bool) (enough n i : ℕ) (g : Gap) → Asked w a b k → b ≤ M → enough ≡ pick shortest (k - 1) M
-    → n ≡ getD w 0 0 → Passed zero-item (entriesOf 2 w) a i → g .found ≡ false → g .low ≡ 0 → g .high ≡ 0
-    → Walked w (chooser shortest (filter (fits anywhere k) (gaps a b (entriesOf 2 w)))) b k enough g a (2 * i + 1) (n - i)
-walked-start w a b k shortest enough n i g s m e c q f lo hi = record {
+pub walked-start : {j : ℕ} (w : List ℕ) (a b k : ℕ) (shortest : Bool) (enough n i : ℕ) (g : Gap) → Asked w a b k j → b ≤ M → enough ≡ pick shortest (k - 1) M
+    → n ≡ getD w 0 0 → Passed zero-item (entriesOf 2 w) a i → g .found ≡ false → g .low ≡ 0 → g .high ≡ 0 → g .start ≡ 0
+    → Walked w (chooser shortest (filter (fits (aligned j) k) (gaps a b (entriesOf 2 w)))) b j k enough g a (2 * i + 1) (n - i)
+walked-start {j} w a b k shortest enough n i g s m e c q f lo hi at = record {
   place = omega (arith, within);
   held = room-words setLayout (length w) (getD w 0 0) (s .block .some) (s .block .fits);
   sound = rw from-here (sound-drop zero-item (entriesOf 2 w) i (s .block .sound));
   run = s .run;
   inside = s .order;
+  power = s .power;
   order = omega arith;
+  start = at ∙ sym (aligned-none j) ∙ ap (aligned j) (sym lo);
   goes = ap (stops (suc enough)) empty;
   rest = sym (start shortest ∙ refl);
 }
   where
     list : List Entry
-    list = filter (fits anywhere k) (gaps a b (entriesOf 2 w))
+    list = filter (fits (aligned j) k) (gaps a b (entriesOf 2 w))
 
     empty : heldIn g ≡ []
     empty = ap (λ (t : Bool). pick t (entry (g .low) (g .high) [] ∷ []) []) f
@@ -267,25 +303,26 @@ walked-start w a b k shortest enough n i g s m e c q f lo hi = record {
         place : 1 + 2 * i ≡ 2 * i + 1
         place = omega arith
 
-    start : Bool → search (suc enough) (heldIn g ++ filter (fits anywhere k) (gapsFrom a (suc b) (itemsOf 2 (n - i) (drop (2 * i + 1) w))))
+    start : Bool → search (suc enough) (heldIn g ++ filter (fits (aligned j) k) (gapsFrom a (suc b) (itemsOf 2 (n - i) (drop (2 * i + 1) w))))
         ≡ chooser shortest list
     start u =
-        ap₂ (λ (l gs : List Entry). search (suc enough) (l ++ filter (fits anywhere k) gs)) empty
+        ap₂ (λ (l gs : List Entry). search (suc enough) (l ++ filter (fits (aligned j) k) gs)) empty
         (ap (gapsFrom a (suc b)) from-here ∙ from-passed zero-item a (suc b) i (entriesOf 2 w) (s .block .sound) q)
-        ∙ ap (λ (l : List Entry). search (suc enough) (filter (fits anywhere k) l)) (from-is a b (entriesOf 2 w) (s .block .sound))
+        ∙ ap (λ (l : List Entry). search (suc enough) (filter (fits (aligned j) k) l)) (from-is a b (entriesOf 2 w) (s .block .sound))
         ∙ ap (λ (t : ℕ). search (suc t) list) e
         ∙ chosen shortest
       where
         chosen : (t : Bool) → search (suc (pick t (k - 1) M)) list ≡ chooser t list
         chosen true =
-            let j : suc (k - 1) ≡ k = omega (arith, s .run) in
-            ap (λ (i : ℕ). search i list) j
+            let u : suc (k - 1) ≡ k = omega (arith, s .run) in
+            ap (λ (i : ℕ). search i list) u
             ∙ search-shortest k list
-            (filter-keeps (λ x. k ≤ numbers x) (fits anywhere k) (λ x q. let y = leb-true (x .low + k) (suc (x .high)) q in omega arith)
+            (filter-keeps (λ x. k ≤ numbers x) (fits (aligned j) k)
+            (λ x q. omega (arith, leb-true (aligned j (x .low) + k) (suc (x .high)) q, multiples j .above (x .low)))
             (gaps a b (entriesOf 2 w)))
         chosen false =
             search-first (suc M) list
-            (filter-all (λ x. numbers x ≤ suc M) (fits anywhere k) (gaps a b (entriesOf 2 w))
+            (filter-all (λ x. numbers x ≤ suc M) (fits (aligned j) k) (gaps a b (entriesOf 2 w))
             (short (gaps a b (entriesOf 2 w)) (gaps-below a b (entriesOf 2 w) (s .block .sound))))
           where
             short : (gs : List Entry) → Each (λ x. x .high < suc b) gs → Each (λ x. numbers x ≤ suc M) gs

@@ -2,7 +2,7 @@
 use mathlib.Core.Option.{Option, none, some}
 use mathlib.Core.List.{List, [], _∷_, _++_}
 use Prim.Native.Nat.{ℕ, _+_, _-_}
-use lib.Dec.{eqb}
+use lib.Dec.{eqb, ltb}
 use lib.ListN.{length}
 use Rattle.entries.specs.Entries.{Entry}
 use Rattle.answers.specs.declared.Finding.{Finding}
@@ -10,7 +10,7 @@ use Rattle.answers.specs.Answers.{Outcome, outcome, given, at, applies, inTurn}
 use Rattle.blocks.specs.Blocks.{setLayout, entriesOf, blockOf}
 use Rattle.blocks.specs.Calls.{input, backwards, room}
 use Rattle.edits.specs.Calls.{edited}
-use Rattle.fits.specs.Fits.{firstFit, bestFit}
+use Rattle.fits.specs.Fits.{firstGap, shortestGap, placeIn, firstFit, bestFit, aligned}
 
 -- [R6] a run of 0 numbers is asked for
 abbrev pub zeroRun : ℕ → Finding
@@ -42,9 +42,13 @@ fitRefusals w a b k place = askRefusals w a b k ++ (noGap place ∷ [])
 abbrev pub answered : ℕ → Outcome
 answered s = outcome (given (s ∷ [])) []
 
+-- [F4] a fit as a question, where `before` is what is refused before a place is sought: then 7, by the place
+abbrev pub asking : List Finding → Option ℕ → Outcome
+asking before place = inTurn (before ++ (noGap place ∷ [])) [] (answered (placeOf place))
+
 -- [F4] a fit as a question
 unfoldable pub fitCall : (ℕ → ℕ → ℕ → List Entry → Option ℕ) → List ℕ → ℕ → ℕ → ℕ → Outcome
-fitCall fit w a b k = inTurn (fitRefusals w a b k (fit a b k (entriesOf 2 w))) [] (answered (placeOf (fit a b k (entriesOf 2 w))))
+fitCall fit w a b k = asking (askRefusals w a b k) (fit a b k (entriesOf 2 w))
 
 -- [F4] the set with s to s+k-1 in it
 abbrev pub reservedAt : List ℕ → ℕ → ℕ → List Entry
@@ -58,10 +62,14 @@ reserveRefusals w a b k place = fitRefusals w a b k place ++ (room 0 setLayout (
 abbrev pub reservedWith : List ℕ → ℕ → ℕ → Outcome
 reservedWith w s k = outcome (given (s ∷ [])) (blockOf (length w) (reservedAt w s k) ∷ [])
 
+-- [F4, F5] a fit as a reservation, in the same way: then 7, and then 5
+abbrev pub taking : List Finding → List ℕ → ℕ → Option ℕ → Outcome
+taking before w k place =
+    inTurn (before ++ (noGap place ∷ room 0 setLayout (length w) (reservedAt w (placeOf place) k) ∷ [])) (w ∷ []) (reservedWith w (placeOf place) k)
+
 -- [F4, F5] a fit as a reservation
 unfoldable pub reserveCall : (ℕ → ℕ → ℕ → List Entry → Option ℕ) → List ℕ → ℕ → ℕ → ℕ → Outcome
-reserveCall fit w a b k =
-    inTurn (reserveRefusals w a b k (fit a b k (entriesOf 2 w))) (w ∷ []) (reservedWith w (placeOf (fit a b k (entriesOf 2 w))) k)
+reserveCall fit w a b k = taking (askRefusals w a b k) w k (fit a b k (entriesOf 2 w))
 
 -- [F2] first fit, as a question
 abbrev pub firstFitCall : List ℕ → ℕ → ℕ → ℕ → Outcome
@@ -78,3 +86,44 @@ reserveFirstCall = reserveCall firstFit
 -- [F3, F4] best fit, as a reservation
 abbrev pub reserveBestCall : List ℕ → ℕ → ℕ → ℕ → Outcome
 reserveBestCall = reserveCall bestFit
+
+-- ALIGNED: the start is to be a multiple of 2^j
+-- [A1] j is from 0 to 63: 2^63 is the greatest power of two in a word
+abbrev pub lastPower : ℕ
+lastPower = 63
+
+-- [A2] j is above that
+abbrev pub tooHigh : ℕ → Finding
+tooHigh j = at 0 (applies (ltb lastPower j) 16)
+
+-- [A2] what is refused before a place is sought: 1, 2, 3 of the block, 4, 6, and just after it 16
+abbrev pub alignRefusals : List ℕ → ℕ → ℕ → ℕ → ℕ → List Finding
+alignRefusals w a b k j = askRefusals w a b k ++ (tooHigh j ∷ [])
+
+-- [A3, A4] the place in the gap that is chosen
+abbrev pub alignedPlace : (List Entry → Option Entry) → List ℕ → ℕ → ℕ → ℕ → ℕ → Option ℕ
+alignedPlace choose w a b k j = placeIn (aligned j) choose a b k (entriesOf 2 w)
+
+-- [A1, A2] an aligned fit as a question
+unfoldable pub fitAlignedCall : (List Entry → Option Entry) → List ℕ → ℕ → ℕ → ℕ → ℕ → Outcome
+fitAlignedCall choose w a b k j = asking (alignRefusals w a b k j) (alignedPlace choose w a b k j)
+
+-- [A1, A2] an aligned fit as a reservation
+unfoldable pub reserveAlignedCall : (List Entry → Option Entry) → List ℕ → ℕ → ℕ → ℕ → ℕ → Outcome
+reserveAlignedCall choose w a b k j = taking (alignRefusals w a b k j) w k (alignedPlace choose w a b k j)
+
+-- [A3] first fit, as a question
+abbrev pub firstFitAlignedCall : List ℕ → ℕ → ℕ → ℕ → ℕ → Outcome
+firstFitAlignedCall = fitAlignedCall firstGap
+
+-- [A4] best fit, as a question
+abbrev pub bestFitAlignedCall : List ℕ → ℕ → ℕ → ℕ → ℕ → Outcome
+bestFitAlignedCall = fitAlignedCall shortestGap
+
+-- [A3] first fit, as a reservation
+abbrev pub reserveFirstAlignedCall : List ℕ → ℕ → ℕ → ℕ → ℕ → Outcome
+reserveFirstAlignedCall = reserveAlignedCall firstGap
+
+-- [A4] best fit, as a reservation
+abbrev pub reserveBestAlignedCall : List ℕ → ℕ → ℕ → ℕ → ℕ → Outcome
+reserveBestAlignedCall = reserveAlignedCall shortestGap

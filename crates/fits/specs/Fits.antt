@@ -3,7 +3,7 @@
 use mathlib.Core.Bool.{Bool}
 use mathlib.Core.Option.{Option, none, some}
 use mathlib.Core.List.{List, [], _∷_}
-use Prim.Native.Nat.{ℕ, suc, _+_, _-_}
+use Prim.Native.Nat.{ℕ, suc, _+_, _*_, _-_, _/_, _^_}
 use lib.Dec.{leb}
 use Rattle.entries.specs.Entries.{Entry, entry}
 use Rattle.entries.specs.Build.{pick}
@@ -47,7 +47,7 @@ startIn up (some g) = some (up (g .low))
 unfoldable pub placeIn : (ℕ → ℕ) → (List Entry → Option Entry) → ℕ → ℕ → ℕ → List Entry → Option ℕ
 placeIn up choose a b k es = startIn up (choose (filter (fits up k) (gaps a b es)))
 
--- today every start is allowed
+-- every start is allowed
 abbrev pub anywhere : ℕ → ℕ
 anywhere s = s
 
@@ -58,3 +58,7 @@ firstFit = placeIn anywhere firstGap
 -- [F3] the low end of the shortest gap of at least k numbers, the lowest such gap on a tie (`best-fit` in proofs/Meaning)
 abbrev pub bestFit : ℕ → ℕ → ℕ → List Entry → Option ℕ
 bestFit = placeIn anywhere shortestGap
+
+-- [A3, A4] only multiples of 2^j are allowed: the least of them at or above s (`multiples` in proofs/Multiples)
+unfoldable pub aligned : ℕ → ℕ → ℕ
+aligned j s = (s + (2 ^ j - 1)) / 2 ^ j * 2 ^ j

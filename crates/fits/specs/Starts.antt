@@ -1,9 +1,9 @@
--- What first fit and best fit mean where only some starts are allowed. Today every start is, and no promise names these: the laws of
--- proofs/Meaning are said once, over them.
+-- What first fit and best fit mean where only some starts are allowed, such as the multiples of a power of two. The laws of proofs/Meaning
+-- are said once, over any allowed starts.
 use mathlib.Core.Path.{_≡_}
 use mathlib.Core.Option.{Option, none, some}
 use mathlib.Core.List.{List}
-use Prim.Native.Nat.{ℕ, suc, _+_, _-_, _≤_}
+use Prim.Native.Nat.{ℕ, suc, _+_, _-_, _%_, _^_, _≤_}
 use Rattle.entries.specs.Entries.{Entry}
 use Rattle.fits.specs.Meaning.{FreeRun, IsGap}
 
@@ -12,6 +12,10 @@ pub record LeastUp (up : ℕ → ℕ) (Allowed : ℕ → Type 0) : Type 1 where
   pub above : (s : ℕ) → s ≤ up s
   pub allowed : (s : ℕ) → Allowed (up s)
   pub least : (s t : ℕ) → s ≤ t → Allowed t → up s ≤ t
+
+-- [A1] «the start must be a multiple of 2^j»
+abbrev pub Multiple : ℕ → ℕ → Type 0
+Multiple j t = t % 2 ^ j ≡ 0
 
 -- First fit, for any allowed starts: s is the least of them from which k numbers are all free and in the window.
 pub record FirstFrom (Allowed : ℕ → Type 0) (a b k : ℕ) (es : List Entry) (s : ℕ) : Type 0 where

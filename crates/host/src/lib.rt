@@ -6,6 +6,7 @@ ghost use Rattle.sets.specs.Calls.{makeEmptyCall, memberCall, rangeAtCall, size
 ghost use Rattle.sets.specs.Calls.{removeCall, equalCall, withinCall, disjointCall, unionCall, intersectionCall, differenceCall, symmetricDifferenceCall};
 ghost use Rattle.sets.specs.Calls.{complementCall};
 ghost use Rattle.fits.specs.Calls.{firstFitCall, bestFitCall, reserveFirstCall, reserveBestCall};
+ghost use Rattle.fits.specs.Calls.{firstFitAlignedCall, bestFitAlignedCall, reserveFirstAlignedCall, reserveBestAlignedCall};
 ghost use Rattle.prefixes.specs.Calls.{prefixCall, auditCall};
 ghost use Rattle.maps.specs.Calls.{lookUpCall, assignCall, eraseCall, mapWindowAtCall, siteOverFactoryAtCall, overlayCall, restrictionCall, domainCall};
 ghost use Rattle.bulletins.specs.Calls.{applyCall, foldCall};
@@ -205,6 +206,63 @@ pub extern "C" fn wimblorque_set_reserve_best(block: &mut [u64], a: u64, b: u64,
     ensures { λ r. ⌜ Tells r (now (block .exit) ∷ []) (reserveBestCall (now (block .entry)) a b k) ⌝ }
 {
     told::tell_placed(fits::reserve_best(block, a, b, k))
+}
+
+// The least multiple of 2^j from which k numbers of the window a..b are all free. A j above 63 is refused.
+#[no_mangle]
+pub extern "C" fn wimblorque_set_first_fit_aligned(
+    block: &[u64],
+    a: u64,
+    b: u64,
+    k: u64,
+    j: u64,
+) -> Told
+    ensures { λ r. ⌜ Tells r [] (firstFitAlignedCall (now (block .entry)) a b k j) ⌝ }
+{
+    told::tell_placed(fits::first_fit_aligned(block, a, b, k, j))
+}
+
+// The least multiple of 2^j in the shortest gap of the window a..b that holds k numbers from a multiple of 2^j on, the lowest such gap on a
+// tie. A j above 63 is refused.
+#[no_mangle]
+pub extern "C" fn wimblorque_set_best_fit_aligned(
+    block: &[u64],
+    a: u64,
+    b: u64,
+    k: u64,
+    j: u64,
+) -> Told
+    ensures { λ r. ⌜ Tells r [] (bestFitAlignedCall (now (block .entry)) a b k j) ⌝ }
+{
+    told::tell_placed(fits::best_fit_aligned(block, a, b, k, j))
+}
+
+// Makes the k numbers from the aligned first fit on members, and answers it.
+#[no_mangle]
+pub extern "C" fn wimblorque_set_reserve_first_aligned(
+    block: &mut [u64],
+    a: u64,
+    b: u64,
+    k: u64,
+    j: u64,
+) -> Told
+    ensures { λ r. ⌜ Tells r (now (block .exit) ∷ []) (reserveFirstAlignedCall (now (block .entry)) a b k j) ⌝ }
+{
+    told::tell_placed(fits::reserve_first_aligned(block, a, b, k, j))
+}
+
+// Makes the k numbers from the aligned best fit on members, and answers it.
+#[no_mangle]
+pub extern "C" fn wimblorque_set_reserve_best_aligned(
+    block: &mut [u64],
+    a: u64,
+    b: u64,
+    k: u64,
+    j: u64,
+) -> Told
+    ensures { λ r. ⌜ Tells r (now (block .exit) ∷ []) (reserveBestAlignedCall (now (block .entry)) a b k j) ⌝ }
+{
+    told::tell_placed(fits::reserve_best_aligned(block, a, b, k, j))
 }
 
 // [W4] Is the key x a member? Two values: 1 or 0, and how many ranges lie wholly below x.

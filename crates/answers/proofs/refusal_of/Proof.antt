@@ -46,8 +46,12 @@ returns-14 : tie.Need-returns-14
 returns-14 c = rw (c .match .keys14) refl
 
 returns-15 : tie.Need-returns-15
-returns-15 c =
-    let r = c .match .rest in
+returns-15 c = rw (c .match .keys15) refl
+
+-- none of the numbers 1 to 14, and not 15
+returns-16 : tie.Need-returns-16
+returns-16 c =
+    let r = c .match .rest .0 in
     rw (
       ne-eqb _ 1 (r .0 .0 .0 .0 .0 .0 .0 .0 .0 .0 .0 .0 .0 .1),
       ne-eqb _ 2 (r .0 .0 .0 .0 .0 .0 .0 .0 .0 .0 .0 .0 .1),
@@ -65,6 +69,7 @@ returns-15 c =
       ne-eqb _ 12 (r .0 .0 .1),
       ne-eqb _ 13 (r .0 .1),
       ne-eqb _ 14 (r .1),
+      ne-eqb _ 15 (c .match .rest .1),
     )
 
 pub refusal-of-spec : {M : Type 1} → statement M
@@ -85,4 +90,5 @@ refusal-of-spec =
     returns-12
     returns-13
     returns-14
-    returns-15)
+    returns-15
+    returns-16)

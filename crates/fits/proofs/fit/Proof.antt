@@ -1,8 +1,7 @@
 use denote.Ref.{now}
 use mathlib.Core.Path.{refl}
 use mathlib.Core.Option.{none, some}
-use Rattle.blocks.specs.Blocks.{entriesOf}
-use Rattle.fits.specs.Steps.{fitter}
+use Rattle.fits.specs.Steps.{chooser}
 use Rattle.fits.proofs.Asking.{asked-right, fit-refused, fit-answers, place-found, place-none, fit-none}
 use borrow.Author.Needs.{needs}
 use Rattle.fits.proofs.fit.Statement.{statement}
@@ -13,7 +12,7 @@ returns c =
     let at-if1 = c .before in
     let at-ask-verdict = at-if1 .before in
     let start = at-ask-verdict .before .before in
-    fit-refused (fitter (start .args .shortest)) (now (start .args .block)) (start .args .a) (start .args .b) (start .args .k)
+    fit-refused (chooser (start .args .shortest)) (now (start .args .block)) (start .args .a) (start .args .b) (start .args .k) (start .args .j)
     (at-ask-verdict .ask-verdict .result) (at-ask-verdict .ask-verdict .ensures) (c .refusal-of .result) (at-if1 .if1 .taken)
     (c .refusal-of .ensures)
 
@@ -21,7 +20,7 @@ gap-for-requires : tie.Need-gap-for-requires
 gap-for-requires c κs =
     let at-ask-verdict = c .before in
     let start = at-ask-verdict .before .before in
-    asked-right (now (start .args .block)) (start .args .a) (start .args .b) (start .args .k)
+    asked-right (now (start .args .block)) (start .args .a) (start .args .b) (start .args .k) (start .args .j)
     (at-ask-verdict .ask-verdict .ensures .clear (c .if1 .left))
 
 returns-2 : tie.Need-returns-2
@@ -30,9 +29,9 @@ returns-2 c =
     let at-if1 = at-gap-for .before in
     let at-ask-verdict = at-if1 .before in
     let start = at-ask-verdict .before .before in
-    fit-answers (fitter (start .args .shortest)) (now (start .args .block)) (start .args .a) (start .args .b) (start .args .k)
-    (at-ask-verdict .ask-verdict .result) (at-ask-verdict .ask-verdict .ensures) (some (at-gap-for .gap-for .result .low)) _ (at-if1 .if1 .left)
-    (place-found (start .args .shortest) (start .args .a) (start .args .b) (start .args .k) (entriesOf 2 (now (start .args .block)))
+    fit-answers (chooser (start .args .shortest)) (now (start .args .block)) (start .args .a) (start .args .b) (start .args .k) (start .args .j)
+    (at-ask-verdict .ask-verdict .result) (at-ask-verdict .ask-verdict .ensures) (some (at-gap-for .gap-for .result .start)) _ (at-if1 .if1 .left)
+    (place-found (chooser (start .args .shortest)) (now (start .args .block)) (start .args .a) (start .args .b) (start .args .k) (start .args .j)
     (at-gap-for .gap-for .result) (at-gap-for .gap-for .ensures) (c .if2 .taken)) refl
 
 returns-3 : tie.Need-returns-3
@@ -42,9 +41,9 @@ returns-3 c =
     let at-if1 = at-gap-for .before in
     let at-ask-verdict = at-if1 .before in
     let start = at-ask-verdict .before .before in
-    fit-answers (fitter (start .args .shortest)) (now (start .args .block)) (start .args .a) (start .args .b) (start .args .k)
+    fit-answers (chooser (start .args .shortest)) (now (start .args .block)) (start .args .a) (start .args .b) (start .args .k) (start .args .j)
     (at-ask-verdict .ask-verdict .result) (at-ask-verdict .ask-verdict .ensures) none _ (at-if1 .if1 .left)
-    (place-none (start .args .shortest) (start .args .a) (start .args .b) (start .args .k) (entriesOf 2 (now (start .args .block)))
+    (place-none (chooser (start .args .shortest)) (now (start .args .block)) (start .args .a) (start .args .b) (start .args .k) (start .args .j)
     (at-gap-for .gap-for .result) (at-gap-for .gap-for .ensures) (at-if2 .if2 .left)) (fit-none (c .refusal-of2 .result) (c .refusal-of2 .ensures))
 
 pub fit-spec : {M : Type 1} → statement M

@@ -7,20 +7,20 @@ use Rattle.blocks.proofs.Items.{held}
 use Rattle.searches.proofs.Spots.{spot-passed, spot-first}
 use Rattle.entries.specs.Questions.{filter}
 use Rattle.blocks.specs.Blocks.{entriesOf, setLayout}
-use Rattle.fits.specs.Fits.{gaps, fits, anywhere}
+use Rattle.fits.specs.Fits.{gaps, fits, aligned}
 use Rattle.fits.specs.Steps.{chooser}
-use Rattle.fits.proofs.Walking.{Walked, walked-start, walked-inside, walked-enough, walked-over, walked-on, walked-end}
+use Rattle.fits.proofs.Walking.{Walked, walked-start, walked-trying, walked-inside, walked-enough, walked-over, walked-on, walked-end}
 use borrow.Author.Needs.{needs}
 use native.Mathlib.Omega.{arith}
 use Rattle.fits.proofs.gap_for.Statement.{statement}
 use Rattle.fits.proofs.gap_for.Tie as tie
 
 abbrev Inv-loop : tie.InvT-loop
-Inv-loop block a b k shortest enough best₀ from₀ p₀ left₀ best from p left =
-    Walked block (chooser shortest (filter (fits anywhere k) (gaps a b (entriesOf 2 block)))) b k enough best from p left
+Inv-loop block a b k j shortest enough best₀ from₀ p₀ left₀ best from p left =
+    Walked block (chooser shortest (filter (fits (aligned j) k) (gaps a b (entriesOf 2 block)))) b j k enough best from p left
 
 abbrev μ-loop : tie.MeasureT-loop
-μ-loop block a b k shortest enough best₀ from₀ p₀ left₀ best from p left = left
+μ-loop block a b k j shortest enough best₀ from₀ p₀ left₀ best from p left = left
 
 spot-of-requires : tie.Need-spot-of-requires Inv-loop μ-loop
 spot-of-requires c κs = (omega arith, c .before .before .pre .block)
@@ -41,7 +41,7 @@ loop-holds c =
     walked-start (now (start .args .block)) (start .args .a) (start .args .b) (start .args .k) (start .args .shortest)
     (at-enough-for .enough-for .result) (c .before .count-of .result) (at-spot-of .spot-of .result .below) _ (start .pre) (omega arith)
     (at-enough-for .enough-for .ensures) (c .before .count-of .ensures) (spot-passed (omega arith) (start .pre .block) (at-spot-of .spot-of .ensures))
-    refl refl refl
+    refl refl refl refl
 
 word-requires : tie.Need-word-requires Inv-loop μ-loop
 word-requires c κs = omega (arith, walked-inside (c .before .loop .inv) (c .loop-test .taken))
@@ -53,7 +53,7 @@ word-requires-2 : tie.Need-word-requires-2 Inv-loop μ-loop
 word-requires-2 c κs = omega (arith, walked-inside (c .before .before .loop .inv) (c .before .loop-test .taken))
 
 gap-before-requires : tie.Need-gap-before-requires Inv-loop μ-loop
-gap-before-requires c κs = let i = c .before .before .before .loop .inv in record { held = i .order; order = i .inside; run = i .run }
+gap-before-requires c κs = walked-trying (c .before .before .before .loop .inv)
 
 within-requires : tie.Need-within-requires Inv-loop μ-loop
 within-requires c κs = c .gap-before .ensures .order
@@ -102,7 +102,7 @@ loop-again c =
     (sym (at-within .within .ensures) ∙ at-if1 .if1 .left) (at-if2 .if2 .left) (c .above .ensures) refl refl
 
 tried-requires : tie.Need-tried-requires Inv-loop μ-loop
-tried-requires c κs = let i = c .before .loop .inv in record { held = i .order; order = i .inside; run = i .run }
+tried-requires c κs = walked-trying (c .before .loop .inv)
 
 returns-3 : tie.Need-returns-3 Inv-loop μ-loop
 returns-3 c = walked-end (c .before .before .loop .inv) (omega arith) (c .tried .result) (c .tried .ensures)
