@@ -40,8 +40,8 @@ PARTS = [
     ("Signed keys", "the words that stand for them", [("keys", "specs")]),
     ("Prefix blocks", "those of a set, by both methods", [("tilings", "specs")]),
 ]
-# What the code promises itself, and fits for other starts than all; no theorem and no contract of a user's call names it.
-INNER = {"Steps", "Starts"}
+# What the code promises itself; no theorem and no contract of a user's call names it.
+INNER = {"Steps"}
 # Two laws that stand for a definition that need not be read, with what the first supposes; and the laws by which an outcome is the only
 # one: of each kind of answer, of a part, of what C is told.
 BUILD = [("entries", "Cuts", "NotIn"), ("entries", "Cuts", "Changes"), ("entries", "Building", "Ends"), ("entries", "Building", "built"), ("entries", "Canon", "canonical")]

@@ -17,7 +17,7 @@ PAGE = os.path.join(antt.ROOT, "docs", "TRACE.md")
 COLUMNS = ["definitions", "theorems", "edits", "tests", "code"]
 # What a requirement needs, by the letter of its number.
 NEEDS = {
-    **{letter: ["definitions", "theorems", "edits", "tests"] for letter in "BRSFMUYKPCHW"},
+    **{letter: ["definitions", "theorems", "edits", "tests"] for letter in "BRSFAMUYKPCHW"},
     "L": ["theorems", "edits", "tests", "code"],
     "D": ["theorems"],
     "E": ["edits"],
@@ -25,9 +25,10 @@ NEEDS = {
     "G": ["code"],
 }
 # What one that differs from its kind needs: the program is run; the calls that serve signed sets too have the definitions of plain sets; that
-# two methods agree, that damage is noticed, that an old form gives the new one and is read as ever are no definitions; what rests on the
+# two methods agree, that with j = 0 a call is the one without j, that damage is noticed, that an old form gives the new one and is read as ever are no definitions; what rests on the
 # one search is a matter of the code, and that neighbours can be shown one of theorems.
 OWN_NEEDS = {"H3": ["tests", "code"], "K4": ["theorems", "edits", "tests"], "P6": ["theorems", "tests"]}
+OWN_NEEDS |= {"A6": ["theorems", "edits", "tests"]}
 OWN_NEEDS |= {number: ["theorems", "tests"] for number in ("C4", "C5", "C6", "W3")}
 OWN_NEEDS |= {"W2": ["definitions", "theorems", "edits", "tests", "code"], "W4": ["edits", "tests", "code"]}
 # Programs and tables of tests, where a line says in a comment which requirement it is about.

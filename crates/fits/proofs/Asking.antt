@@ -95,6 +95,14 @@ module _ (choose : List Entry → Option Entry) (w : List ℕ) (a b k : ℕ) whe
   pub reserve-anywhere : reserveAlignedCall choose w a b k 0 ≡ reserveCall (placeIn anywhere choose) w a b k
   reserve-anywhere = aligned-reserve 0 (omega arith) ∙ ap (λ (up : ℕ → ℕ). reserveCall (placeIn up choose) w a b k) every-start
 
+-- so what the aligned calls with j = 0 come to is what they come to
+module _ (choose : List Entry → Option Entry) (w : List ℕ) (a b k : ℕ) {x : Outcome} where
+  pub by-fit : x ≡ fitAlignedCall choose w a b k 0 → x ≡ fitCall (placeIn anywhere choose) w a b k
+  by-fit e = e ∙ fit-anywhere choose w a b k
+
+  pub by-reserve : x ≡ reserveAlignedCall choose w a b k 0 → x ≡ reserveCall (placeIn anywhere choose) w a b k
+  by-reserve e = e ∙ reserve-anywhere choose w a b k
+
 -- the gap that was found, as a place
 module _ (choose : List Entry → Option Entry) (w : List ℕ) (a b k j : ℕ) (g : Gap)
     (e : GapIs j (choose (filter (fits (aligned j) k) (gaps a b (entriesOf 2 w)))) g) where

@@ -71,7 +71,7 @@ module _ (n high j : ℕ) (order : n ≤ high) (over ones : ℕ) (o : ones + 1 �
   over-within = omega (arith, o, over-is, mod-lt n (pow-pos j))
 
   -- low is a multiple
-  pub starts-low : (r : Start) → over ≡ 0 → r .found ≡ true → r .at ≡ n → StartIn n high j r
+  pub starts-low : (r : Start) → over ≡ 0 → r .there ≡ true → r .at ≡ n → StartIn n high j r
   starts-low r z f a = record { is = f ∙ sym (le-leb (aligned j n) high (omega (arith, itself, order))); least = λ g. a ∙ sym itself }
     where
       itself : aligned j n ≡ n
@@ -89,12 +89,12 @@ module _ (n high j : ℕ) (order : n ≤ high) (over ones : ℕ) (o : ones + 1 �
             (arith, split n j, over-is, over-within, o, mul-comm (suc q) (2 ^ j), mul-suc (2 ^ j) q, mul-comm (2 ^ j) q) in
             subst (Multiple j) t (low (suc q) j (pow-pos j))
 
-    pub starts-nowhere : high - n ≤ ones - over → r .found ≡ false → StartIn n high j r
+    pub starts-nowhere : high - n ≤ ones - over → r .there ≡ false → StartIn n high j r
     starts-nowhere h f = record { is = f ∙ sym (lt-leb (aligned j n) high (omega (arith, next, order))); least = λ g. absurd (true≢false (sym g ∙ f)) }
 
-    pub starts-next : ones - over < high - n → r .found ≡ true → r .at ≡ n + (ones - over) + 1 → StartIn n high j r
+    pub starts-next : ones - over < high - n → r .there ≡ true → r .at ≡ n + (ones - over) + 1 → StartIn n high j r
     starts-next h f a = record { is = f ∙ sym (le-leb (aligned j n) high (omega (arith, next))); least = λ g. a ∙ sym next }
 
 -- a start that was found lies in the gap
-pub start-within : (low high j : ℕ) (s : Start) → StartIn low high j s → s .found ≡ true → s .at ≤ high
+pub start-within : (low high j : ℕ) (s : Start) → StartIn low high j s → s .there ≡ true → s .at ≤ high
 start-within low high j s i f = omega (arith, i .least f, leb-true (aligned j low) high (sym (i .is) ∙ f))

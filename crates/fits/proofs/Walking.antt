@@ -82,14 +82,14 @@ module _ {j : ℕ} (best : Gap) (low high k : ℕ) (g : Trying j best low high k
   -- no gap is held, or a longer one
   module _ (e : andb (best .found) (leb (best .high - best .low) (high - low)) ≡ false) (s : Start) (i : StartIn low high j s) where
     -- there is no multiple in it
-    pub tried-none : s .found ≡ false → Took j k best (new ∷ []) best
+    pub tried-none : s .there ≡ false → Took j k best (new ∷ []) best
     tried-none f = unfit (omega (arith, leb-false (aligned j low) high (sym (i .is) ∙ f), g .run))
 
     -- the run from there on ends behind it
-    pub tried-over : s .found ≡ true → high - s .at < k - 1 → Took j k best (new ∷ []) best
+    pub tried-over : s .there ≡ true → high - s .at < k - 1 → Took j k best (new ∷ []) best
     tried-over f h = unfit (omega (arith, i .least f, start-within low high j s i f))
 
-    pub tried-new : s .found ≡ true → k - 1 ≤ high - s .at → (r : Gap) → r .found ≡ true → r .low ≡ low → r .high ≡ high → r .start ≡ s .at
+    pub tried-new : s .there ≡ true → k - 1 ≤ high - s .at → (r : Gap) → r .found ≡ true → r .low ≡ low → r .high ≡ high → r .start ≡ s .at
         → Took j k best (new ∷ []) r
     tried-new f h r found l u at = record {
       order = omega (arith, g .order);

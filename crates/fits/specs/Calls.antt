@@ -100,7 +100,7 @@ tooHigh j = at 0 (applies (ltb lastPower j) 16)
 abbrev pub alignRefusals : List ℕ → ℕ → ℕ → ℕ → ℕ → List Finding
 alignRefusals w a b k j = askRefusals w a b k ++ (tooHigh j ∷ [])
 
--- [A3, A4] the place in the gap that is chosen
+-- [A3, A4, A5] the place in the gap that is chosen, or none
 abbrev pub alignedPlace : (List Entry → Option Entry) → List ℕ → ℕ → ℕ → ℕ → ℕ → Option ℕ
 alignedPlace choose w a b k j = placeIn (aligned j) choose a b k (entriesOf 2 w)
 

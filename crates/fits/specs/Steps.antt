@@ -33,10 +33,10 @@ heldIn g = pick (g .found) (entry (g .low) (g .high) [] ∷ []) []
 abbrev pub piece : ℕ → ℕ → List Entry
 piece x y = pick (ltb x y) (entry x (y - 1) [] ∷ []) []
 
--- the least multiple of 2^j at or above low is at most high, and was found; or it is not
+-- the least multiple of 2^j at or above low is there if it is at most high
 pub record StartIn (low high j : ℕ) (r : Start) : Type 0 where
-  pub is : r .found ≡ leb (aligned j low) high
-  pub least : r .found ≡ true → r .at ≡ aligned j low
+  pub is : r .there ≡ leb (aligned j low) high
+  pub least : r .there ≡ true → r .at ≡ aligned j low
 
 -- the gap held after gaps gs came: the shorter one, of those that a run of k fits in from a multiple of 2^j on
 abbrev pub better : List Entry → Entry → List Entry

@@ -28,9 +28,9 @@ pub struct Gap {
     pub start: u64,
 }
 
-// A start that was sought, if it was found.
+// A start that was sought, if there is one.
 pub struct Start {
-    pub found: bool,
+    pub there: bool,
     pub at: u64,
 }
 
@@ -47,19 +47,19 @@ fn start_in(low: u64, high: u64, j: u64) -> Start
     let over = low & ones;
     if over == 0 {
         return Start {
-            found: true,
+            there: true,
             at: low,
         };
     }
     let more = ones - over;
     if high - low <= more {
         return Start {
-            found: false,
+            there: false,
             at: low,
         };
     }
     Start {
-        found: true,
+        there: true,
         at: low + more + 1,
     }
 }
@@ -88,7 +88,7 @@ fn tried(best: Gap, low: u64, high: u64, k: u64, j: u64) -> Gap
         return best;
     }
     let start = start_in(low, high, j);
-    if !start.found {
+    if !start.there {
         return best;
     }
     if high - start.at < k - 1 {
