@@ -57,7 +57,7 @@
 
 /* The version, here and nowhere else: CHANGELOG.md says what changed, and ./install writes it into wimblorque.pc. */
 #define WIMBLORQUE_VERSION_MAJOR 2
-#define WIMBLORQUE_VERSION_MINOR 0
+#define WIMBLORQUE_VERSION_MINOR 1
 #define WIMBLORQUE_VERSION_PATCH 0
 #define WIMBLORQUE_TEXT_OF(x) #x
 #define WIMBLORQUE_DOTTED(x, y, z) WIMBLORQUE_TEXT_OF(x) "." WIMBLORQUE_TEXT_OF(y) "." WIMBLORQUE_TEXT_OF(z)
@@ -139,7 +139,8 @@ enum {
     WIMBLORQUE_CONTENT = 16 + 12,  /* a count above the limit, or an item that breaks soundness */
     WIMBLORQUE_TRAILING = 16 + 13, /* bytes follow the last record */
     WIMBLORQUE_OVERLAP = 16 + 14,  /* a bulletin's two sets share a number */
-    WIMBLORQUE_NO_SPACE = 16 + 15  /* the byte buffer cannot take the output */
+    WIMBLORQUE_NO_SPACE = 16 + 15, /* the byte buffer cannot take the output */
+    WIMBLORQUE_ALIGN = 16 + 16     /* a start at a multiple of 2^j is asked for, and j is above 63 */
 };
 
 typedef struct wimblorque_answer {
@@ -263,9 +264,29 @@ WIMBLORQUE_MUST_USE wimblorque_answer wimblorque_set_reserve_first(uint64_t *WIM
 WIMBLORQUE_MUST_USE wimblorque_answer wimblorque_set_reserve_best(uint64_t *WIMBLORQUE_RESTRICT block, size_t words, uint64_t a,
     uint64_t b, uint64_t k);
 
+/* ---- Sets: room for a tray, which is a run of k numbers that starts at a multiple of 2^j, j from 0 to 63; k need not be 2^j. With j = 0
+   each call answers as the one above that has its name without _aligned.
+   Refused with 1, 2, 3, then 4, then 6, then 16 exactly if j is above 63, then 7; a reservation then also with 5, for the place that was
+   chosen. 7 says that no run of k free numbers in the window starts at a multiple of 2^j; one may start elsewhere. ---- */
+
+/* The least start of such a run. One value. Changes nothing. */
+WIMBLORQUE_MUST_USE wimblorque_answer wimblorque_set_first_fit_aligned(const uint64_t *block, size_t words, uint64_t a, uint64_t b,
+    uint64_t k, uint64_t j);
+
+/* The least multiple of 2^j in the shortest gap that has room for such a run, the lowest such gap on a tie. All numbers of a gap that are
+   in the window count for its length, also those below the multiple. One value. Changes nothing. */
+WIMBLORQUE_MUST_USE wimblorque_answer wimblorque_set_best_fit_aligned(const uint64_t *block, size_t words, uint64_t a, uint64_t b,
+    uint64_t k, uint64_t j);
+
+/* The same places, with the k numbers from there on made members. One value, the place. */
+WIMBLORQUE_MUST_USE wimblorque_answer wimblorque_set_reserve_first_aligned(uint64_t *WIMBLORQUE_RESTRICT block, size_t words,
+    uint64_t a, uint64_t b, uint64_t k, uint64_t j);
+WIMBLORQUE_MUST_USE wimblorque_answer wimblorque_set_reserve_best_aligned(uint64_t *WIMBLORQUE_RESTRICT block, size_t words,
+    uint64_t a, uint64_t b, uint64_t k, uint64_t j);
+
 /* ---- Signed sets: a key is an int64_t; an index i, a length k and how many ranges there are stay as they are. Each call is the one on
    sets of the same name, at the keys: what it changes, answers and refuses, and where, is the same, with keys for numbers; 4 is low above
-   high as keys. ---- */
+   high as keys. For trays there are none. ---- */
 
 /* Is the key x a member, and where does it lie? Two values, be it a member or not: first, 1 or 0; second, how many ranges lie wholly
    below the key x, a number and no key: the range that holds x is not counted. wimblorque_signed_range_at then gives that range, at

@@ -5,26 +5,26 @@
 
 #include "wimblorque.h"
 
-/* The place of a status in the two tables: 0 accepted, 1 to 15 the refusals, 16 no status at all. */
+/* The place of a status in the two tables: 0 accepted, 1 to 16 the refusals, 17 no status at all. */
 static inline unsigned wimblorque_refusal_index(uint64_t status) {
     if (status == WIMBLORQUE_ACCEPTED) {
         return 0;
     }
-    return status >= WIMBLORQUE_NO_BLOCK && status <= WIMBLORQUE_NO_SPACE ? (unsigned)(status - 16) : 16;
+    return status >= WIMBLORQUE_NO_BLOCK && status <= WIMBLORQUE_ALIGN ? (unsigned)(status - 16) : 17;
 }
 
 /* The name of the refusal that a status tells, as the table of refusals has it; "Accepted" for 0, "Unknown" for what is no status. */
 static inline const char *wimblorque_refusal_name(uint64_t status) {
-    static const char *const names[17] = {
+    static const char *const names[18] = {
         "Accepted", "NoBlock", "Count", "Order", "Backwards", "Room", "ZeroRun", "NoGap", "Short",
-        "Mark", "Kind", "Check", "Content", "Trailing", "Overlap", "NoSpace", "Unknown",
+        "Mark", "Kind", "Check", "Content", "Trailing", "Overlap", "NoSpace", "Align", "Unknown",
     };
     return names[wimblorque_refusal_index(status)];
 }
 
 /* One sentence: what was found. Nothing was changed by a refused call. */
 static inline const char *wimblorque_refusal_sentence(uint64_t status) {
-    static const char *const sentences[17] = {
+    static const char *const sentences[18] = {
         "The call was accepted.",
         "A list was given no memory at all.",
         "A list in memory says that it has more items than its memory can hold.",
@@ -32,7 +32,7 @@ static inline const char *wimblorque_refusal_sentence(uint64_t status) {
         "The range asked for is backwards: its low end is above its high end.",
         "The new list does not fit into the memory set aside for it.",
         "A run of no numbers was asked for.",
-        "There is no free run of that length in the window.",
+        "There is no free run as asked for in the window.",
         "The data ends too early: a part of it is missing.",
         "The data is no list at all, or a record of it does not begin as the first one does.",
         "The data is of another kind than was asked for, as a map where a list is expected.",
@@ -41,6 +41,7 @@ static inline const char *wimblorque_refusal_sentence(uint64_t status) {
         "The data goes on behind the end of the list.",
         "The bulletin contradicts itself: it releases and withdraws the same number.",
         "The buffer is too small for the data to be written.",
+        "The start is to be a multiple of a power of two that is too large: 2^63 is the largest.",
         "This number is no status of the library.",
     };
     return sentences[wimblorque_refusal_index(status)];

@@ -1,5 +1,5 @@
 /* No misuse: no compiler may warn of anything here. Two blocks by turns, one block for two inputs, results used, keys cast, prefix
-   blocks, both headers. */
+   blocks, trays, both headers. */
 #include "wimblorque_refusals.h"
 
 int used_well(uint64_t *list, uint64_t *next, const uint64_t *released, const uint64_t *withdrawn, uint8_t *bytes, unsigned n);
@@ -31,6 +31,10 @@ int used_well(uint64_t *list, uint64_t *next, const uint64_t *released, const ui
     }
     if (wimblorque_set_audit_blocks(next, 3, pairs, pair_words).status != 0 || wimblorque_prefix_last(pairs[1], pairs[2]) < pairs[1]) {
         return 7;
+    }
+    a = wimblorque_set_reserve_first_aligned(next, 9, 0, UINT64_MAX, n, 4);
+    if (a.status == WIMBLORQUE_ALIGN || wimblorque_set_best_fit_aligned(next, 9, 0, UINT64_MAX, n, 4).first % 16 != 0) {
+        return 8;
     }
     const int64_t least = (int64_t)wimblorque_signed_range_at(block, sizeof block / sizeof block[0], 0).first;
     if (wimblorque_key_of_word(block[1]) != least || wimblorque_word_of_key(least) != block[1]) {

@@ -4,8 +4,8 @@
 int printf(const char *format, ...);
 
 int main(void) {
-    static const uint64_t others[] = {1, 15, 16, 32, 1000, 18446744073709551615ull};
-    for (uint64_t status = 16; status <= 31; status++) {
+    static const uint64_t others[] = {1, 15, 16, 33, 1000, 18446744073709551615ull};
+    for (uint64_t status = 16; status <= WIMBLORQUE_ALIGN; status++) {
         const uint64_t s = status == 16 ? WIMBLORQUE_ACCEPTED : status;
         printf("%llu %s: %s\n", (unsigned long long)s, wimblorque_refusal_name(s), wimblorque_refusal_sentence(s));
     }
