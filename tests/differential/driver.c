@@ -22,7 +22,7 @@ int mprotect(void *at, size_t length, int protection);
 void _exit(int status) __attribute__((noreturn));
 
 enum { NO_ACCESS = 0, READ_ONLY = 1, READ_WRITE = 3, PRIVATE_ANONYMOUS = 0x22 };
-enum { LENT = 6, ARGS = 3, GUARD = 65536, ROOM = 1 << 20, BESIDE = 512, IO = 1 << 20 };
+enum { LENT = 6, ARGS = 4, GUARD = 65536, ROOM = 1 << 20, BESIDE = 512, IO = 1 << 20 };
 enum { WORDS_IN, WORDS_OUT, BYTES_IN, BYTES_OUT };
 static const uint8_t beside = 0xB5;
 
@@ -161,6 +161,7 @@ static void protect(size_t lent, int protection) {
 #define X args[0]
 #define Y args[1]
 #define Z args[2]
+#define J args[3]
 #define KEY_X (int64_t)args[0]
 #define KEY_Y (int64_t)args[1]
 #define ONE_VALUE(x) (wimblorque_answer){.count = 1, .first = (uint64_t)(x)}
@@ -191,40 +192,44 @@ static __attribute__((noinline)) wimblorque_answer call(uint64_t number) {
     case 20: return wimblorque_set_best_fit(W(0), X, Y, Z);
     case 21: return wimblorque_set_reserve_first(W(0), X, Y, Z);
     case 22: return wimblorque_set_reserve_best(W(0), X, Y, Z);
-    case 23: return wimblorque_signed_member(W(0), KEY_X);
-    case 24: return wimblorque_signed_range_at(W(0), X);
-    case 25: return wimblorque_signed_least_member(W(0), KEY_X);
-    case 26: return wimblorque_signed_least_non_member(W(0), KEY_X);
-    case 27: return wimblorque_signed_window(W(0), KEY_X, KEY_Y);
-    case 28: return wimblorque_signed_insert(W(0), KEY_X, KEY_Y);
-    case 29: return wimblorque_signed_remove(W(0), KEY_X, KEY_Y);
-    case 30: return wimblorque_signed_first_fit(W(0), KEY_X, KEY_Y, Z);
-    case 31: return wimblorque_signed_best_fit(W(0), KEY_X, KEY_Y, Z);
-    case 32: return wimblorque_signed_reserve_first(W(0), KEY_X, KEY_Y, Z);
-    case 33: return wimblorque_signed_reserve_best(W(0), KEY_X, KEY_Y, Z);
-    case 34: return wimblorque_key_difference(KEY_X, KEY_Y);
-    case 35: return ONE_VALUE(wimblorque_key_of_word(X));
-    case 36: return ONE_VALUE(wimblorque_word_of_key(KEY_X));
-    case 37: return wimblorque_map_look_up(W(0), X);
-    case 38: return wimblorque_map_assign(W(0), X, Y, Z);
-    case 39: return wimblorque_map_erase(W(0), X, Y);
-    case 40: return wimblorque_map_window(W(0), X, Y);
-    case 41: return wimblorque_map_site_over_factory(W(0), W(1), X);
-    case 42: return wimblorque_map_overlay(W(0), W(1), W(2));
-    case 43: return wimblorque_map_restriction(W(0), W(1), W(2));
-    case 44: return wimblorque_map_domain(W(0), W(1));
-    case 45: return wimblorque_bulletin_apply(W(0), W(1), W(2), W(3));
-    case 46: return wimblorque_bulletin_fold(W(0), W(1), W(2), W(3), W(4), W(5));
-    case 47: return wimblorque_set_read(B(0), W(1));
-    case 48: return wimblorque_signed_read(B(0), W(1));
-    case 49: return wimblorque_map_read(B(0), W(1));
-    case 50: return wimblorque_bulletin_read(B(0), W(1), W(2));
-    case 51: return wimblorque_set_judge_form(B(0));
-    case 52: return (wimblorque_answer){.status = wimblorque_member(B(0), X)};
-    case 53: return wimblorque_set_write(W(0), B(1), X);
-    case 54: return wimblorque_signed_write(W(0), B(1), X);
-    case 55: return wimblorque_map_write(W(0), B(1), X);
-    case 56: return wimblorque_bulletin_write(W(0), W(1), B(2), X);
+    case 23: return wimblorque_set_first_fit_aligned(W(0), X, Y, Z, J);
+    case 24: return wimblorque_set_best_fit_aligned(W(0), X, Y, Z, J);
+    case 25: return wimblorque_set_reserve_first_aligned(W(0), X, Y, Z, J);
+    case 26: return wimblorque_set_reserve_best_aligned(W(0), X, Y, Z, J);
+    case 27: return wimblorque_signed_member(W(0), KEY_X);
+    case 28: return wimblorque_signed_range_at(W(0), X);
+    case 29: return wimblorque_signed_least_member(W(0), KEY_X);
+    case 30: return wimblorque_signed_least_non_member(W(0), KEY_X);
+    case 31: return wimblorque_signed_window(W(0), KEY_X, KEY_Y);
+    case 32: return wimblorque_signed_insert(W(0), KEY_X, KEY_Y);
+    case 33: return wimblorque_signed_remove(W(0), KEY_X, KEY_Y);
+    case 34: return wimblorque_signed_first_fit(W(0), KEY_X, KEY_Y, Z);
+    case 35: return wimblorque_signed_best_fit(W(0), KEY_X, KEY_Y, Z);
+    case 36: return wimblorque_signed_reserve_first(W(0), KEY_X, KEY_Y, Z);
+    case 37: return wimblorque_signed_reserve_best(W(0), KEY_X, KEY_Y, Z);
+    case 38: return wimblorque_key_difference(KEY_X, KEY_Y);
+    case 39: return ONE_VALUE(wimblorque_key_of_word(X));
+    case 40: return ONE_VALUE(wimblorque_word_of_key(KEY_X));
+    case 41: return wimblorque_map_look_up(W(0), X);
+    case 42: return wimblorque_map_assign(W(0), X, Y, Z);
+    case 43: return wimblorque_map_erase(W(0), X, Y);
+    case 44: return wimblorque_map_window(W(0), X, Y);
+    case 45: return wimblorque_map_site_over_factory(W(0), W(1), X);
+    case 46: return wimblorque_map_overlay(W(0), W(1), W(2));
+    case 47: return wimblorque_map_restriction(W(0), W(1), W(2));
+    case 48: return wimblorque_map_domain(W(0), W(1));
+    case 49: return wimblorque_bulletin_apply(W(0), W(1), W(2), W(3));
+    case 50: return wimblorque_bulletin_fold(W(0), W(1), W(2), W(3), W(4), W(5));
+    case 51: return wimblorque_set_read(B(0), W(1));
+    case 52: return wimblorque_signed_read(B(0), W(1));
+    case 53: return wimblorque_map_read(B(0), W(1));
+    case 54: return wimblorque_bulletin_read(B(0), W(1), W(2));
+    case 55: return wimblorque_set_judge_form(B(0));
+    case 56: return (wimblorque_answer){.status = wimblorque_member(B(0), X)};
+    case 57: return wimblorque_set_write(W(0), B(1), X);
+    case 58: return wimblorque_signed_write(W(0), B(1), X);
+    case 59: return wimblorque_map_write(W(0), B(1), X);
+    case 60: return wimblorque_bulletin_write(W(0), W(1), B(2), X);
     default: _exit(3);
     }
 }

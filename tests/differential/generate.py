@@ -1,4 +1,4 @@
-"""Random cases of every call, cases at the limits of 4,095 ranges and 2,730 entries, of mixed marks, and of prefix blocks."""
+"""Random cases of every call, cases at the limits of 4,095 ranges and 2,730 entries, of mixed marks, of trays, and of prefix blocks."""
 
 import random
 
@@ -6,7 +6,7 @@ import model
 import refusals
 import shapes
 from model import HALF, LIMIT, M, MAP, SET
-from refusals import ARGS_OF, PREFIXES, as_given, bulletins_of, form_of, is_signed, kinds_of, letters_of, reads_bytes, widest
+from refusals import ALIGNED, ARGS_OF, PREFIXES, as_given, bulletins_of, form_of, is_signed, kinds_of, letters_of, reads_bytes, widest
 from wire import Case
 
 COUNTS = [0, 1, 1, 2, 2, 3, 3, 4, 5, 6, 8, 12, 30]
@@ -19,7 +19,7 @@ def some_lists(name, rng):
     for kind in kinds:
         if lists and kind == kinds[0] and rng.random() < 0.08:
             lists.append(lists[0])
-        elif name in PREFIXES and rng.random() < 0.6:
+        elif (name in PREFIXES or name in ALIGNED) and rng.random() < 0.6:
             lists.append(shapes.aligned(rng, rng.choice(COUNTS)))
         else:
             lists.append(shapes.some_items(rng, kind, rng.choice(COUNTS), lists))
@@ -29,12 +29,12 @@ def some_lists(name, rng):
     return [shapes.about_zero(rng, items) for items in lists] if is_signed(name) else lists
 
 
-def some_k(rng, items, a, b):
-    """The length of a run: about as long as one of the window's gaps, or anything."""
-    found = [high - low + 1 for low, high in model.gaps(items, a, b)] if a <= b else []
-    if not found or rng.random() < 0.15:
+def some_k(rng, found, j):
+    """The length of a run: about as long as one of the gaps that were found, or as what of it is not below a multiple of 2^j; or anything."""
+    lengths = [high - start + 1 for low, high in found for start in sorted({low, model.multiple(low, j)}) if start <= high]
+    if not lengths or rng.random() < 0.15:
         return shapes.number(rng)
-    return shapes.clipped(rng.choice([1, 2, 3] + found * 2) + rng.choice([-1, 0, 0, 0, 1]))
+    return shapes.clipped(rng.choice([1, 2, 3] + lengths * 2) + rng.choice([-1, 0, 0, 0, 1]))
 
 
 def some_range(rng, items, points):
@@ -58,8 +58,13 @@ def some_args(name, rng, lists):
     if not style.startswith("ab"):
         return []
     a, b = some_range(rng, lists[0], points)
-    if style == "abk":
-        return [a, b, some_k(rng, lists[0], a, b)]
+    if "k" in style:
+        found = model.gaps(lists[0], a, b) if a <= b else []
+        j = shapes.exponent(rng, found) if "j" in style else 0
+        k = some_k(rng, found, j)
+        if "j" not in style:
+            return [a, b, k]
+        return [a, b, k, shapes.oversized(rng, j) if rng.random() < 0.1 else j]  # [A2] now and then above 63
     values = [item[2] for items in lists for item in items if len(item) == MAP] + [shapes.number(rng)]
     return [a, b] + ([rng.choice(values)] if style == "abv" else [])
 
@@ -310,15 +315,59 @@ BEGUN = ["fits", "too long", "far"]
 
 def begun_case(name, count, place, way, seed):
     """[L1, W2] A fit, on a list of so many ranges, in a window that begins at the number at a place: up to the end of the first gap from there on,
-    which the run just fills or is a number too long for; or far up, for a run about as long as one of the gaps."""
+    which the run just fills or is a number too long for; or far up, for a run about as long as one of the gaps. A tray fills the gap from its
+    first multiple on."""
     rng = random.Random(seed)
     items, a = placed(name, rng, count, place)
     low, high = (model.gaps(items, a, M) or [(M, M)])[0]
-    k = high - low + 1 + (way == "too long")
+    j = shapes.exponent(rng, [(low, high)]) if name in ALIGNED else 0
+    while model.multiple(low, j) > high:
+        j -= 1
+    k = high - model.multiple(low, j) + 1 + (way == "too long")
     if way == "far":
         high = rng.choice([M, max(a, shapes.near(rng, shapes.points_of(items)))])
-        k = max(1, some_k(rng, items, a, high))
-    return Case(name, [shapes.block(rng, SET, items)], as_given(name, [a, high, min(M, k)]), placement=rng.randrange(2))
+        k = some_k(rng, model.gaps(items, a, high), j)
+    given = [a, high, max(1, min(M, k))] + ([j] if name in ALIGNED else [])
+    return Case(name, [shapes.block(rng, SET, items)], as_given(name, given), placement=rng.randrange(2))
+
+
+# ---- trays
+
+
+BARE = "bare"  # a gap of just as many numbers as the run has, wherever its multiples lie
+TRAYS = [(j, beside, room) for j in range(64) for beside in (-1, 0, 1) for room in (-1, 0, 1, BARE)]
+
+
+def gap_about(at, j, k, beside, room):
+    """A gap that begins `beside` the multiple `at` of 2^j, with so many numbers more than a run of k takes from its first multiple on."""
+    low = at + beside
+    return low, (low if room == BARE else model.multiple(low, j) + room) + k - 1
+
+
+def gaps_about(rng, j, k, beside, room):
+    """Up to three gaps: the first as asked, the others such that the shorter one often has more numbers from its first multiple on. All of
+    them are at the line's low end, anywhere, or at its high end, where they may be cut."""
+    found = [gap_about(0, j, k, beside, room)]
+    for _ in range(rng.randrange(3)):
+        at = model.multiple(found[-1][1] + 3, j) + rng.choice([0, 0, 2**j])
+        found.append(gap_about(at, j, k, rng.choice([-1, 0, 1]), rng.choice([-1, 0, 0, 1, 2])))
+    last = max(0, M - found[-1][1]) >> j
+    shift = rng.choice([0, 1, rng.randrange(last + 1), last, last + 1]) << j
+    found = [(max(0, low + shift), min(M, high + shift)) for low, high in found]
+    return [(low, high) for low, high in found if low <= high]
+
+
+def tray_case(name, j, beside, room, seed):
+    """[A1, A3, A4, A5, A6] A fit of a run that starts at a multiple of 2^j, where all free numbers are in gaps about such multiples; or where
+    the ends of the window cut the gaps so."""
+    rng = random.Random(seed)
+    k = max(1, rng.choice([1, 2, 3, 2**j - 1, 2**j, 2**j + 1, 2**j // 3, rng.randrange(3 * 2**j)]))
+    found = gaps_about(rng, j, k, beside, room)
+    ranges, a, b = model.complement(found), 0, M
+    if found and rng.random() < 0.5:
+        a, b = found[0][0], found[-1][1]
+        ranges = model.intersection(ranges, [(a, b)]) if rng.random() < 0.7 else ranges
+    return Case(name, [shapes.block(rng, SET, ranges)], [a, b, min(M, k), j], placement=rng.randrange(2))
 
 
 # ---- prefix blocks

@@ -164,16 +164,22 @@ def gaps(ranges, a, b):
     return difference([(a, b)], ranges)
 
 
-def fit(best, ranges, a, b, k):
-    """The place of a run of k numbers: 4, 6, 7 in this order, else s."""
-    if a > b:
-        raise Refused(4, 0)
+def multiple(x, j):
+    """The least multiple of 2^j at or above x."""
+    return -(-x // 2**j) * 2**j
+
+
+def fit(best, ranges, a, b, k, j=0):
+    """The place of a run of k numbers that starts at a multiple of 2^j: 4, 6, 16, 7 in this order, else s."""
+    in_order(a, b)
     if k == 0:
         raise Refused(6, 0)
-    wide = [(high - low + 1, low) for low, high in gaps(ranges, a, b) if high - low + 1 >= k]
+    if j > 63:
+        raise Refused(16, 0)
+    wide = [(high - low + 1, multiple(low, j)) for low, high in gaps(ranges, a, b) if multiple(low, j) + k - 1 <= high]
     if not wide:
         raise Refused(7, 0)
-    return min(wide)[1] if best else min(low for _, low in wide)
+    return min(wide)[1] if best else min(s for _, s in wide)
 
 
 # ---- prefix blocks, as pairs (start, e): 2^e numbers from a multiple of 2^e on
@@ -359,34 +365,34 @@ def as_pairs(method):
     return call
 
 
-def set_first_fit(block, a, b, k):
-    """First fit, as a question."""
-    return [fit(False, judged(SET, block, 0), a, b, k)]
+def set_first_fit(block, a, b, k, j=0):
+    """First fit, as a question; where a j is given, from a multiple of 2^j on."""
+    return [fit(False, judged(SET, block, 0), a, b, k, j)]
 
 
-def set_best_fit(block, a, b, k):
+def set_best_fit(block, a, b, k, j=0):
     """Best fit, as a question."""
-    return [fit(True, judged(SET, block, 0), a, b, k)]
+    return [fit(True, judged(SET, block, 0), a, b, k, j)]
 
 
-def reserve(best, block, a, b, k):
+def reserve(best, block, a, b, k, j):
     """The place is chosen first; Room is then judged for that place only."""
     ranges = judged(SET, block, 0)
-    s = fit(best, ranges, a, b, k)
+    s = fit(best, ranges, a, b, k, j)
     result = union(ranges, [(s, s + k - 1)])
     has_room(SET, block, result, 0)
     store(block, result)
     return [s]
 
 
-def set_reserve_first(block, a, b, k):
+def set_reserve_first(block, a, b, k, j=0):
     """First fit, as a reservation."""
-    return reserve(False, block, a, b, k)
+    return reserve(False, block, a, b, k, j)
 
 
-def set_reserve_best(block, a, b, k):
+def set_reserve_best(block, a, b, k, j=0):
     """Best fit, as a reservation."""
-    return reserve(True, block, a, b, k)
+    return reserve(True, block, a, b, k, j)
 
 
 # ---- the calls on signed sets, and on keys
@@ -770,6 +776,10 @@ CALLS = [
     ("set_best_fit", set_best_fit, "ixxx"),
     ("set_reserve_first", set_reserve_first, "cxxx"),
     ("set_reserve_best", set_reserve_best, "cxxx"),
+    ("set_first_fit_aligned", set_first_fit, "ixxxx"),
+    ("set_best_fit_aligned", set_best_fit, "ixxxx"),
+    ("set_reserve_first_aligned", set_reserve_first, "cxxxx"),
+    ("set_reserve_best_aligned", set_reserve_best, "cxxxx"),
     ("signed_member", signed_member, "is"),
     ("signed_range_at", signed_range_at, "ix"),
     ("signed_least_member", signed_least_member, "is"),

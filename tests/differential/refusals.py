@@ -16,10 +16,12 @@ from wire import Case
 ARGS = {"x": ["set_member", "set_least_member", "set_least_non_member", "map_look_up", "map_site_over_factory", "member"]}
 ARGS |= {"i": ["set_range_at"], "ab": ["set_window", "map_window", "set_insert", "set_remove", "map_erase"], "abv": ["map_assign"]}
 ARGS |= {"abk": ["set_first_fit", "set_best_fit", "set_reserve_first", "set_reserve_best"]}
+ARGS |= {"abkj": [name + "_aligned" for name in ARGS["abk"]]}
 ARGS |= {"p": ["set_write", "map_write", "bulletin_write"]}
 ARGS_OF = {name: style for style, names in ARGS.items() for name in names}
 ARGS_OF |= {"signed" + name[3:]: style for name, style in ARGS_OF.items() if name.startswith("set") and "signed" + name[3:] in model.LENT}
 PREFIXES = ("set_prefix_blocks", "set_audit_blocks")
+ALIGNED = ARGS["abkj"]
 RECORDS = ("start", "item", "later")
 OF_RECORD = ("8<", 9, 10, 8, 11, 12)
 TRIES = 400
@@ -69,6 +71,7 @@ def refusals_of(name):
     listed = [(number, i) for i in inputs for number in (1, 2, 3)] + [(1, i) for i in outputs]
     listed += [(4, "")] if "ab" in style else []
     listed += [(6, "")] if "k" in style else []
+    listed += [(16, "")] if "j" in style else []
     listed += [(14, "earlier"), (14, "later")] if name == "bulletin_fold" else [(14, "")] if "bulletin" in name else []
     listed += [(7, "")] if "k" in style else []
     listed += [(5, i) for i in outputs + ([0] if "c" in letters else [])]
@@ -104,7 +107,8 @@ def listed_pairs(name):
 def base_lists(name, rng):
     """Sound inputs with something in them, in words; a bulletin's two sets share nothing."""
     kinds = kinds_of(name)[: sum(letter in "ic" for letter in letters_of(name))]
-    lists = [shapes.aligned(rng, 3) if name in PREFIXES and rng.random() < 0.5 else shapes.fresh(rng, kinds[0], rng.randrange(2, 6))]
+    on_powers = (name in PREFIXES or name in ALIGNED) and rng.random() < 0.5
+    lists = [shapes.aligned(rng, 3) if on_powers else shapes.fresh(rng, kinds[0], rng.randrange(2, 6))]
     if is_signed(name):
         lists = [shapes.about_zero(rng, lists[0])]
     for kind in kinds[1:]:
@@ -136,21 +140,24 @@ def shared_lists(name, lists, wants, rng):
     return lists
 
 
-def window_args(items, wants, pair, rng):
-    """a, b and k of a fit: with a gap that is wide enough, or without one (7)."""
+def window_args(items, wants, pair, with_j, rng):
+    """a, b and k of a fit, and j if it has one: with a gap that is wide enough, or without one (7); with j above 63 as wanted (16)."""
     a, b = sorted(shapes.near(rng, shapes.points_of(items)) for _ in "ab")
     if (7, "") in wants and ((6, "") in pair or rng.random() < 0.5):
         low, high = rng.choice(items)[:2]
         a, b = sorted((rng.randint(low, high), rng.randint(low, high)))
-    longest = max((high - low + 1 for low, high in model.gaps(items, a, b)), default=0)
+    found = model.gaps(items, a, b)
+    j = shapes.exponent(rng, found) if with_j else 0
+    longest = max([0] + [high - model.multiple(low, j) + 1 for low, high in found])
     k = rng.choice([1, longest, longest - 1, longest // 2])
     if (7, "") in wants:
         k = rng.choice([longest + 1, longest + 2, M])
-    return a, b, 0 if (6, "") in wants else max(1, min(M, k))
+    j = shapes.oversized(rng, j) if (16, "") in wants else j
+    return [a, b, 0 if (6, "") in wants else max(1, min(M, k))] + ([j] if with_j else [])
 
 
 def base_args(name, lists, wants, pair, rng):
-    """The arguments of a call on word blocks, with refusals 4, 6 and 7 as wanted; in words, also where they are to be keys."""
+    """The arguments of a call on word blocks, with refusals 4, 6, 16 and 7 as wanted; in words, also where they are to be keys."""
     style = ARGS_OF.get(name, "")
     points = shapes.points_of(*lists) + ([HALF] if is_signed(name) else [])
     if style == "x":
@@ -159,13 +166,14 @@ def base_args(name, lists, wants, pair, rng):
         return [rng.choice([0, 1, len(lists[0]) - 1, len(lists[0]), M])]
     if not style.startswith("ab"):
         return []
-    if style == "abk":
-        a, b, k = window_args(lists[0], wants, pair, rng)
+    if "k" in style:
+        a, b, *others = window_args(lists[0], wants, pair, "j" in style, rng)
     else:
         a, b = sorted(shapes.near(rng, points) for _ in "ab")
+        others = [shapes.number(rng)] if style == "abv" else []
     if (4, "") in wants:
         a, b = (b, a) if a < b else (a, b - 1) if b > 0 else (1, 0)
-    return [a, b] + ([k] if style == "abk" else [shapes.number(rng)] if style == "abv" else [])
+    return [a, b, *others]
 
 
 def input_block(kind, items, position, wants, spare, rng):

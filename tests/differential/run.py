@@ -3,8 +3,8 @@
     run.py [--cases N] [--seconds S] [--seed X] [--sample N] [--tally] [--replay FILE] -- DRIVER...
 
 DRIVER... is the command of the C program of driver.c. Without options the seed and the number of cases are fixed. With --cases or
---seconds and no --seed a seed is drawn, and printed first; the cases made for refusals, limits, marks, searches, windows of fits and
-prefix blocks, about 28,900, are always run. --sample N runs N cases of the fixed run, drawn by the seed, and asks nothing of the tally.
+--seconds and no --seed a seed is drawn, and printed first; the cases made for refusals, limits, marks, searches, windows of fits, trays
+and prefix blocks, about 37,000, are always run. --sample N runs N cases of the fixed run, drawn by the seed, and asks nothing of the tally.
 --tally prints what was tried of each call. --replay runs one case that a mismatch left behind. The exit status is 1 on a mismatch, or if
 something was not tried.
 """
@@ -23,11 +23,12 @@ import model
 import refusals
 import wire
 
-CASES = 70000
+CASES = 82000
 SEED = "1"
 PAIR_TIMES, SINGLE_TIMES, LIMIT_TIMES, FOREIGN_TIMES, MARK_TIMES = 5, 5, 10, 20, 2
 AT_LEAST = {"call": 10, "refusal": 5, "pair": PAIR_TIMES, "empty answer": 20, "refused foreign form": FOREIGN_TIMES // 2, "searched place": 1}
-AT_LEAST |= {"begun window": 1, "aligned range": 1, "long output": 10, "changed mark": MARK_TIMES, "taken form": 50}
+AT_LEAST |= {"begun window": 1, "tray": 1, "accepted exponent": 2, "aligned range": 1, "long output": 10}
+AT_LEAST |= {"changed mark": MARK_TIMES, "taken form": 50}
 BATCH = 500
 KEPT = "build/differential-mismatch.json"
 NAMES = [name for name, _, _ in model.CALLS]
@@ -39,7 +40,7 @@ MAY_FIND_NOTHING += ["map_look_up", "map_window", "map_site_over_factory"]
 # four for each item. The fits search for the first range of their window: each in a window that begins at each of the places.
 SEARCHING = [name for name in NAMES if name == "member" or refusals.ARGS_OF.get(name) in ("x", "i", "ab", "abv")]
 PLACES = [(count, place) for count in (1, 2, 3, 4, 5, 6, 7, 8, 9, 15, 16, 17) for place in range(4 * count)]
-FITS = [name for name in NAMES if refusals.ARGS_OF.get(name) == "abk"]
+FITS = [name for name in NAMES if "k" in refusals.ARGS_OF.get(name, "")]
 WINDOWS = [(*place, way) for place in PLACES for way in generate.BEGUN]
 # The ranges about a prefix block of 2^e numbers, with ends at its own or one beside them; and the long outputs of prefix blocks: which
 # ranges, and how many words more than they need, or as many as a full set has.
@@ -61,8 +62,8 @@ def header_calls():
 
 def jobs(cases):
     """What to try, in short: the wanted refusals of each call, alone and in pairs, the limits, forms of another kind than the one that is
-    read, another mark at every record, every place of a list that is searched, windows of fits that begin at each, prefix blocks at every
-    power of two and many of them, and random cases up to so many."""
+    read, another mark at every record, every place of a list that is searched, windows of fits that begin at each, trays at every power of
+    two, prefix blocks at every power of two and many of them, and random cases up to so many."""
     listed = []
     for name in NAMES:
         listed += [("refusals", name, (x,), i) for x in refusals.refusals_of(name) for i in range(SINGLE_TIMES)]
@@ -72,6 +73,7 @@ def jobs(cases):
     listed += [("mark", name, mark, i) for name in READING for mark in MARKS for i in range(MARK_TIMES)]
     listed += [("place", name, place, 0) for name in SEARCHING for place in PLACES]
     listed += [("begun", name, window, 0) for name in FITS for window in WINDOWS]
+    listed += [("tray", name, tray, 0) for name in refusals.ALIGNED for tray in generate.TRAYS]
     listed += [("power", name, power, 0) for name in refusals.PREFIXES for power in POWERS]
     listed += [("long", name, long, 0) for name in refusals.PREFIXES for long in LONG]
     listed += [("random", NAMES[i % len(NAMES)], (), i // len(NAMES)) for i in range(max(0, cases - len(listed)))]
@@ -80,7 +82,7 @@ def jobs(cases):
 
 # What makes the case of a job that was listed by what it tries.
 LISTED = {"mark": generate.mark_case, "place": generate.place_case, "begun": generate.begun_case}
-LISTED |= {"power": generate.power_case, "long": generate.long_case}
+LISTED |= {"tray": generate.tray_case, "power": generate.power_case, "long": generate.long_case}
 
 
 def case_of(job, seed):
@@ -99,11 +101,12 @@ def case_of(job, seed):
 class Tally:
     """How often each call, each refusal of a call, each ordered pair of refusals and each empty answer was tried, forms of another kind that
     were refused as such, another mark at each record, forms of either mark that were taken, each place of a list that was searched, windows
-    of fits that begin at each, prefix blocks at each power of two, and more of them than a set can hold ranges."""
+    of fits that begin at each, trays at each power of two, and accepted ones, prefix blocks at each power of two, and more of them than a set
+    can hold ranges."""
 
     def __init__(self):
-        self.calls, self.refusals, self.pairs, self.nothing, self.foreign, self.places = (Counter() for _ in range(6))
-        self.powers, self.long, self.marks, self.taken, self.begun = (Counter() for _ in range(5))
+        self.calls, self.refusals, self.pairs, self.nothing, self.foreign = (Counter() for _ in range(5))
+        self.listed, self.long, self.taken, self.exponents = (Counter() for _ in range(4))
 
     def count(self, job, case, outcome):
         """Counts a case."""
@@ -112,14 +115,10 @@ class Tally:
         self.refusals[name, outcome[0] - 16 if outcome[0] >= 16 else 0] += 1
         if sort == "refusals" and len(pair) == 2:
             self.pairs[name, pair] += 1
-        if sort == "place":
-            self.places[name, pair] += 1
-        if sort == "begun":
-            self.begun[name, pair] += 1
-        if sort == "power":
-            self.powers[name, pair] += 1
-        if sort == "mark":
-            self.marks[name, pair] += 1
+        if sort in LISTED:
+            self.listed[sort, name, pair] += 1
+        if name in refusals.ALIGNED and outcome[0] == 0:
+            self.exponents[name, case.args[3]] += 1
         if name in READING and outcome[0] < 16:
             self.taken[name, bytes(case.lent[0][:2])] += 1
         if name in refusals.PREFIXES and outcome[0] == 0 and outcome[2][1][0] > model.LIMIT[model.SET]:
@@ -129,6 +128,10 @@ class Tally:
         if sort == "foreign" and outcome[0] == 16 + 10:
             self.foreign[name, *pair] += 1
 
+    def tried(self, sort, names, each):
+        """How often each call was tried on each of what was listed for it."""
+        return {(name, which): self.listed[sort, name, which] for name in names for which in each}
+
     def groups(self):
         """Everything that must be tried, with how often it was: accepted calls count as refusal 0."""
         can = [(name, number) for name in NAMES for number in sorted({0} | set(map(refusals.number_of, refusals.refusals_of(name))))]
@@ -137,11 +140,13 @@ class Tally:
         yield "pair", {(name, pair): self.pairs[name, pair] for name in NAMES for pair in refusals.listed_pairs(name)}
         yield "empty answer", {name: self.nothing[name] for name in MAY_FIND_NOTHING}
         yield "refused foreign form", {key: self.foreign[key] for key in FOREIGN}
-        yield "changed mark", {(name, mark): self.marks[name, mark] for name in READING for mark in MARKS}
+        yield "changed mark", self.tried("mark", READING, MARKS)
         yield "taken form", {(name, mark): self.taken[name, mark] for name in READING for mark in model.CHECK}
-        yield "searched place", {(name, place): self.places[name, place] for name in SEARCHING for place in PLACES}
-        yield "begun window", {(name, window): self.begun[name, window] for name in FITS for window in WINDOWS}
-        yield "aligned range", {(name, power): self.powers[name, power] for name in refusals.PREFIXES for power in POWERS}
+        yield "searched place", self.tried("place", SEARCHING, PLACES)
+        yield "begun window", self.tried("begun", FITS, WINDOWS)
+        yield "tray", self.tried("tray", refusals.ALIGNED, generate.TRAYS)
+        yield "accepted exponent", {(name, j): self.exponents[name, j] for name in refusals.ALIGNED for j in range(64)}
+        yield "aligned range", self.tried("power", refusals.PREFIXES, POWERS)
         yield "long output", {name: self.long[name] for name in refusals.PREFIXES}
 
     def missing(self):

@@ -149,33 +149,47 @@ def check_results(line, rng, one, two):
             expect(name + " backwards", written(f"{line.own}_{name}", [block], ends[::-1]), due if ends[0] == ends[1] else 4)
 
 
-def brute_fit(line, one, first, last, k, best):
-    """Every start of a cell is tried as the start of a run or of a gap."""
+def brute_fit(line, one, first, last, k, j, best):
+    """In every cell the least number that 2^j divides is tried as the start of a run; the gap about it is all free cells of the window to
+    its left and to its right."""
     tries = []
-    for cell in range(first, last + 1):
-        end = cell
-        while end <= last and end not in one:
-            end += 1
-        length = line.low[end - 1] + line.widths[end - 1] - line.low[cell] if end > cell else 0
-        whole = cell == first or cell - 1 in one
-        if length >= k and (whole or not best):
-            tries.append((length if best else 0, line.low[cell]))
+    for cell in set(range(first, last + 1)) - one:
+        low, high = cell, cell
+        while low > first and low - 1 not in one:
+            low -= 1
+        while high < last and high + 1 not in one:
+            high += 1
+        start = line.low[cell] + -line.low[cell] % 2**j
+        if start <= line.high[cell] and start + k - 1 <= line.high[high]:
+            tries.append((line.high[high] - line.low[low] if best else 0, start))
     return [min(tries)[1]] if tries else 7
 
 
-def check_fits(line, rng, one):
-    """First and best fit, as questions and as reservations."""
-    first, last = sorted(rng.choices(line.cells, k=2))
-    k = min(M, max(1, rng.choice([1, 2, 3, 4, M - 15, M - 14, M]) + rng.randrange(-1, 2)))
-    args = [line.low[first], line.high[last], k]
-    for best in (False, True):
-        end = "best" if best else "first"
-        place = brute_fit(line, one, first, last, k, best)
-        expect(end + " fit", keys(f"{line.own}_{end}_fit", [line.block(one)], args), place)
+def check_fit(line, one, ends, k, j, aligned):
+    """First and best fit in the window between two cells, as questions and as reservations; with j among the arguments, or without."""
+    args = [line.low[ends[0]], line.high[ends[1]], k] + ([j] if aligned else [])
+    for best in ("first", "best"):
+        place = brute_fit(line, one, *ends, k, j, best == "best")
+        ask, reserve = (f"{line.own}_{name}{'_aligned' if aligned else ''}" for name in (best + "_fit", "reserve_" + best))
+        expect(f"{ask} {args}", keys(ask, [line.block(one)], args), place)
         if place != 7:
             inserted = written(line.own + "_insert", [line.block(one, 4)], [place[0], place[0] + k - 1])
-            expect(end + " reservation", written(f"{line.own}_reserve_{end}", [line.block(one, 4)], args), inserted)
-            expect(end + " reservation's place", keys(f"{line.own}_reserve_{end}", [line.block(one, 4)], args), place)
+            expect(f"{reserve} {args}", written(reserve, [line.block(one, 4)], args), inserted)
+            expect(f"{reserve}'s place", keys(reserve, [line.block(one, 4)], args), place)
+
+
+def check_fits(line, rng, one):
+    """Fits that start anywhere; and on the line of the numbers those that start at multiples of 2^j: with j = 0 their outcome is that of the
+    others, refused or not."""
+    ends = sorted(rng.choices(line.cells, k=2))
+    k = min(M, max(1, rng.choice([1, 2, 3, 4, M - 15, M - 14, M]) + rng.randrange(-1, 2)))
+    check_fit(line, one, ends, k, 0, False)
+    if line.own == "set":
+        for j in (0, rng.randrange(1, 5), rng.choice([rng.randrange(5, 62), 62, 63])):
+            check_fit(line, one, ends, rng.choice([k, rng.randrange(1, 6)]), j, True)
+        lent, args = [line.block(one, rng.randrange(3))], [line.low[rng.choice(ends)], line.high[rng.choice(ends)], rng.choice([0, 1, k])]
+        for name in refusals.ARGS["abk"]:
+            expect(f"{name}, aligned to 1", model.run(name + "_aligned", lent, args + [0]), model.run(name, lent, args))
 
 
 def check_maps(line, rng, upper, lower, held):
@@ -437,6 +451,28 @@ def check_sets_worked():
     expect("N", values("set_size", [[]]), 1)
 
 
+def check_trays_worked():
+    """Worked numbers about fits at multiples of 2^j: the block, the window, k and j, and what first and best fit answer."""
+    three, two, none = [3, 0, 3, 8, 9, 12, M], [2, 0, 0, 17, M], [0]
+    cases = [(three, [0, M, 2, 1], [4], [10]), (three, [0, M, 2, 2], [4], [4]), (three, [0, M, 3, 2], [4], [4])]
+    cases += [(three, [0, M, 1, 3], 7, 7), (three, [5, M, 3, 1], 7, 7), (three, [5, M, 2, 1], [6], [10])]
+    cases += [(two, [0, M, 8, 3], [8], [8]), (two, [0, M, 9, 3], [8], [8]), (two, [0, M, 10, 3], 7, 7), (two, [0, M, 1, 4], [16], [16])]
+    cases += [(none, [1, M, k, 63], due, due) for k, due in ((1, [2**63]), (2**63, [2**63]), (2**63 + 1, 7))]
+    cases += [(none, [0, M, M, 63], [0], [0]), (none, [2**63 + 1, M, 1, 63], 7, 7)]
+    cases += [(none, [M, M, 1, 0], [M], [M]), (none, [M, M, 1, 1], 7, 7)]
+    # the gaps 1..8 and 16..20, and 8..11 and 13..16: a gap's length counts, not how many numbers it has from a multiple of 8 on
+    cases += [([3, 0, 0, 9, 15, 21, M], [0, M, 1, 3], [8], [16]), ([3, 0, 7, 12, 12, 17, M], [0, M, 1, 3], [8], [8])]
+    cases += [(three, [0, M, 2, j], 16, 16) for j in (64, 65, 2**32, 2**32 + 1, 2**63, M)]
+    cases += [(three, [0, M, 0, 64], 6, 6), (three, [1, 0, 2, 64], 4, 4)]
+    cases += [([1, 9, 5], [1, 0, 0, 64], 3, 3), ([1, 0, M], [0, M, 1, 64], 16, 16)]
+    for block, args, first, best in cases:
+        for which, due in (("first", first), ("best", best)):
+            for name in (f"set_{which}_fit_aligned", f"set_reserve_{which}_aligned"):
+                expect(f"{name} {args} of {block}", values(name, [block + [0, 0]], args), due)
+    expect("no room", model.run("set_reserve_first_aligned", [[1, 5, 9]], [0, M, 2, 4])[:2], (16 + 5, (0, 0, 0, 0, 0)))
+    expect("the place of Align", model.run("set_first_fit_aligned", [three], [0, M, 2, 64])[:2], (16 + 16, (0, 0, 0, 0, 0)))
+
+
 def check_member_worked():
     """The worked numbers about where a number lies, of plain sets and at the keys of the same words; and that a refused question has no
     values."""
@@ -564,6 +600,7 @@ def check_signed_worked():
 def main():
     """The model's own check."""
     check_sets_worked()
+    check_trays_worked()
     check_member_worked()
     check_prefixes_worked()
     check_most_prefixes()

@@ -115,6 +115,20 @@ def aligned(rng, n):
     return [(low, after - 1) for low, after in zip(cuts[::2], cuts[1::2])]
 
 
+def exponent(rng, gaps):
+    """A j from 0 to 63: small, any, or about the largest with a multiple of 2^j in one of the gaps, or at its low end."""
+    low, high = rng.choice(gaps or [(0, M)])
+    inside = ((low - 1) ^ high).bit_length() - 1 if low else 63
+    at_low = (low & -low).bit_length() - 1 if low else 63
+    near_these = [inside + rng.choice([-1, 0, 0, 1]), at_low + rng.choice([0, 0, 1])]
+    return max(0, min(63, rng.choice([rng.randrange(4), rng.randrange(4), rng.randrange(64), *near_these])))
+
+
+def oversized(rng, j):
+    """An exponent above 63: just above it, or huge, and often one of which j is left where only its lower bits are taken."""
+    return rng.choice([64, 65, rng.randrange(64, 71), 2**32, 2**63, M] + [j + 2**e for e in (6, 8, 16, 32, 63)])
+
+
 def related(rng, kind, points, n):
     """At most n sound items, whose ends are at or next to the points."""
     cuts = sorted({near(rng, points) for _ in range(2 * n)})
