@@ -8,7 +8,7 @@
 #include "bench.h"
 
 enum { PROVED, PLAIN, ICL, CONTENDERS };
-enum { SIZES = 4, ROUNDS = 41, MEASURES = 23 };
+enum { SIZES = 4, ROUNDS = 41, MEASURES = 25 };
 
 /* The inputs of a size are as many as make about 16,000 ranges. The contenders go through all of them in each round, so that no
    branch predictor learns one small input by heart. */

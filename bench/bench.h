@@ -30,8 +30,9 @@ typedef struct job {
     uint64_t x, insert[2], removal[2];
     /* two windows: from the low of the first set's first range on, and from the low of its last range on, both up to the last number. And
        two lengths of a run: one more than the longest gap between ranges, so that it fits behind the last range and nowhere else; and half
-       of that gap, for which about half of the random gaps are long enough, and all of the regular ones */
-    uint64_t window[2], late, long_run, run;
+       of that gap, for which about half of the random gaps are long enough, and all of the regular ones. And of a tray the exponent of the
+       power of two that its start is a multiple of */
+    uint64_t window[2], late, long_run, run, exponent;
     /* results; of prefix blocks, pairs */
     block out, out2, merged, pairs;
     uint8_t *bytes;
@@ -58,6 +59,7 @@ typedef struct measure {
     bool in_place;
     bool bulk;
     bool pairs;
+    bool tray;
 } measure;
 
 /* measures.c */

@@ -147,10 +147,11 @@ static void fit_in(job *t, uint64_t a, uint64_t late, uint64_t b, uint64_t run) 
     t->long_run = t->run = run;
 }
 
-/* Damages the windows or the runs of the fits, or lays them elsewhere: about the middle range, about a part of the gap below it, and in sets
-   of no range or of one. */
+/* Damages the windows or the runs of the fits, or lays them elsewhere: about the middle range, about a part of the gap below it, in sets of
+   no range or of one, and where the one gap begins at the last multiple of a tray's power of two, or beside it. */
 static void damage_fit(job *t, unsigned how) {
     const uint64_t low = t->removal[0], high = t->removal[1], from = t->insert[0], to = t->insert[1], first = t->window[0];
+    const uint64_t power = UINT64_C(1) << t->exponent % 64, last = -power;
     switch (how) {
     case 0: t->window[1] = first - 1; break;
     case 1: t->long_run = t->run = 0; break;
@@ -170,14 +171,26 @@ static void damage_fit(job *t, unsigned how) {
     case 15: one_range(t, 0, UINT64_MAX - 1), fit_in(t, 0, UINT64_MAX, UINT64_MAX, 1); break;
     case 16: one_range(t, 0, 0), fit_in(t, 0, 1, UINT64_MAX, UINT64_MAX); break;
     case 17: one_range(t, UINT64_MAX, UINT64_MAX), fit_in(t, 0, UINT64_MAX, UINT64_MAX, UINT64_MAX); break;
+    case 18: one_range(t, 0, last - 2), fit_in(t, 0, last, UINT64_MAX, power); break;
+    case 19: one_range(t, 0, last - 1), fit_in(t, 0, last, UINT64_MAX - 1, power); break;
+    case 20: one_range(t, 0, last), fit_in(t, 0, last, UINT64_MAX, 1); break;
+    case 21: t->one.words[0] = 0, fit_in(t, 1, last, power, 1); break;
+    case 22: t->one.words[0] = 0, fit_in(t, 1, last, power, 2); break;
+    case 23: fit_in(t, first, from, high, UINT64_MAX >> 1); break;
+    case 24: break; /* as it was */
     }
 }
 
-enum { BLOCKS = 9, BLOCK_DAMAGES = 6, OTHER_DAMAGES = 22, FIT_DAMAGES = 18, BYTES = 7 + 21 + 21 };
-enum { OTHERS = BLOCKS * BLOCK_DAMAGES, FITS = OTHERS + OTHER_DAMAGES, OF_BYTES = FITS + FIT_DAMAGES, DAMAGES = OF_BYTES + BYTES };
+/* The exponents of trays that each damage to the fits is tried with; the last five are refused. */
+static const uint64_t exponents[] = {0,  1,  2,  3,  12, 31, 32, 47, 48, 49, 50, 56, 59, 62, 63, 64, 65, UINT64_C(1) << 32,
+                                     (UINT64_C(1) << 32) + 4, UINT64_MAX};
+
+enum { BLOCKS = 9, BLOCK_DAMAGES = 6, OTHER_DAMAGES = 22, FIT_DAMAGES = 25, BYTES = 7 + 21 + 21 };
+enum { OTHERS = BLOCKS * BLOCK_DAMAGES, FITS = OTHERS + OTHER_DAMAGES, OF_BYTES = FITS + FIT_DAMAGES, TRAYS = OF_BYTES + BYTES };
+enum { DAMAGES = TRAYS + FIT_DAMAGES * sizeof exponents / sizeof *exponents };
 
 /* Damage number k of a job: to each block in each way, then to the rest, to the fits, and to each byte of the first records of both forms;
-   the lowest bit of a mark's second byte makes the other mark of it. */
+   the lowest bit of a mark's second byte makes the other mark of it. Then to the fits again, with each exponent. */
 static void damage(job *t, unsigned k) {
     block *blocks[] = {&t->one,       &t->two,        &t->version, &t->released1, &t->withdrawn1,
                        &t->released2, &t->withdrawn2, &t->upper,   &t->lower};
@@ -187,9 +200,12 @@ static void damage(job *t, unsigned k) {
         damage_other(t, k - OTHERS);
     } else if (k < OF_BYTES) {
         damage_fit(t, k - FITS);
-    } else {
+    } else if (k < TRAYS) {
         t->form[k - OF_BYTES] ^= 1;
         t->old_form[k - OF_BYTES] ^= 1;
+    } else {
+        t->exponent = exponents[(k - TRAYS) / FIT_DAMAGES];
+        damage_fit(t, (k - TRAYS) % FIT_DAMAGES);
     }
 }
 
@@ -205,7 +221,9 @@ void check_damaged(job *t) {
         for (size_t i = 0; i < measure_count; i++) {
             char what[32];
             snprintf(what, sizeof what, "damage %u", k);
-            free(agreed(&measures[i], &damaged, what).results);
+            if (k < TRAYS || measures[i].tray) {
+                free(agreed(&measures[i], &damaged, what).results);
+            }
         }
         memcpy(t->inputs, inputs, t->inputs_size);
     }

@@ -70,6 +70,7 @@ static void choose_runs(job *t) {
     t->late = w[2 * n - 1];
     t->long_run = longest + 1;
     t->run = longest / 2;
+    t->exponent = 4;
 }
 
 /* The arguments: a number at a part of the way through the first set, a range within its middle gap, and its middle range. */

@@ -11,6 +11,7 @@ typedef wimblorque_answer one_call(const uint64_t *set, size_t words, uint64_t *
 typedef wimblorque_answer edit_call(uint64_t *block, size_t words, uint64_t a, uint64_t b);
 typedef wimblorque_answer ask_call(const uint64_t *block, size_t words, uint64_t x);
 typedef wimblorque_answer fit_call(const uint64_t *block, size_t words, uint64_t a, uint64_t b, uint64_t k);
+typedef wimblorque_answer tray_call(const uint64_t *block, size_t words, uint64_t a, uint64_t b, uint64_t k, uint64_t j);
 
 typedef struct library {
     ask_call *set_range_at;
@@ -26,6 +27,8 @@ typedef struct library {
     one_call *set_audit_blocks;
     fit_call *set_first_fit;
     fit_call *set_best_fit;
+    tray_call *set_first_fit_aligned;
+    tray_call *set_best_fit_aligned;
     wimblorque_answer (*bulletin_apply)(const uint64_t *list, size_t list_words, const uint64_t *released, size_t released_words,
                                         const uint64_t *withdrawn, size_t withdrawn_words, uint64_t *out, size_t out_words);
     wimblorque_answer (*bulletin_fold)(const uint64_t *released1, size_t released1_words, const uint64_t *withdrawn1,

@@ -103,29 +103,40 @@ static wimblorque_answer first_fit_at_the_last(const library *lib, job *t) {
     return lib->set_first_fit(OF(t->one), t->late, t->window[1], t->long_run);
 }
 
+/* First fit and best fit of trays, which start at a multiple of 16: few numbers of a gap this long lie below its first multiple. */
+static wimblorque_answer aligned_first_fit(const library *lib, job *t) {
+    return lib->set_first_fit_aligned(OF(t->one), t->window[0], t->window[1], t->long_run, t->exponent);
+}
+
+static wimblorque_answer aligned_best_fit(const library *lib, job *t) {
+    return lib->set_best_fit_aligned(OF(t->one), t->window[0], t->window[1], t->run, t->exponent);
+}
+
 const measure measures[] = {
-    {"judge", judge, NULL, false, false, false},
-    {"member", member, icl_member, false, false, false},
-    {"insert", insert, icl_insert, true, false, false},
-    {"remove", removal, icl_remove, true, false, false},
-    {"union", either, icl_union, false, true, false},
-    {"intersection", both, icl_intersection, false, true, false},
-    {"difference", difference, icl_difference, false, true, false},
-    {"symmetric difference", symmetric_difference, icl_symmetric_difference, false, true, false},
-    {"complement", complement, icl_complement, false, true, false},
-    {"apply", apply, icl_apply, false, true, false},
-    {"fold", fold, icl_fold, false, true, false},
-    {"overlay", overlay, icl_overlay, false, true, false},
-    {"judge of bytes", judge_of_bytes, NULL, false, false, false},
-    {"member of bytes", member_of_bytes, NULL, false, false, false},
-    {"read", reading, NULL, false, true, false},
-    {"judge of old bytes", judge_of_old_bytes, NULL, false, false, false},
-    {"read of old bytes", reading_old, NULL, false, true, false},
-    {"write", writing, NULL, false, true, false},
-    {"prefix blocks", prefix_blocks, NULL, false, true, true},
-    {"audit of blocks", audit_blocks, NULL, false, true, true},
-    {"first fit", first_fit, NULL, false, false, false},
-    {"best fit", best_fit, NULL, false, false, false},
-    {"first fit at the last range", first_fit_at_the_last, NULL, false, false, false},
+    {"judge", judge, NULL, false, false, false, false},
+    {"member", member, icl_member, false, false, false, false},
+    {"insert", insert, icl_insert, true, false, false, false},
+    {"remove", removal, icl_remove, true, false, false, false},
+    {"union", either, icl_union, false, true, false, false},
+    {"intersection", both, icl_intersection, false, true, false, false},
+    {"difference", difference, icl_difference, false, true, false, false},
+    {"symmetric difference", symmetric_difference, icl_symmetric_difference, false, true, false, false},
+    {"complement", complement, icl_complement, false, true, false, false},
+    {"apply", apply, icl_apply, false, true, false, false},
+    {"fold", fold, icl_fold, false, true, false, false},
+    {"overlay", overlay, icl_overlay, false, true, false, false},
+    {"judge of bytes", judge_of_bytes, NULL, false, false, false, false},
+    {"member of bytes", member_of_bytes, NULL, false, false, false, false},
+    {"read", reading, NULL, false, true, false, false},
+    {"judge of old bytes", judge_of_old_bytes, NULL, false, false, false, false},
+    {"read of old bytes", reading_old, NULL, false, true, false, false},
+    {"write", writing, NULL, false, true, false, false},
+    {"prefix blocks", prefix_blocks, NULL, false, true, true, false},
+    {"audit of blocks", audit_blocks, NULL, false, true, true, false},
+    {"first fit", first_fit, NULL, false, false, false, false},
+    {"best fit", best_fit, NULL, false, false, false, false},
+    {"first fit at the last range", first_fit_at_the_last, NULL, false, false, false, false},
+    {"aligned first fit", aligned_first_fit, NULL, false, false, false, true},
+    {"aligned best fit", aligned_best_fit, NULL, false, false, false, true},
 };
 const size_t measure_count = sizeof measures / sizeof *measures;

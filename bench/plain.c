@@ -245,6 +245,65 @@ static wimblorque_answer set_best_fit(const uint64_t *w, size_t words, uint64_t 
     return least <= LAST - k ? value(place) : told(WIMBLORQUE_NO_GAP, 0);
 }
 
+/* ---- trays: fits that start at a multiple of 2^j ----
+   The numbers of a gap below its first multiple are lost: as many as its low end lacks to one, which is never more than 2^j - 1. */
+
+/* The refusal of a tray, before a gap is looked for, or 0. */
+static uint64_t judge_tray(const uint64_t *w, size_t words, uint64_t a, uint64_t b, uint64_t k, uint64_t j) {
+    uint64_t refusal = judge_fit(w, words, a, b, k);
+    return refusal == 0 && j > 63 ? WIMBLORQUE_ALIGN : refusal;
+}
+
+/* Whether low..low + rest holds k numbers behind the lost ones. */
+static inline bool holds(uint64_t rest, uint64_t lost, uint64_t k) {
+    return (rest >= lost) & (rest - lost >= k - 1);
+}
+
+/* The low end of the gap behind the window's last range, or of the whole window where it has none. False if there is no such gap. */
+static bool gap_behind(const uint64_t *w, const walk *v, uint64_t b, uint64_t *low) {
+    *low = v->i == v->j ? v->from : w[2 * v->j] + 1;
+    return v->i == v->j || w[2 * v->j] < b;
+}
+
+static wimblorque_answer set_first_fit_aligned(const uint64_t *w, size_t words, uint64_t a, uint64_t b, uint64_t k, uint64_t j) {
+    uint64_t refusal = judge_tray(w, words, a, b, k, j);
+    walk v;
+    if (refusal || !window_begins(w, a, b, &v)) {
+        return told(refusal ? refusal : WIMBLORQUE_NO_GAP, 0);
+    }
+    uint64_t mask = (UINT64_C(1) << j) - 1, low = v.from;
+    for (size_t i = v.i; i < v.j; i++) {
+        if (holds(w[2 * i + 1] - 1 - low, -low & mask, k)) {
+            return value(low + (-low & mask));
+        }
+        low = w[2 * i + 2] + 1;
+    }
+    bool found = gap_behind(w, &v, b, &low) && holds(b - low, -low & mask, k);
+    return found ? value(low + (-low & mask)) : told(WIMBLORQUE_NO_GAP, 0);
+}
+
+/* A gap in front of a range has fewer than 2^64 numbers: so by how much its high end is above its low end is below LAST. That is made LAST
+   where the gap is too short, and then the walk asks only which is less, and that by selects. */
+static wimblorque_answer set_best_fit_aligned(const uint64_t *w, size_t words, uint64_t a, uint64_t b, uint64_t k, uint64_t j) {
+    uint64_t refusal = judge_tray(w, words, a, b, k, j);
+    walk v;
+    if (refusal || !window_begins(w, a, b, &v)) {
+        return told(refusal ? refusal : WIMBLORQUE_NO_GAP, 0);
+    }
+    uint64_t mask = (UINT64_C(1) << j) - 1, low = v.from, least = LAST, place = 0;
+    for (size_t i = v.i; i < v.j; i++) {
+        uint64_t rest = w[2 * i + 1] - 1 - low, lost = -low & mask;
+        rest |= (uint64_t)holds(rest, lost, k) - 1;
+        place = rest < least ? low + lost : place;
+        least = rest < least ? rest : least;
+        low = w[2 * i + 2] + 1;
+    }
+    if (gap_behind(w, &v, b, &low) && holds(b - low, -low & mask, k) && (b - low < least || least == LAST)) {
+        return value(low + (-low & mask));
+    }
+    return least < LAST ? value(place) : told(WIMBLORQUE_NO_GAP, 0);
+}
+
 /* ---- operations on two and three sets ----
    A set changes at its edges: a low, where it begins, and the number behind a high, where it ends. Edge i of a set is found at word
    i + 1; an end at 2^64 is none. Merging takes the least edge next and keeps it where the result changes. Edge k of the result,
@@ -890,6 +949,8 @@ const library plain_library = {
     .set_audit_blocks = set_audit_blocks,
     .set_first_fit = set_first_fit,
     .set_best_fit = set_best_fit,
+    .set_first_fit_aligned = set_first_fit_aligned,
+    .set_best_fit_aligned = set_best_fit_aligned,
     .bulletin_apply = bulletin_apply,
     .bulletin_fold = bulletin_fold,
     .map_overlay = map_overlay,
