@@ -3,10 +3,11 @@ use mathlib.Core.Path.{_≡_, sym, _∙_, ap}
 use mathlib.Core.Bool.{Bool, true, false}
 use mathlib.Core.Option.{Option, none, some}
 use mathlib.Core.List.{List, [], _∷_}
-use Prim.Native.Nat.{ℕ, _≤_, _<_}
+use Prim.Native.Nat.{ℕ, _+_, _≤_, _<_}
 use native.Mathlib.Omega.{arith}
 use lib.Dec.{eqb, ltb}
-use borrow.Author.Tests.{eqb-false, ltb-false, eq-eqb, ne-eqb, lt-ltb, le-ltb}
+use borrow.Author.Tests.{eqb-false, eq-eqb, ne-eqb, le-ltb}
+use borrow.Author.Tests.{ltb-false, lt-ltb}
 use Rattle.entries.specs.Entries.{Entry, entry}
 use Rattle.entries.specs.Build.{pick}
 use Rattle.entries.specs.Questions.{filter}
@@ -16,7 +17,8 @@ use Rattle.answers.specs.Answers.{Answer, Outcome, outcome, refuse, judged, at,
 use Rattle.answers.specs.Steps.{FirstOf}
 use Rattle.answers.specs.Says.{refusalSays, refusalOf}
 use Rattle.answers.proofs.Numbers.{refusal-says}
-use Rattle.answers.proofs.Turns.{stops, passes, ends, stops-in, passes-in, refusal-by, given-by, applies-clear, applies-small}
+use Rattle.answers.proofs.Turns.{stops-in, passes-in, ends, refusal-by, given-by, applies-clear}
+use Rattle.answers.proofs.Turns.{stops, passes, applies-small}
 use Rattle.blocks.specs.Blocks.{setLayout, entriesOf, SoundBlock}
 use Rattle.blocks.proofs.Judging.{sound-verdict}
 use Rattle.searches.specs.Calls.{windowRefusals}
@@ -110,8 +112,8 @@ module _ (choose : List Entry → Option Entry) (w : List ℕ) (a b k j : ℕ) (
   unfolding placeIn
   place-is t f = ap (startIn (aligned j)) (sym (e .gap) ∙ ap (λ (t : Bool). pick t (some (entry (g .low) (g .high) [])) none) f)
 
-  pub place-found : g .found ≡ true → alignedPlace choose w a b k j ≡ some (g .start)
-  place-found f = place-is true f ∙ ap some (sym (e .start))
+  pub place-found : (up : ℕ) → g .low + up ≡ aligned j (g .low) → g .found ≡ true → alignedPlace choose w a b k j ≡ some (g .low + up)
+  place-found up i f = place-is true f ∙ ap some (sym i)
 
   pub place-none : g .found ≡ false → alignedPlace choose w a b k j ≡ none
   place-none f = place-is false f

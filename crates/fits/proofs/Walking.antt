@@ -9,7 +9,7 @@ use native.Mathlib.Decide.{decLe}
 use lib.Dec.{leb}
 use lib.ListN.{length, getD, drop}
 use lib.Seq.{drop-drop, getD-drop}
-use borrow.Author.Tests.{le-leb, lt-leb, lt-ltb, le-ltb, leb-true, leb-false}
+use borrow.Author.Tests.{le-leb, lt-leb, lt-ltb, le-ltb, leb-true}
 use Rattle.entries.specs.Entries.{Entry, entry, Sound, Each}
 use Rattle.entries.specs.Build.{pick, andb}
 use Rattle.entries.specs.Sets.{M}
@@ -25,9 +25,9 @@ use Rattle.blocks.proofs.Judging.{room-words}
 use Rattle.fits.specs.declared.Gap.{Gap}
 use Rattle.fits.specs.Fits.{gaps, numbers, fits, aligned}
 use Rattle.fits.specs.Calls.{lastPower}
-use Rattle.fits.specs.declared.Start.{Start}
-use Rattle.fits.specs.Steps.{chooser, gapOf, heldIn, piece, better, taken, StartIn, Took, Trying, Asked, GapIs}
-use Rattle.fits.proofs.Multiples.{aligned-none, multiples, start-within}
+use Rattle.fits.specs.Steps.{chooser, gapOf, heldIn, piece, better, taken, Took, Trying, Asked}
+use Rattle.fits.specs.Steps.{Starts, GapIs}
+use Rattle.fits.proofs.Multiples.{multiples}
 use Rattle.fits.proofs.Choosing.{search, filter-all, filter-keeps, search-first, search-shortest, AtMostOne, stops, hold-piece}
 use Rattle.fits.proofs.Gaps.{gapsFrom, from-none, from-passed, from-is, gaps-below}
 
@@ -79,26 +79,26 @@ module _ {j : ℕ} (best : Gap) (low high k : ℕ) (g : Trying j best low high k
       fitting true q = q
       fitting false q = refl
 
-  -- no gap is held, or a longer one
-  module _ (e : andb (best .found) (leb (best .high - best .low) (high - low)) ≡ false) (s : Start) (i : StartIn low high j s) where
-    -- there is no multiple in it
-    pub tried-none : s .there ≡ false → Took j k best (new ∷ []) best
-    tried-none f = unfit (omega (arith, leb-false (aligned j low) high (sym (i .is) ∙ f), g .run))
+  -- no gap is held, or a longer one; its least multiple is up above its low end
+  module _ (up : ℕ) (i : low + up ≡ aligned j low) where
+    -- it lies behind the gap
+    pub tried-none : high - low < up → Took j k best (new ∷ []) best
+    tried-none h = unfit (omega (arith, i, g .run, g .order))
 
-    -- the run from there on ends behind it
-    pub tried-over : s .there ≡ true → high - s .at < k - 1 → Took j k best (new ∷ []) best
-    tried-over f h = unfit (omega (arith, i .least f, start-within low high j s i f))
+    -- the run from there on ends behind the gap
+    pub tried-over : high - low - up < k - 1 → Took j k best (new ∷ []) best
+    tried-over h = unfit (omega (arith, i, g .run, g .order))
 
-    pub tried-new : s .there ≡ true → k - 1 ≤ high - s .at → (r : Gap) → r .found ≡ true → r .low ≡ low → r .high ≡ high → r .start ≡ s .at
-        → Took j k best (new ∷ []) r
-    tried-new f h r found l u at = record {
+    pub tried-new : up ≤ high - low → k - 1 ≤ high - low - up → andb (best .found) (leb (best .high - best .low) (high - low)) ≡ false
+        → (r : Gap) → r .found ≡ true → r .low ≡ low → r .high ≡ high → Took j k best (new ∷ []) r
+    tried-new u h e r found lo hi = record {
       order = omega (arith, g .order);
-      start = at ∙ i .least f ∙ ap (aligned j) (sym l);
-      is = ap (λ (t : Bool). pick t (entry (r .low) (r .high) [] ∷ []) []) found ∙ ap₂ (λ (x y : ℕ). entry x y [] ∷ []) l u ∙ rw fitting (go (best .found) e);
+      start = λ z. omega (arith, ap (aligned j) lo, hi, i, g .order);
+      is = ap (λ (t : Bool). pick t (entry (r .low) (r .high) [] ∷ []) []) found ∙ ap₂ (λ (x y : ℕ). entry x y [] ∷ []) lo hi ∙ rw fitting (go (best .found) e);
     }
       where
         fitting : fits (aligned j) k new ≡ true
-        fitting = le-leb (aligned j low + k) (suc high) (omega (arith, i .least f, start-within low high j s i f, g .run))
+        fitting = le-leb (aligned j low + k) (suc high) (omega (arith, i, g .run, g .order))
 
         go : (t : Bool) → andb t (leb (best .high - best .low) (high - low)) ≡ false
             → new ∷ [] ≡ better (pick t (entry (best .low) (best .high) [] ∷ []) []) new
@@ -136,7 +136,7 @@ pub record Walked (w : List ℕ) (o : Option Entry) (b j k enough : ℕ) (best :
   pub inside : from ≤ b
   pub power : j ≤ lastPower
   pub order : best .low ≤ best .high
-  pub start : best .start ≡ aligned j (best .low)
+  pub start : Starts j best
   pub goes : stops (suc enough) (heldIn best) ≡ false
   pub rest : o ≡ search (suc enough) (heldIn best ++ filter (fits (aligned j) k) (gapsFrom from (suc b) (itemsOf 2 left (drop p w))))
 
@@ -270,9 +270,9 @@ walked-end {w} {o} {b} {j} {k} {enough} {best} {from} {p} {left} s z r t =
 
 -- before the first range that does not lie wholly below the window
 pub walked-start : {j : ℕ} (w : List ℕ) (a b k : ℕ) (shortest : Bool) (enough n i : ℕ) (g : Gap) → Asked w a b k j → b ≤ M → enough ≡ pick shortest (k - 1) M
-    → n ≡ getD w 0 0 → Passed zero-item (entriesOf 2 w) a i → g .found ≡ false → g .low ≡ 0 → g .high ≡ 0 → g .start ≡ 0
+    → n ≡ getD w 0 0 → Passed zero-item (entriesOf 2 w) a i → g .found ≡ false → g .low ≡ 0 → g .high ≡ 0
     → Walked w (chooser shortest (filter (fits (aligned j) k) (gaps a b (entriesOf 2 w)))) b j k enough g a (2 * i + 1) (n - i)
-walked-start {j} w a b k shortest enough n i g s m e c q f lo hi at = record {
+walked-start {j} w a b k shortest enough n i g s m e c q f lo hi = record {
   place = omega (arith, within);
   held = room-words setLayout (length w) (getD w 0 0) (s .block .some) (s .block .fits);
   sound = rw from-here (sound-drop zero-item (entriesOf 2 w) i (s .block .sound));
@@ -280,7 +280,7 @@ walked-start {j} w a b k shortest enough n i g s m e c q f lo hi at = record {
   inside = s .order;
   power = s .power;
   order = omega arith;
-  start = at ∙ sym (aligned-none j) ∙ ap (aligned j) (sym lo);
+  start = λ t. absurd (true≢false (sym t ∙ f));
   goes = ap (stops (suc enough)) empty;
   rest = sym (start shortest ∙ refl);
 }

@@ -4,7 +4,7 @@ use mathlib.Core.Bool.{Bool, true, false}
 use mathlib.Core.Option.{Option, none, some}
 use mathlib.Core.List.{List, [], _∷_}
 use Prim.Native.Nat.{ℕ, suc, _+_, _-_, _≤_, _<_}
-use lib.Dec.{leb, ltb}
+use lib.Dec.{ltb}
 use lib.ListN.{length}
 use Rattle.entries.specs.Entries.{Entry, entry}
 use Rattle.entries.specs.Build.{pick}
@@ -14,7 +14,6 @@ use Rattle.blocks.specs.Blocks.{SoundBlock, setLayout}
 use Rattle.blocks.specs.Calls.{room}
 use Rattle.fits.specs.Calls.{lastPower, reservedAt, reservedWith}
 use Rattle.fits.specs.declared.Gap.{Gap}
-use Rattle.fits.specs.declared.Start.{Start}
 use Rattle.fits.specs.Fits.{aligned, fits, shorter, firstGap, shortestGap}
 
 -- first fit, or best fit where the shortest gap is wanted
@@ -33,11 +32,6 @@ heldIn g = pick (g .found) (entry (g .low) (g .high) [] ∷ []) []
 abbrev pub piece : ℕ → ℕ → List Entry
 piece x y = pick (ltb x y) (entry x (y - 1) [] ∷ []) []
 
--- the least multiple of 2^j at or above low is there if it is at most high
-pub record StartIn (low high j : ℕ) (r : Start) : Type 0 where
-  pub is : r .there ≡ leb (aligned j low) high
-  pub least : r .there ≡ true → r .at ≡ aligned j low
-
 -- the gap held after gaps gs came: the shorter one, of those that a run of k fits in from a multiple of 2^j on
 abbrev pub better : List Entry → Entry → List Entry
 better [] c = c ∷ []
@@ -47,16 +41,20 @@ abbrev pub taken : ℕ → ℕ → List Entry → List Entry → List Entry
 taken j k best [] = best
 taken j k best (c ∷ cs) = taken j k (pick (fits (aligned j) k c) (better best c) best) cs
 
--- r holds what `best` and the gaps gs leave, and the least multiple of 2^j from its low end on
+-- the gap that is held, if one is, holds a multiple of 2^j
+abbrev pub Starts : ℕ → Gap → Type 0
+Starts j g = g .found ≡ true → aligned j (g .low) ≤ g .high
+
+-- r holds what `best` and the gaps gs leave
 pub record Took (j k : ℕ) (best : Gap) (gs : List Entry) (r : Gap) : Type 0 where
   pub order : r .low ≤ r .high
-  pub start : r .start ≡ aligned j (r .low)
+  pub start : Starts j r
   pub is : heldIn r ≡ taken j k (heldIn best) gs
 
 -- a gap held, and a run of at least one number asked for from a multiple of 2^j on
 pub record Trying (j : ℕ) (best : Gap) (low high k : ℕ) : Type 0 where
   pub held : best .low ≤ best .high
-  pub start : best .start ≡ aligned j (best .low)
+  pub start : Starts j best
   pub order : low ≤ high
   pub run : 0 < k
   pub power : j ≤ lastPower
@@ -68,10 +66,10 @@ pub record Asked (w : List ℕ) (a b k j : ℕ) : Type 0 where
   pub run : 0 < k
   pub power : j ≤ lastPower
 
--- the gap that is chosen, if there is one, with its start
+-- the gap that is chosen, if there is one, which holds a multiple of 2^j
 pub record GapIs (j : ℕ) (o : Option Entry) (r : Gap) : Type 0 where
   pub gap : gapOf r ≡ o
-  pub start : r .start ≡ aligned j (r .low)
+  pub start : Starts j r
 
 -- a sound set, and a run of k from s on
 pub record Placing (w : List ℕ) (s k : ℕ) : Type 0 where

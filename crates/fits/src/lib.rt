@@ -17,51 +17,27 @@ ghost use Rattle.fits.specs.Fits.{gaps, fits, aligned};
 ghost use Rattle.fits.specs.Calls.{firstFitCall, bestFitCall, reserveFirstCall, reserveBestCall};
 ghost use Rattle.fits.specs.Calls.{lastPower, alignRefusals, fitAlignedCall, reserveAlignedCall};
 ghost use Rattle.fits.specs.Calls.{firstFitAlignedCall, bestFitAlignedCall, reserveFirstAlignedCall, reserveBestAlignedCall};
-ghost use Rattle.fits.specs.Steps.{chooser, piece, StartIn, Took, Trying, Asked, GapIs, Placing, reserving};
+ghost use Rattle.fits.specs.Steps.{chooser, piece, Took, Trying, Asked, GapIs, Placing, reserving};
 use answers::Placed;
 
-// The gap low..high that is held so far, if one was found, and the start of the run in it. Low is at most high either way.
+// The gap low..high that is held so far, if one was found. Low is at most high either way.
 pub struct Gap {
     pub found: bool,
     pub low: u64,
     pub high: u64,
-    pub start: u64,
-}
-
-// A start that was sought, if there is one.
-pub struct Start {
-    pub there: bool,
-    pub at: u64,
 }
 
 // The greatest j: 2^63 is the greatest power of two in a word.
 const LAST_POWER: u64 = 63;
 
-// [A3, A4] The least multiple of 2^j at or above low, if it is at most high. The next multiple may be 2^64, which no word holds: how far it
-// is from low is compared before it is added.
-fn start_in(low: u64, high: u64, j: u64) -> Start
-    requires { ⌜ (j ≤ lastPower) × (low ≤ high) ⌝ }
-    ensures { λ r. ⌜ StartIn low high j r ⌝ }
+// [A3, A4] How far the least multiple of 2^j at or above low is from low: less than 2^j. The multiple itself may be 2^64, which no word holds.
+fn ahead(low: u64, j: u64) -> u64
+    requires { ⌜ j ≤ lastPower ⌝ }
+    ensures { λ r. ⌜ low + r ≡ aligned j low ⌝ }
 {
     let ones = (1u64 << j) - 1;
     let over = low & ones;
-    if over == 0 {
-        return Start {
-            there: true,
-            at: low,
-        };
-    }
-    let more = ones - over;
-    if high - low <= more {
-        return Start {
-            there: false,
-            at: low,
-        };
-    }
-    Start {
-        there: true,
-        at: low + more + 1,
-    }
+    (ones - over + 1) & ones
 }
 
 // Whether a gap is held that has at most less + 1 numbers.
@@ -87,18 +63,17 @@ fn tried(best: Gap, low: u64, high: u64, k: u64, j: u64) -> Gap
     if within(best, less) {
         return best;
     }
-    let start = start_in(low, high, j);
-    if !start.there {
+    let up = ahead(low, j);
+    if less < up {
         return best;
     }
-    if high - start.at < k - 1 {
+    if less - up < k - 1 {
         return best;
     }
     Gap {
         found: true,
         low,
         high,
-        start: start.at,
     }
 }
 
@@ -135,7 +110,6 @@ fn gap_for(block: &[u64], a: u64, b: u64, k: u64, j: u64, shortest: bool) -> Gap
         found: false,
         low: 0,
         high: 0,
-        start: 0,
     };
     let spot = searches::spot_of(block, blocks::SET, a);
     let mut from = a;
@@ -185,7 +159,8 @@ fn fit(block: &[u64], a: u64, b: u64, k: u64, j: u64, shortest: bool) -> Placed
     }
     let gap = gap_for(block, a, b, k, j, shortest);
     if gap.found {
-        return Placed::At(gap.start);
+        let start = gap.low + ahead(gap.low, j);
+        return Placed::At(start);
     }
     Placed::Refused(answers::refusal_of(7, 0))
 }

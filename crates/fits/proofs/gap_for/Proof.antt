@@ -41,7 +41,7 @@ loop-holds c =
     walked-start (now (start .args .block)) (start .args .a) (start .args .b) (start .args .k) (start .args .shortest)
     (at-enough-for .enough-for .result) (c .before .count-of .result) (at-spot-of .spot-of .result .below) _ (start .pre) (omega arith)
     (at-enough-for .enough-for .ensures) (c .before .count-of .ensures) (spot-passed (omega arith) (start .pre .block) (at-spot-of .spot-of .ensures))
-    refl refl refl refl
+    refl refl refl
 
 word-requires : tie.Need-word-requires Inv-loop μ-loop
 word-requires c κs = omega (arith, walked-inside (c .before .loop .inv) (c .loop-test .taken))

@@ -1,0 +1,24 @@
+use mathlib.Core.Path.{_≡_}
+use Prim.Native.Nat.{_+_, _-_, _*_, _%_, _^_}
+use lib.Pow.{pow-pos}
+use Rattle.fits.proofs.Multiples.{shifted, over-within, ahead-is}
+use native.Mathlib.Omega.{arith}
+use borrow.Author.Needs.{needs}
+use Rattle.fits.proofs.ahead.Statement.{statement}
+use Rattle.fits.proofs.ahead.Tie as tie
+
+-- 2^j less one
+ones : (c : tie.Start) → let j = c .args .j in ((1 * 2 ^ j) % 2 ^ 64 - 1) + 1 ≡ 2 ^ j
+ones c = omega (arith, shifted (c .args .j) (c .pre), pow-pos (c .args .j))
+
+sub-ones : tie.Need-sub-ones
+sub-ones c = omega (arith, shifted (c .args .j) (c .pre), pow-pos (c .args .j))
+
+sub-over : tie.Need-sub-result
+sub-over c = over-within (c .args .low) (c .args .j) _ (ones c)
+
+returns : tie.Need-returns
+returns c = ahead-is (c .args .low) (c .args .j) _ (ones c)
+
+pub ahead-spec : {M : Type 1} → statement M
+ahead-spec = tie.close (tie.spec (λ c. search needs) sub-ones sub-over (λ c. search needs) returns)
