@@ -20,11 +20,11 @@ use Rattle.blocks.proofs.Judging.{verdict-sound, sound-verdict}
 use Rattle.fits.specs.Fits.{aligned, placeIn, firstGap, shortestGap}
 use Rattle.fits.specs.Starts.{Multiple, FirstAt, BestAt}
 use Rattle.fits.specs.Steps.{Asked}
-use Rattle.fits.specs.Calls.{zeroRun, noGap, placeOf, answered, asking, fitCall, reservedAt, reservedWith, reserveCall}
+use Rattle.fits.specs.Calls.{zeroRun, noGap, placeOf, answered, fitCall, reservedAt, reservedWith, reserveCall}
 use Rattle.fits.specs.Calls.{lastPower, tooHigh, alignRefusals, alignedPlace, fitAlignedCall, reserveAlignedCall}
 use Rattle.fits.proofs.Multiples.{multiples, every-start}
 use Rattle.fits.proofs.Meaning.{first-at, best-at, first-at-only, best-at-only}
-use Rattle.fits.proofs.Asking.{asked-right, fit-asked, aligned-fit, aligned-reserve, fit-anywhere, reserve-anywhere}
+use Rattle.fits.proofs.Asking.{asked-right, atPlace, fit-asked, aligned-fit, aligned-reserve, fit-anywhere, reserve-anywhere}
 use Rattle.fits.proofs.Reserving.{aligned-chosen}
 use Rattle.demands.specs.Plain.{Iff}
 use Rattle.demands.specs.Outcomes.{Accepts, Reservable}
@@ -50,7 +50,7 @@ module _ (choose : List Entry → Option Entry) (w : List ℕ) (a b k j : ℕ) w
   answers-place s h e =
       aligned-fit choose w a b k j (h .power)
       ∙ fit-asked (placeIn (aligned j) choose) w a b k (verdict-sound setLayout w (h .run .sound)) (h .run .order) (one k (h .run .some))
-      ∙ ap (asking []) e
+      ∙ ap atPlace e
     where
       one : (n : ℕ) → (n ≡ 0 → ⊥) → 1 ≤ n
       one n h = omega arith

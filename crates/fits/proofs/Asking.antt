@@ -25,7 +25,7 @@ use Rattle.searches.specs.Calls.{windowRefusals}
 use Rattle.searches.proofs.Windows.{clear-window}
 use Rattle.fits.specs.declared.Gap.{Gap}
 use Rattle.fits.specs.Fits.{gaps, fits, anywhere, aligned, startIn, placeIn}
-use Rattle.fits.specs.Calls.{zeroRun, asking, fitCall, reserveCall}
+use Rattle.fits.specs.Calls.{zeroRun, gapless, placeOf, answered, fitCall, reserveCall}
 use Rattle.fits.specs.Calls.{lastPower, tooHigh, alignRefusals, alignedPlace, fitAlignedCall, reserveAlignedCall}
 use Rattle.fits.specs.Steps.{gapOf, Asked, GapIs}
 use Rattle.fits.proofs.Multiples.{every-start}
@@ -61,20 +61,24 @@ asked-right w a b k j c =
     let h = ltb-false lastPower j (applies-clear (ltb lastPower j) 15 (c .1 .1 .1 .0)) in
     record { block = g .block; order = g .order; run = omega arith; power = omega (arith, h) }
 
+-- what the question says of a place, or of none, where nothing is refused before
+abbrev pub atPlace : Option ℕ → Outcome
+atPlace o = judged (gapless o) 0 [] (answered (placeOf o))
+
 -- the question refused, given, or with no gap
 module _ (choose : List Entry → Option Entry) (w : List ℕ) (a b k j v : ℕ) (f : FirstOf (alignRefusals w a b k j) (at 0 v)) where
   pub fit-refused : (x : Refusal) → (v ≡ 0 → ⊥) → x ≡ refusalOf v 0 → outcome (refusalSays x) [] ≡ fitAlignedCall choose w a b k j
   unfolding fitAlignedCall
-  fit-refused x n r = refusal-by (alignRefusals w a b k j) (at 0 v) f [] (asking [] (alignedPlace choose w a b k j)) x n r
+  fit-refused x n r = refusal-by (alignRefusals w a b k j) (at 0 v) f [] (atPlace (alignedPlace choose w a b k j)) x n r
 
-  pub fit-answers : (o : Option ℕ) (y : Outcome) → v ≡ 0 → alignedPlace choose w a b k j ≡ o → y ≡ asking [] o → y ≡ fitAlignedCall choose w a b k j
+  pub fit-answers : (o : Option ℕ) (y : Outcome) → v ≡ 0 → alignedPlace choose w a b k j ≡ o → y ≡ atPlace o → y ≡ fitAlignedCall choose w a b k j
   unfolding fitAlignedCall
   fit-answers o y z p q =
-      given-by (alignRefusals w a b k j) (at 0 v) f [] (asking [] (alignedPlace choose w a b k j)) y z (q ∙ ap (asking []) (sym p))
+      given-by (alignRefusals w a b k j) (at 0 v) f [] (atPlace (alignedPlace choose w a b k j)) y z (q ∙ ap atPlace (sym p))
 
 module _ (fit : ℕ → ℕ → ℕ → List Entry → Option ℕ) (w : List ℕ) (a b k : ℕ) where
   -- Where nothing is refused before, the question answers what `fit` names: its place, or 7 where it names none.
-  pub fit-asked : SoundBlock setLayout w → a ≤ b → 1 ≤ k → fitCall fit w a b k ≡ asking [] (fit a b k (entriesOf 2 w))
+  pub fit-asked : SoundBlock setLayout w → a ≤ b → 1 ≤ k → fitCall fit w a b k ≡ atPlace (fit a b k (entriesOf 2 w))
   unfolding fitCall
   fit-asked s h n = rw (sound-verdict setLayout w s, le-ltb b a h, ne-eqb k 0 (λ z. omega arith))
 

@@ -8,14 +8,14 @@ use Rattle.entries.specs.Entries.{Entry}
 use Rattle.entries.specs.Questions.{filter}
 use Rattle.answers.specs.Answers.{refuse}
 use Rattle.blocks.specs.Blocks.{setLayout, entriesOf, SoundBlock}
-use Rattle.fits.specs.Calls.{asking, fitCall, firstFitCall, bestFitCall}
+use Rattle.fits.specs.Calls.{fitCall, firstFitCall, bestFitCall}
 use Rattle.fits.specs.Fits.{gaps, fits, firstGap, shortestGap, startIn, placeIn, anywhere, firstFit, bestFit}
 use Rattle.fits.specs.Meaning.{FreeRun, IsGap, FirstOf, BestOf}
 use Rattle.fits.specs.Starts.{LeastUp, FirstAt, Holds, BestAt}
 use Rattle.fits.specs.Starts.{BestFrom}
 use Rattle.fits.proofs.Listed.{In, Around}
 use Rattle.fits.proofs.Runs.{all, run-around, listed-gap, gap-listed}
-use Rattle.fits.proofs.Asking.{fit-asked}
+use Rattle.fits.proofs.Asking.{atPlace, fit-asked}
 use Rattle.fits.proofs.Chosen.{Chose, First, Shortest, chose-first, chose-shortest}
 
 -- [F1] `gaps` are exactly the gaps
@@ -176,12 +176,12 @@ module _ (w : List ℕ) (a b k : ℕ) (sound : SoundBlock setLayout w) (order : 
   no-place : (fit : ℕ → ℕ → ℕ → List Entry → Option ℕ) → fitCall fit w a b k ≡ refuse 7 0 [] → fit a b k (entriesOf 2 w) ≡ none
   no-place fit e = go (fit a b k (entriesOf 2 w)) refl (sym (fit-asked fit w a b k sound order one) ∙ e)
     where
-      go : (o : Option ℕ) → fit a b k (entriesOf 2 w) ≡ o → asking [] o ≡ refuse 7 0 [] → fit a b k (entriesOf 2 w) ≡ none
+      go : (o : Option ℕ) → fit a b k (entriesOf 2 w) ≡ o → atPlace o ≡ refuse 7 0 [] → fit a b k (entriesOf 2 w) ≡ none
       go none q h = q
       go (some s) q h = let z : _≡_ {A = ℕ} 0 1 = cc in absurd (omega arith)
 
   place-no : (fit : ℕ → ℕ → ℕ → List Entry → Option ℕ) → fit a b k (entriesOf 2 w) ≡ none → fitCall fit w a b k ≡ refuse 7 0 []
-  place-no fit e = fit-asked fit w a b k sound order one ∙ ap (asking []) e
+  place-no fit e = fit-asked fit w a b k sound order one ∙ ap atPlace e
 
   none-run : firstFit a b k (entriesOf 2 w) ≡ none → NoRun
   none-run e = subst (FirstOf a b k (entriesOf 2 w)) e (first-fit a b k (entriesOf 2 w) one)

@@ -23,17 +23,18 @@ use Rattle.blocks.proofs.Judging.{sound-verdict}
 use Rattle.edits.specs.Calls.{edited, editCall}
 use Rattle.edits.specs.Steps.{roomSays}
 use Rattle.fits.specs.Fits.{aligned, placeIn}
-use Rattle.fits.specs.Calls.{askRefusals, fitRefusals, gapless, noGap, placeOf, answered, asking, fitCall, reservedAt, taking, reserveCall}
-use Rattle.fits.specs.Calls.{tooHigh, alignRefusals, alignedPlace, fitAlignedCall, reserveAlignedCall}
+use Rattle.fits.specs.Calls.{askRefusals, fitRefusals, gapless, noGap, placeOf, answered, fitCall, reservedAt, reserveCall}
+use Rattle.fits.specs.Calls.{tooHigh, alignRefusals, fitAlignedRefusals, alignedPlace, fitAlignedCall, reserveAlignedCall}
 use Rattle.fits.specs.Meaning.{answering}
 use Rattle.fits.specs.Starts.{Multiple, FirstAt, BestAt}
 use Rattle.fits.specs.Steps.{chooser, Asked, Placing, reserving}
 use Rattle.fits.proofs.Multiples.{multiples}
-use Rattle.fits.proofs.Asking.{asked-right, aligned-fit, aligned-reserve}
+use Rattle.fits.proofs.Asking.{asked-right, atPlace, aligned-fit, aligned-reserve}
 use Rattle.fits.proofs.Meaning.{first-at, best-at}
 
 -- where nothing is refused before, and the question finds no place, the reservation is refused as the question is
-last : (w : List ℕ) (k : ℕ) (o : Option ℕ) (n p : ℕ) → asking [] o ≡ outcome (refused n p) [] → taking [] w k o ≡ outcome (refused n p) (w ∷ [])
+last : (w : List ℕ) (k : ℕ) (o : Option ℕ) (n p : ℕ) → atPlace o ≡ outcome (refused n p) []
+    → judged (gapless o) 0 (w ∷ []) (reserving w (placeOf o) k) ≡ outcome (refused n p) (w ∷ [])
 last w k none n p h = let i : refused 7 0 ≡ refused n p = cc in ap (λ (x : Answer). outcome x (w ∷ [])) i
 last w k (some s) n p h = absurd (refused≢given (sym h))
 
@@ -96,7 +97,7 @@ module _ (choose : List Entry → Option Entry) (w : List ℕ) (a b k j : ℕ) w
   unfolding fitAlignedCall
   aligned-asked s e =
       let place = alignedPlace choose w a b k j in
-      let t = turn-accepted (alignRefusals w a b k j ++ (noGap place ∷ [])) [] (answered (placeOf place)) (s ∷ []) [] (sym e) in
+      let t = turn-accepted (fitAlignedRefusals w a b k j place) [] (answered (placeOf place)) (s ∷ []) [] (sym e) in
       asked-right w a b k j (clear-split (alignRefusals w a b k j) (noGap place ∷ []) (t .0) .0)
 
   pub aligned-chosen : (s : ℕ) → answered s ≡ fitAlignedCall choose w a b k j → ChosenAligned s

@@ -42,13 +42,9 @@ fitRefusals w a b k place = askRefusals w a b k ++ (noGap place ∷ [])
 abbrev pub answered : ℕ → Outcome
 answered s = outcome (given (s ∷ [])) []
 
--- [F4] a fit as a question, where `before` is what is refused before a place is sought: then 7, by the place
-abbrev pub asking : List Finding → Option ℕ → Outcome
-asking before place = inTurn (before ++ (noGap place ∷ [])) [] (answered (placeOf place))
-
 -- [F4] a fit as a question
 unfoldable pub fitCall : (ℕ → ℕ → ℕ → List Entry → Option ℕ) → List ℕ → ℕ → ℕ → ℕ → Outcome
-fitCall fit w a b k = asking (askRefusals w a b k) (fit a b k (entriesOf 2 w))
+fitCall fit w a b k = inTurn (fitRefusals w a b k (fit a b k (entriesOf 2 w))) [] (answered (placeOf (fit a b k (entriesOf 2 w))))
 
 -- [F4] the set with s to s+k-1 in it
 abbrev pub reservedAt : List ℕ → ℕ → ℕ → List Entry
@@ -62,14 +58,10 @@ reserveRefusals w a b k place = fitRefusals w a b k place ++ (room 0 setLayout (
 abbrev pub reservedWith : List ℕ → ℕ → ℕ → Outcome
 reservedWith w s k = outcome (given (s ∷ [])) (blockOf (length w) (reservedAt w s k) ∷ [])
 
--- [F4, F5] a fit as a reservation, in the same way: then 7, and then 5
-abbrev pub taking : List Finding → List ℕ → ℕ → Option ℕ → Outcome
-taking before w k place =
-    inTurn (before ++ (noGap place ∷ room 0 setLayout (length w) (reservedAt w (placeOf place) k) ∷ [])) (w ∷ []) (reservedWith w (placeOf place) k)
-
 -- [F4, F5] a fit as a reservation
 unfoldable pub reserveCall : (ℕ → ℕ → ℕ → List Entry → Option ℕ) → List ℕ → ℕ → ℕ → ℕ → Outcome
-reserveCall fit w a b k = taking (askRefusals w a b k) w k (fit a b k (entriesOf 2 w))
+reserveCall fit w a b k =
+    inTurn (reserveRefusals w a b k (fit a b k (entriesOf 2 w))) (w ∷ []) (reservedWith w (placeOf (fit a b k (entriesOf 2 w))) k)
 
 -- [F2] first fit, as a question
 abbrev pub firstFitCall : List ℕ → ℕ → ℕ → ℕ → Outcome
@@ -96,9 +88,18 @@ lastPower = 63
 abbrev pub tooHigh : ℕ → Finding
 tooHigh j = at 0 (applies (ltb lastPower j) 16)
 
--- [A2] what is refused before a place is sought: 1, 2, 3 of the block, 4, 6, and just after it 16
+-- [A2] a run of k asked for so: 1, 2, 3 of the block, then 4, 6, and just after it 16,
 abbrev pub alignRefusals : List ℕ → ℕ → ℕ → ℕ → ℕ → List Finding
 alignRefusals w a b k j = askRefusals w a b k ++ (tooHigh j ∷ [])
+
+-- [A2] then 7, by the place that was found,
+abbrev pub fitAlignedRefusals : List ℕ → ℕ → ℕ → ℕ → ℕ → Option ℕ → List Finding
+fitAlignedRefusals w a b k j place = alignRefusals w a b k j ++ (noGap place ∷ [])
+
+-- [A2, F5] and of a reservation then 5, for that place only
+abbrev pub reserveAlignedRefusals : List ℕ → ℕ → ℕ → ℕ → ℕ → Option ℕ → List Finding
+reserveAlignedRefusals w a b k j place =
+    fitAlignedRefusals w a b k j place ++ (room 0 setLayout (length w) (reservedAt w (placeOf place) k) ∷ [])
 
 -- [A3, A4, A5] the place in the gap that is chosen, or none
 abbrev pub alignedPlace : (List Entry → Option Entry) → List ℕ → ℕ → ℕ → ℕ → ℕ → Option ℕ
@@ -106,11 +107,13 @@ alignedPlace choose w a b k j = placeIn (aligned j) choose a b k (entriesOf 2 w)
 
 -- [A1, A2] an aligned fit as a question
 unfoldable pub fitAlignedCall : (List Entry → Option Entry) → List ℕ → ℕ → ℕ → ℕ → ℕ → Outcome
-fitAlignedCall choose w a b k j = asking (alignRefusals w a b k j) (alignedPlace choose w a b k j)
+fitAlignedCall choose w a b k j =
+    inTurn (fitAlignedRefusals w a b k j (alignedPlace choose w a b k j)) [] (answered (placeOf (alignedPlace choose w a b k j)))
 
 -- [A1, A2] an aligned fit as a reservation
 unfoldable pub reserveAlignedCall : (List Entry → Option Entry) → List ℕ → ℕ → ℕ → ℕ → ℕ → Outcome
-reserveAlignedCall choose w a b k j = taking (alignRefusals w a b k j) w k (alignedPlace choose w a b k j)
+reserveAlignedCall choose w a b k j =
+    inTurn (reserveAlignedRefusals w a b k j (alignedPlace choose w a b k j)) (w ∷ []) (reservedWith w (placeOf (alignedPlace choose w a b k j)) k)
 
 -- [A3] first fit, as a question
 abbrev pub firstFitAlignedCall : List ℕ → ℕ → ℕ → ℕ → ℕ → Outcome
