@@ -37,7 +37,8 @@ fn ahead(low: u64, j: u64) -> u64
 {
     let ones = (1u64 << j) - 1;
     let over = low & ones;
-    (ones - over + 1) & ones
+    let more = ones - over;
+    (more + 1) & ones
 }
 
 // Whether a gap is held that has at most less + 1 numbers.

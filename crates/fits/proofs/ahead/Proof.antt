@@ -14,11 +14,11 @@ ones c = omega (arith, shifted (c .args .j) (c .pre), pow-pos (c .args .j))
 sub-ones : tie.Need-sub-ones
 sub-ones c = omega (arith, shifted (c .args .j) (c .pre), pow-pos (c .args .j))
 
-sub-over : tie.Need-sub-result
-sub-over c = over-within (c .args .low) (c .args .j) _ (ones c)
+sub-more : tie.Need-sub-more
+sub-more c = over-within (c .args .low) (c .args .j) _ (ones c)
 
 returns : tie.Need-returns
 returns c = ahead-is (c .args .low) (c .args .j) _ (ones c)
 
 pub ahead-spec : {M : Type 1} → statement M
-ahead-spec = tie.close (tie.spec (λ c. search needs) sub-ones sub-over (λ c. search needs) returns)
+ahead-spec = tie.close (tie.spec (λ c. search needs) sub-ones sub-more (λ c. search needs) returns)
