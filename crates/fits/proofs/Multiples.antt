@@ -5,9 +5,8 @@ use native.Mathlib.Omega.{arith}
 use native.Mathlib.Decide.{ℕ-discrete}
 use native.Mathlib.Nat.{mod-lt, mod-eq-of-lt, mul-comm, mul-suc, mul-le-mul-right}
 use lib.Bits.{bitAnd, and-mask}
-use lib.Pow.{pow-pos, pow-lt, split, low, high, shr-mono}
+use lib.Pow.{pow-pos, split, low, high, shr-mono}
 use Rattle.fits.specs.Fits.{anywhere, aligned}
-use Rattle.fits.specs.Calls.{lastPower}
 use Rattle.fits.specs.Starts.{LeastUp, Multiple}
 
 -- a multiple at or above s that is less than 2^j away is the least one
@@ -19,14 +18,13 @@ aligned-is j s t m h l =
     let b : s + (2 ^ j - 1) - t < 2 ^ j = omega (arith, pow-pos j) in
     ap (λ (n : ℕ). n / 2 ^ j * 2 ^ j) q ∙ ap (λ (n : ℕ). n * 2 ^ j) (high (t / 2 ^ j) j b) ∙ omega arith
 
--- what it is above s by
-bounds : (j s : ℕ) → (s ≤ aligned j s) × (aligned j s < s + 2 ^ j)
+above : (j s : ℕ) → s ≤ aligned j s
 unfolding aligned
-bounds j s =
+above j s =
     let n = s + (2 ^ j - 1) in
     let e = split n j in
     let r = mod-lt n (pow-pos j) in
-    (omega (arith, pow-pos j), omega (arith, pow-pos j))
+    omega (arith, pow-pos j)
 
 multiple : (j s : ℕ) → Multiple j (aligned j s)
 unfolding aligned
@@ -42,7 +40,7 @@ rising j s t h = mul-le-mul-right (2 ^ j) (shr-mono j (omega (arith, h)))
 -- [A3, A4] THE MULTIPLES OF 2^J are the allowed starts
 pub multiples : (j : ℕ) → LeastUp (aligned j) (Multiple j)
 multiples j = record {
-  above = λ s. bounds j s .0;
+  above = above j;
   allowed = multiple j;
   least = λ s t h m. omega (arith, rising j s t h, aligned-is j t t m (omega arith) (omega (arith, pow-pos j)));
 }
@@ -51,10 +49,7 @@ multiples j = record {
 pub every-start : aligned 0 ≡ anywhere
 every-start = fun-ext (λ s. aligned-is 0 s s (omega arith) (omega arith) (omega arith))
 
--- HOW FAR AHEAD it is, as the code finds it: a shifted 1 less 1 has j ones, and what low has in common with them is how far it is over a multiple
-pub shifted : (j : ℕ) → j ≤ lastPower → (1 * 2 ^ j) % 2 ^ 64 ≡ 2 ^ j
-shifted j h = let l : j < 64 = omega (arith, h) in omega (arith, pow-lt l)
-
+-- HOW FAR AHEAD it is, as the code finds it: 2^j less one has j ones, and what n has in common with them is how far it is over a multiple
 module _ (n j ones : ℕ) (o : ones + 1 ≡ 2 ^ j) where
   with-ones : (m : ℕ) → bitAnd m ones ≡ m % 2 ^ j
   with-ones m = let z : ones ≡ 2 ^ j - 1 = omega (arith, o) in ap (bitAnd m) z ∙ and-mask m j
@@ -62,7 +57,7 @@ module _ (n j ones : ℕ) (o : ones + 1 ≡ 2 ^ j) where
   pub over-within : bitAnd n ones ≤ ones
   over-within = omega (arith, o, with-ones n, mod-lt n (pow-pos j))
 
-  -- low is a multiple, and nothing is left; or the next one is 2^j - n % 2^j above it
+  -- n is a multiple, and nothing is left; or the next one is 2^j - n % 2^j above it
   pub ahead-is : n + bitAnd (ones - bitAnd n ones + 1) ones ≡ aligned j n
   ahead-is = ap (λ (m : ℕ). n + m) (with-ones (ones - bitAnd n ones + 1)) ∙ go (ℕ-discrete (bitAnd n ones) 0)
     where
