@@ -35,7 +35,7 @@ use Rattle.demands.proofs.Findings.{Numbered, applied, named-number, na
 use Rattle.demands.proofs.Rooms.{Not5, input-not, range-not}
 use Rattle.demands.proofs.Later.{inputs-same, inputs-alike, turn-alike}
 use Rattle.demands.proofs.Fits.{reserve-means, reserve-room}
-use Rattle.demands.proofs.FitOutcomes.{takes-last, reserve-accepted-exactly}
+use Rattle.demands.proofs.FitOutcomes.{at-least-one, takes-last, reserve-accepted-exactly}
 
 -- ANSWERS: the call answers what the meaning says, and only that
 module _ (choose : List Entry → Option Entry) (w : List ℕ) (a b k j : ℕ) where
@@ -49,22 +49,16 @@ module _ (choose : List Entry → Option Entry) (w : List ℕ) (a b k j : ℕ) w
   answers-place : (s : ℕ) → AlignedAsked w a b k j → alignedPlace choose w a b k j ≡ some s → fitAlignedCall choose w a b k j ≡ answered s
   answers-place s h e =
       aligned-fit choose w a b k j (h .power)
-      ∙ fit-asked (placeIn (aligned j) choose) w a b k (verdict-sound setLayout w (h .run .sound)) (h .run .order) (one k (h .run .some))
+      ∙ fit-asked (placeIn (aligned j) choose) w a b k (verdict-sound setLayout w (h .run .sound)) (h .run .order) (at-least-one k (h .run .some))
       ∙ ap atPlace e
-    where
-      one : (n : ℕ) → (n ≡ 0 → ⊥) → 1 ≤ n
-      one n h = omega arith
 
   -- of a meaning that the place has, and that only one place has
   answers-exactly : (Means : Option ℕ → Type 0) → (1 ≤ k → Means (alignedPlace choose w a b k j)) → ((o p : Option ℕ) → Means o → Means p → o ≡ p)
       → (s : ℕ) → Iff (fitAlignedCall choose w a b k j ≡ answered s) (AlignedAsked w a b k j × Means (some s))
   answers-exactly Means is only s = record {
     to = λ e. let c = aligned-chosen choose w a b k j s (sym e) in (asked-aligned (c .asked), subst Means (c .chosen .place) (is (c .asked .run)));
-    from = λ h. answers-place s (h .0) (only (alignedPlace choose w a b k j) (some s) (is (one k (h .0 .run .some))) (h .1));
+    from = λ h. answers-place s (h .0) (only (alignedPlace choose w a b k j) (some s) (is (at-least-one k (h .0 .run .some))) (h .1));
   }
-    where
-      one : (n : ℕ) → (n ≡ 0 → ⊥) → 1 ≤ n
-      one n h = omega arith
 
 pub first-fit-aligned : FirstFitAligned
 first-fit-aligned w a b k j s =

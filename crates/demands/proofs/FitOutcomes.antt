@@ -224,6 +224,10 @@ reserve-accepted-exactly fit w a b k =
     room-at : ℕ → List Finding
     room-at s = room 0 setLayout (length w) (reservedAt w s k) ∷ []
 
+-- a run that is not one of no numbers has at least one
+pub at-least-one : (n : ℕ) → (n ≡ 0 → ⊥) → 1 ≤ n
+at-least-one n h = omega arith
+
 -- ALIGNED: what is tried behind 6, and its number
 high-other : (n : ℕ) → Other n 16 → (j : ℕ) → Where (Other n) (tooHigh j .number)
 high-other n h j = applied (Other n) (ltb lastPower j) 16 h
@@ -312,11 +316,8 @@ module _ (w : List ℕ) (a b k j : ℕ) where
   Finds choose = (k ≡ 0 → ⊥) → Iff (gapless (alignedPlace choose w a b k j) ≡ 0) (AlignedSomewhere w a b k j)
 
   first-finds : Finds firstGap
-  first-finds h = go (alignedPlace firstGap w a b k j) (first-at (aligned j) (Multiple j) (multiples j) a b k (entriesOf 2 w) (one k h))
+  first-finds h = go (alignedPlace firstGap w a b k j) (first-at (aligned j) (Multiple j) (multiples j) a b k (entriesOf 2 w) (at-least-one k h))
     where
-      one : (n : ℕ) → (n ≡ 0 → ⊥) → 1 ≤ n
-      one n h = omega arith
-
       go : (o : Option ℕ) → FirstAt (Multiple j) a b k (entriesOf 2 w) o → Iff (gapless o ≡ 0) (AlignedSomewhere w a b k j)
       go none n = record { to = λ e. absurd (omega arith); from = λ s. absurd (n (s .start) (s .multiple) (s .run)) }
       go (some s) f = record { to = λ e. record { start = s; multiple = f .allowed; run = f .run }; from = λ e. refl }

@@ -65,4 +65,5 @@ returns-3 c =
 
 pub fit-spec : {M : Type 1} → statement M
 fit-spec =
-    tie.close (tie.spec (λ c κs. search needs) (λ c κs. search needs) returns gap-for-requires ahead-requires add-start returns-2 (λ c κs. search needs) returns-3)
+    tie.close (tie.spec (λ c κs. search needs) (λ c κs. search needs) returns gap-for-requires ahead-requires add-start
+    returns-2 (λ c κs. search needs) returns-3)
