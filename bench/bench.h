@@ -46,7 +46,7 @@ typedef struct job {
 
 enum { RANDOM, REGULAR, SHAPES };
 
-/* inputs.c: a job with sets of so many ranges and maps of a quarter as many entries. Every result fits its output. */
+/* inputs.c: a job with sets of so many ranges and maps of a third as many entries. Every result fits its output. */
 job make_job(size_t ranges, int shape, double where);
 void free_job(job *t);
 size_t entries_for(size_t ranges);

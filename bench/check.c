@@ -98,15 +98,6 @@ static void damage_block(block *b, unsigned how) {
     }
 }
 
-/* Makes the first entry of a map touch the second, with words that agree in both (0), not in the value (1), not in the expiry (2), or in
-   neither (3): a map of the first sort is not sound, the others are. */
-static void touch_entries(block *b, unsigned how) {
-    uint64_t *one = b->words + 1, *two = one + 4;
-    one[1] = two[0] - 1;
-    one[2] = two[2] + how % 2;
-    one[3] = two[3] + how / 2;
-}
-
 /* Makes the first set the one range low..high. */
 static void one_range(job *t, uint64_t low, uint64_t high) {
     t->one.words[0] = 1;
@@ -196,11 +187,10 @@ static const uint64_t exponents[] = {0,  1,  2,  3,  12, 31, 32, 47, 48, 49, 50,
 
 enum { BLOCKS = 9, BLOCK_DAMAGES = 6, OTHER_DAMAGES = 22, FIT_DAMAGES = 25, BYTES = 7 + 21 + 21 };
 enum { OTHERS = BLOCKS * BLOCK_DAMAGES, FITS = OTHERS + OTHER_DAMAGES, OF_BYTES = FITS + FIT_DAMAGES, TRAYS = OF_BYTES + BYTES };
-enum { TOUCHES = TRAYS + FIT_DAMAGES * sizeof exponents / sizeof *exponents, TOUCH_DAMAGES = 4, DAMAGES = TOUCHES + 2 * TOUCH_DAMAGES };
+enum { DAMAGES = TRAYS + FIT_DAMAGES * sizeof exponents / sizeof *exponents };
 
 /* Damage number k of a job: to each block in each way, then to the rest, to the fits, and to each byte of the first records of both forms;
-   the lowest bit of a mark's second byte makes the other mark of it. Then to the fits again, with each exponent, and to the entries of both
-   maps. */
+   the lowest bit of a mark's second byte makes the other mark of it. Then to the fits again, with each exponent. */
 static void damage(job *t, unsigned k) {
     block *blocks[] = {&t->one,       &t->two,        &t->version, &t->released1, &t->withdrawn1,
                        &t->released2, &t->withdrawn2, &t->upper,   &t->lower};
@@ -213,11 +203,9 @@ static void damage(job *t, unsigned k) {
     } else if (k < TRAYS) {
         t->form[k - OF_BYTES] ^= 1;
         t->old_form[k - OF_BYTES] ^= 1;
-    } else if (k < TOUCHES) {
+    } else {
         t->exponent = exponents[(k - TRAYS) / FIT_DAMAGES];
         damage_fit(t, (k - TRAYS) % FIT_DAMAGES);
-    } else {
-        touch_entries(k - TOUCHES < TOUCH_DAMAGES ? &t->upper : &t->lower, (k - TOUCHES) % TOUCH_DAMAGES);
     }
 }
 
@@ -233,7 +221,7 @@ void check_damaged(job *t) {
         for (size_t i = 0; i < measure_count; i++) {
             char what[32];
             snprintf(what, sizeof what, "damage %u", k);
-            if (k < TRAYS || k >= TOUCHES || measures[i].tray) {
+            if (k < TRAYS || measures[i].tray) {
                 free(agreed(&measures[i], &damaged, what).results);
             }
         }

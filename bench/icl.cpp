@@ -2,16 +2,15 @@
 #include <boost/icl/closed_interval.hpp>
 #include <boost/icl/interval_map.hpp>
 #include <boost/icl/interval_set.hpp>
-#include <utility>
 
 #include "bench.h"
 
 namespace icl = boost::icl;
 using range = icl::closed_interval<uint64_t>;
 using range_set = icl::interval_set<uint64_t, std::less, range>;
-// A value and an expiry: intervals that touch are joined where both are equal. The map keeps a pair of 0 and 0.
-using held = std::pair<uint64_t, uint64_t>;
-using range_map = icl::interval_map<uint64_t, held, icl::partial_enricher, std::less, icl::inplace_plus, icl::inter_section, range>;
+// A value of 0 is a value here: the map keeps it.
+using range_map =
+    icl::interval_map<uint64_t, uint64_t, icl::partial_enricher, std::less, icl::inplace_plus, icl::inter_section, range>;
 
 struct icl_job {
     range_set one, two, version, released1, withdrawn1, released2, withdrawn2, all;
@@ -35,7 +34,7 @@ static range_set set_of(block b) {
 static range_map map_of(block b) {
     range_map map;
     for (size_t i = 0; i < b.words[0]; i++) {
-        map.set({range(b.words[4 * i + 1], b.words[4 * i + 2]), held{b.words[4 * i + 3], b.words[4 * i + 4]}});
+        map.set({range(b.words[3 * i + 1], b.words[3 * i + 2]), b.words[3 * i + 3]});
     }
     return map;
 }
@@ -89,13 +88,12 @@ void icl_results(const icl_job *j, block out, block out2, block merged, uint64_t
     words_of(j->out2, out2);
     size_t i = 0;
     for (const auto &entry : j->merged) {
-        if (4 * i + 5 > merged.length) {
+        if (3 * i + 4 > merged.length) {
             break;
         }
-        merged.words[4 * i + 1] = entry.first.lower();
-        merged.words[4 * i + 2] = entry.first.upper();
-        merged.words[4 * i + 3] = entry.second.first;
-        merged.words[4 * i + 4] = entry.second.second;
+        merged.words[3 * i + 1] = entry.first.lower();
+        merged.words[3 * i + 2] = entry.first.upper();
+        merged.words[3 * i + 3] = entry.second;
         i++;
     }
     merged.words[0] = j->merged.iterative_size();

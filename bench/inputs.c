@@ -16,8 +16,7 @@ static uint64_t draw(void) {
     return z ^ z >> 31;
 }
 
-/* n items of s words; of an entry the value is one of 8 and the expiry one of 2. Regular ones are shifted by so many eighths of an item and
-   its gap. */
+/* n items of s words; a value is one of 16. Regular ones are shifted by so many eighths of an item and its gap. */
 static void fill(block b, size_t s, size_t n, int shape, uint64_t base, unsigned eighths) {
     uint64_t step = (UINT64_C(1) << 62) / n, next = base + step / 8 * eighths;
     b.words[0] = n;
@@ -26,9 +25,8 @@ static void fill(block b, size_t s, size_t n, int shape, uint64_t base, unsigned
         item[0] = shape == REGULAR ? next : next + 2 + draw() % step;
         item[1] = item[0] + (shape == REGULAR ? step / 2 - 1 : draw() % step);
         next = shape == REGULAR ? next + step : item[1];
-        if (s == 4) {
-            item[2] = draw() % 8;
-            item[3] = 20819 + draw() % 2 * 365;
+        if (s == 3) {
+            item[2] = draw() % 16;
         }
     }
 }
@@ -90,9 +88,9 @@ static void choose_arguments(job *t, double where) {
     t->removal[1] = w[2 * k + 2];
 }
 
-/* The entries of a job's maps: their overlay has about twice as many, and a map has 2,047 at the most. */
+/* The entries of a job's maps: their overlay has about twice as many, and a map has 2,730 at the most. */
 size_t entries_for(size_t ranges) {
-    return ranges / 4;
+    return ranges / 3;
 }
 
 /* Cuts a piece of so many words from the arena. */
@@ -106,8 +104,8 @@ static block cut(uint8_t **arena, size_t words) {
    more than any output has room for, and the result has to be counted, whatever the size. An output of prefix blocks has the words that
    the header names as enough, and these are not counted beforehand. */
 static job empty_job(size_t n) {
-    size_t entries = entries_for(n), set = 1 + 2 * (n + n / 50 + 2), map = 1 + 4 * (entries + 1);
-    size_t overlay = 1 + 4 * (2 * entries + entries / 22 + 1), form = 7 + 21 * n;
+    size_t entries = entries_for(n), set = 1 + 2 * (n + n / 50 + 2), map = 1 + 3 * (entries + 1);
+    size_t overlay = 1 + 3 * (2 * entries + entries / 22 + 1), form = 7 + 21 * n;
     size_t pairs = WIMBLORQUE_PREFIX_WORDS_OF(n);
     job t = {.ranges = n, .form_length = form, .bytes_length = form + 8, .pairs_size = pairs * 8};
     t.inputs_size = (8 * set + 2 * map) * 8 + 2 * (form + 1);
@@ -170,8 +168,8 @@ static void draw_inputs(job *t, int shape, double where) {
     share_out(t->out, t->released1, t->withdrawn1, shape);
     fill(t->out, 2, n, shape, base, 2);
     share_out(t->out, t->released2, t->withdrawn2, shape);
-    fill(t->upper, 4, entries_for(n), shape, base, 0);
-    fill(t->lower, 4, entries_for(n), shape, base, 2);
+    fill(t->upper, 3, entries_for(n), shape, base, 0);
+    fill(t->lower, 3, entries_for(n), shape, base, 2);
     choose_arguments(t, where);
     choose_runs(t);
     plain_library.set_write(t->one.words, t->one.length, t->form, t->form_length, 0);

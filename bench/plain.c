@@ -6,7 +6,7 @@
 
 #include "library.h"
 
-enum { SET_LIMIT = 4095, MAP_LIMIT = 2047, RECORD = 21 };
+enum { SET_LIMIT = 4095, MAP_LIMIT = 2730, RECORD = 21 };
 
 #define LAST UINT64_MAX
 
@@ -52,15 +52,14 @@ static uint64_t judge_map(const uint64_t *w, size_t words) {
     if (words == 0) {
         return WIMBLORQUE_NO_BLOCK;
     }
-    if (w[0] > room_for(words, 4, MAP_LIMIT)) {
+    if (w[0] > room_for(words, 3, MAP_LIMIT)) {
         return WIMBLORQUE_COUNT;
     }
     size_t n = w[0];
     bool wrong = n > 0 && w[1] > w[2];
     for (size_t i = 1; i < n; i++) {
-        const uint64_t *e = w + 4 * i - 3, *f = e + 4;
-        bool alike = ((f[2] ^ e[2]) | (f[3] ^ e[3])) == 0;
-        wrong |= (f[0] <= e[1]) | ((f[0] - e[1] == 1) & alike) | (f[0] > f[1]);
+        const uint64_t *e = w + 3 * i - 2, *f = e + 3;
+        wrong |= (f[0] <= e[1]) | ((f[0] - e[1] == 1) & (f[2] == e[2])) | (f[0] > f[1]);
     }
     return wrong ? WIMBLORQUE_ORDER : 0;
 }
@@ -665,61 +664,58 @@ static wimblorque_answer bulletin_fold(const uint64_t *r1, size_t r1_words, cons
 
 /* ---- overlay ---- */
 
-/* The entries of a map so far: how many, the high, the value and the expiry of the last, and where they go, if anywhere. */
+/* The entries of a map so far: how many, the high and the value of the last, and where they go, if anywhere. */
 typedef struct entries {
     uint64_t *out;
     size_t count;
     uint64_t high;
     uint64_t value;
-    uint64_t expiry;
 } entries;
 
-/* One more entry, or the last one goes on: where it touches and agrees in both words. */
-static inline void lay(entries *m, uint64_t low, uint64_t high, uint64_t value, uint64_t expiry) {
-    bool joins = m->count > 0 && m->value == value && m->expiry == expiry && low - m->high == 1;
+/* One more entry, or the last one goes on. */
+static inline void lay(entries *m, uint64_t low, uint64_t high, uint64_t value) {
+    bool joins = m->count > 0 && m->value == value && low - m->high == 1;
     m->count += !joins;
     m->high = high;
     m->value = value;
-    m->expiry = expiry;
     if (m->out) {
-        uint64_t *e = m->out + 4 * m->count - 3;
+        uint64_t *e = m->out + 3 * m->count - 2;
         if (!joins) {
             e[0] = low;
         }
         e[1] = high;
         e[2] = value;
-        e[3] = expiry;
     }
 }
 
 /* The upper entries and what the lower ones have between them; into out, or only counted. */
 static inline size_t overlaid(const uint64_t *upper, const uint64_t *lower, uint64_t *out, size_t words) {
-    entries m = {out, 0, 0, 0, 0};
-    const uint64_t *l = lower + 1, *end = l + 4 * lower[0];
+    entries m = {out, 0, 0, 0};
+    const uint64_t *l = lower + 1, *end = l + 3 * lower[0];
     uint64_t from = 0;
-    for (const uint64_t *u = upper + 1, *last = u + 4 * upper[0]; u < last; u += 4) {
+    for (const uint64_t *u = upper + 1, *last = u + 3 * upper[0]; u < last; u += 3) {
         while (l < end && l[0] < u[0]) {
             uint64_t low = l[0] > from ? l[0] : from, high = l[1] < u[0] ? l[1] : u[0] - 1;
             if (low <= high) {
-                lay(&m, low, high, l[2], l[3]);
+                lay(&m, low, high, l[2]);
             }
             if (l[1] > high) {
                 break;
             }
-            l += 4;
+            l += 3;
         }
-        lay(&m, u[0], u[1], u[2], u[3]);
+        lay(&m, u[0], u[1], u[2]);
         while (l < end && l[1] <= u[1]) {
-            l += 4;
+            l += 3;
         }
         from = u[1] + 1;
     }
-    for (; l < end; l += 4) {
-        lay(&m, l[0] > from ? l[0] : from, l[1], l[2], l[3]);
+    for (; l < end; l += 3) {
+        lay(&m, l[0] > from ? l[0] : from, l[1], l[2]);
     }
     if (out) {
         out[0] = m.count;
-        memset(out + 4 * m.count + 1, 0, (words - 4 * m.count - 1) * sizeof *out);
+        memset(out + 3 * m.count + 1, 0, (words - 3 * m.count - 1) * sizeof *out);
     }
     return m.count;
 }
@@ -737,7 +733,7 @@ static wimblorque_answer map_overlay(const uint64_t *upper, size_t upper_words, 
     if (out_words == 0) {
         return told(WIMBLORQUE_NO_BLOCK, 2);
     }
-    size_t room = room_for(out_words, 4, MAP_LIMIT);
+    size_t room = room_for(out_words, 3, MAP_LIMIT);
     if (2 * upper[0] + lower[0] > room && overlaid(upper, lower, NULL, 0) > room) {
         return told(WIMBLORQUE_ROOM, 2);
     }

@@ -94,7 +94,7 @@ def page(machine, rows):
 
 
 WIDE, HIGH, LEFT, ABOVE, COLUMNS = 200, 150, 52, 30, 4
-X, Y = (math.log10(1.5), math.log10(6000)), (1, 7)
+X, Y = (math.log10(2), math.log10(6000)), (1, 7)
 
 
 def place(ranges, ns):

@@ -16,7 +16,6 @@ static unsigned now;              /* which of the two is the list */
 static uint64_t released[WORDS], withdrawn[WORDS], taken[WORDS], factory[MAP_WORDS], site[MAP_WORDS];
 static uint8_t bytes[WIMBLORQUE_BULLETIN_BYTES(RANGES, RANGES)]; /* the longest form of all that are read here */
 static size_t length;                                            /* of the form in it */
-static const uint64_t today = 20700;                             /* the cart counts its days itself */
 
 /* Says why a call was refused, in the library's numbers and in words. No answer of a refused call is used. */
 static int refused(const char *what, wimblorque_answer a) {
@@ -77,20 +76,15 @@ static void show_neighbours(uint64_t below) {
     show_neighbour("above", below);
 }
 
-/* Says which calibration record decides, from what the maps answered, and whether it has expired, which is the cart's to judge. */
+/* Says which calibration record decides, from what the maps answered. */
 static void show_record(wimblorque_answer entry) {
     if (entry.count == 0) {
         printf("no calibration record\n");
         return;
     }
-    /* first is where the entry's four words begin, third which of the two maps they are in */
-    const uint64_t *const words = (entry.third == 0 ? site : factory) + entry.first;
-    printf("calibration record %" PRIu64 " of the %s, ", words[2], entry.third == 0 ? "site" : "factory");
-    if (words[3] == WIMBLORQUE_NO_EXPIRY) {
-        printf("no expiry\n");
-    } else {
-        printf("%s on day %" PRIu64 "\n", words[3] < today ? "expired" : "expires", words[3]);
-    }
+    /* first is where the entry's three words begin, third which of the two maps they are in */
+    const uint64_t *const holder = entry.third == 0 ? site : factory;
+    printf("calibration record %" PRIu64 " of the %s\n", holder[entry.first + 2], entry.third == 0 ? "site" : "factory");
 }
 
 /* Says whether a pack is released, and which calibration record decides; of one that is not released, its neighbours. */

@@ -1,7 +1,6 @@
 #!/usr/bin/env python3
 """Makes the byte forms of this folder, by plain means: records of a mark, a kind, a body and a check. The check is the CRC that Python's own
-library has; in old.set and old.map, which have the old mark, it is Fletcher's two sums. A map's entries have an expiry, in records of kind
-0x05 and 0x15; old.map has none, in records of kind 0x02 and 0x11. Run it here to make them again."""
+library has; in old.set, which has the old mark, it is Fletcher's two sums. Run it here to make them again."""
 import binascii
 import os
 
@@ -34,13 +33,8 @@ def set_form(ranges, old=False):
 
 
 def map_form(entries):
-    start = record(0x05, len(entries).to_bytes(2, "big"))
-    return start + b"".join(record(0x15, words(*entry)) for entry in entries)
-
-
-def three_word_map_form(entries, old=False):
-    start = record(0x02, len(entries).to_bytes(2, "big"), old)
-    return start + b"".join(record(0x11, words(low, high, value), old) for low, high, value in entries)
+    start = record(0x02, len(entries).to_bytes(2, "big"))
+    return start + b"".join(record(0x11, words(*entry)) for entry in entries)
 
 
 def bulletin_form(released, withdrawn):
@@ -56,9 +50,8 @@ FILES = {
     "empty.set": set_form([]),
     "everything.set": set_form([(0, LAST)]),
     "released.set": set_form([(1000, 1999), (4000, 4000), (70000, 79999), (LAST - 9, LAST)]),
-    "records.map": map_form([(1000, 1999, 7, 20819), (2000, 2999, 8, 20819), (70000, 79999, 7, 21184)]),
-    "site.map": map_form([(1990, 2009, 21, 20454)]),
-    "old.map": three_word_map_form([(1000, 1999, 7), (2000, 2999, 8), (70000, 79999, 7)], old=True),
+    "records.map": map_form([(1000, 1999, 7), (2000, 2999, 8), (70000, 79999, 7)]),
+    "site.map": map_form([(1990, 2009, 21)]),
     "recall.bulletin": bulletin_form([(3000, 3100)], [(1500, 1600), (4000, 4000)]),
 }
 

@@ -2,19 +2,10 @@
    wimblorque_aarch64.o. wimblorque_refusals.h, beside this file, has the refusals in words.
 
    BLOCKS. A block is an array of words and its length in words. Word 0 is n, the number of items. A set's item i is words 1+2i and
-   2+2i, the low and the high of a range; a map's item i is words 1+4i to 4+4i, low, high, value and expiry. Both ends belong to the
+   2+2i, the low and the high of a range; a map's item i is words 1+3i, 2+3i and 3+3i, low, high and value. Both ends belong to the
    range. Words behind the items are not read in an input; an accepted call that writes a block makes them 0, to the block's end.
-   A set block of L words has room for (L-1)/2 ranges, 4,095 at the most; a map block for (L-1)/4 entries, 2,047 at the most. The
+   A set block of L words has room for (L-1)/2 ranges, 4,095 at the most; a map block for (L-1)/3 entries, 2,730 at the most. The
    macros below say the same: uint64_t list[WIMBLORQUE_SET_WORDS(4)] has room for four ranges. A block of zeros is empty.
-
-   MAPS. An entry gives every number of its range two words: a value, the calibration record, and an expiry, a day. Each may be any word,
-   and no call asks whether a day has passed. Entries that touch are one entry if they agree in both words, and two if they differ in
-   either. By agreement the expiry UINT64_MAX, WIMBLORQUE_NO_EXPIRY, stands for none: entries that are read from a form without expiries
-   have it. For every call it is an expiry like any other.
-   BEFORE VERSION 3.0 AN ENTRY HAD THREE WORDS, low, high and value, and nothing in a block tells how many words its entries have. A block
-   of then, kept in memory or in flash, must not be passed to any call: it may be found sound, and then says something else. (One with a
-   single entry and a word behind it always is: that word is taken for the expiry.) No call turns such a block into one with four words an
-   entry. It goes through its byte form: written by the library that it was made with, read by this one.
 
    SIGNED SETS. A signed set is a set of keys: signed numbers, from INT64_MIN to INT64_MAX. It stands in an ordinary set block, in which
    nothing says that it is signed: the host knows it. A key is held as its word, the key plus 2^63, so that the words are in the order
@@ -33,14 +24,8 @@
    body as its check (polynomial 0x1021, from FFFF on, not reflected, not changed at the end; the high byte first); a record with the
    old one, C5 3A, has Fletcher's two sums. Every call that reads bytes takes both, but all records of a form have one mark, that of the
    first. Every call that writes bytes writes the new one: an old form that is read and written comes out as the new form of the same
-   list, of the same length (longer, if it is a three-word form of a map). A new form in which one byte is changed, whichever it is, is
-   refused. The old check counts the bytes 00 and FF alike: in an old form such a change may go unnoticed, as where a part of the memory
-   was erased.
-   A map begins with a record of kind 0x05, and its entries are of kind 0x15, with low, high, value and expiry. Before version 3.0 it began
-   with kind 0x02, and its entries, of kind 0x11, had no expiry. Such a three-word form is still read, with either mark, and each entry
-   gets the expiry UINT64_MAX; it is refused with 12 if it has more than 2,047 entries. It is not written any more: read and written it
-   comes out as the form with expiries. That is 8 bytes an entry longer, and a buffer that just held the form which was read is too short
-   for it.
+   list, of the same length. A new form in which one byte is changed, whichever it is, is refused. The old check counts the bytes 00
+   and FF alike: in an old form such a change may go unnoticed, as where a part of the memory was erased.
 
    ANSWERS. Every call returns a wimblorque_answer, but wimblorque_member, wimblorque_key_of_word and wimblorque_word_of_key:
      status   0 if the call was accepted, else 16 plus the number of the refusal (the constants below). A refused call changes no word
@@ -71,8 +56,8 @@
 #endif
 
 /* The version, here and nowhere else: CHANGELOG.md says what changed, and ./install writes it into wimblorque.pc. */
-#define WIMBLORQUE_VERSION_MAJOR 3
-#define WIMBLORQUE_VERSION_MINOR 0
+#define WIMBLORQUE_VERSION_MAJOR 2
+#define WIMBLORQUE_VERSION_MINOR 1
 #define WIMBLORQUE_VERSION_PATCH 0
 #define WIMBLORQUE_TEXT_OF(x) #x
 #define WIMBLORQUE_DOTTED(x, y, z) WIMBLORQUE_TEXT_OF(x) "." WIMBLORQUE_TEXT_OF(y) "." WIMBLORQUE_TEXT_OF(z)
@@ -101,15 +86,12 @@
 /* ---- Limits and sizes: the numbers that the proofs use. The macros with an argument may evaluate it more than once. ---- */
 
 #define WIMBLORQUE_MOST_RANGES 4095  /* of a set, signed or not, and of each of a bulletin's two sets */
-#define WIMBLORQUE_MOST_ENTRIES 2047 /* of a map */
+#define WIMBLORQUE_MOST_ENTRIES 2730 /* of a map */
 #define WIMBLORQUE_MOST_PREFIXES 126 /* prefix blocks that one range can have: {1..2^64 - 2} has them */
-
-/* The expiry of an entry that was read from a form without expiries. */
-#define WIMBLORQUE_NO_EXPIRY UINT64_MAX
 
 /* The words of the shortest block with room for n ranges, for n entries. All that is said of sets here is true of signed sets. */
 #define WIMBLORQUE_SET_WORDS(n) (1 + 2 * (size_t)(n))
-#define WIMBLORQUE_MAP_WORDS(n) (1 + 4 * (size_t)(n))
+#define WIMBLORQUE_MAP_WORDS(n) (1 + 3 * (size_t)(n))
 
 /* The words of the shortest output with room for n prefix blocks; and of one with room for those of any set of r ranges, 1 + 252 r.
    Most sets need fewer: a range whose length has k binary digits has at most 2k - 2 prefix blocks (k at least 2; one number has one). */
@@ -121,20 +103,17 @@
 #define WIMBLORQUE_ROOM_IN(words, item, most) \
     ((size_t)(words) == 0 ? 0 : WIMBLORQUE_LESSER(((size_t)(words) - 1) / (item), (size_t)(most)))
 #define WIMBLORQUE_SET_CAPACITY(words) WIMBLORQUE_ROOM_IN(words, 2, WIMBLORQUE_MOST_RANGES)
-#define WIMBLORQUE_MAP_CAPACITY(words) WIMBLORQUE_ROOM_IN(words, 4, WIMBLORQUE_MOST_ENTRIES)
+#define WIMBLORQUE_MAP_CAPACITY(words) WIMBLORQUE_ROOM_IN(words, 3, WIMBLORQUE_MOST_ENTRIES)
 #define WIMBLORQUE_PREFIX_CAPACITY(words) WIMBLORQUE_ROOM_IN(words, 2, SIZE_MAX)
 
-/* The bytes of a record: the start of a set, of a map, of a bulletin; a range of a set or of a bulletin; an entry of a map, and one of a
-   three-word form, which is read and not written. */
+/* The bytes of a record: the start of a set, of a map, of a bulletin; a range of a set or of a bulletin; an entry of a map. */
 #define WIMBLORQUE_SET_START_BYTES 7
 #define WIMBLORQUE_MAP_START_BYTES 7
 #define WIMBLORQUE_BULLETIN_START_BYTES 9
 #define WIMBLORQUE_RANGE_BYTES 21
-#define WIMBLORQUE_ENTRY_BYTES 37
-#define WIMBLORQUE_THREE_WORD_ENTRY_BYTES 29
+#define WIMBLORQUE_ENTRY_BYTES 29
 
-/* The bytes of the form of a set of n ranges, of a map of n entries, of a bulletin of r released and w withdrawn ranges. A buffer with the
-   bytes of a map of n entries has room for a three-word form of n entries too. */
+/* The bytes of the form of a set of n ranges, of a map of n entries, of a bulletin of r released and w withdrawn ranges. */
 #define WIMBLORQUE_SET_BYTES(n) (WIMBLORQUE_SET_START_BYTES + WIMBLORQUE_RANGE_BYTES * (size_t)(n))
 #define WIMBLORQUE_MAP_BYTES(n) (WIMBLORQUE_MAP_START_BYTES + WIMBLORQUE_ENTRY_BYTES * (size_t)(n))
 #define WIMBLORQUE_BULLETIN_BYTES(r, w) (WIMBLORQUE_BULLETIN_START_BYTES + WIMBLORQUE_RANGE_BYTES * ((size_t)(r) + (size_t)(w)))
@@ -365,35 +344,32 @@ WIMBLORQUE_MUST_USE static inline wimblorque_answer wimblorque_map_make_empty(ui
     return wimblorque_set_make_empty(block, words);
 }
 
-/* What x has. Two values, first its value and second its expiry, each any word at all; or none if x has no value: look at count, since
-   both may be 0. Whether the expiry has passed is the caller's to ask. Changes nothing. Refused with 1, 2, 3. */
+/* The value of x. One value, any word at all, or none if x has no value. Changes nothing. Refused with 1, 2, 3. */
 WIMBLORQUE_MUST_USE wimblorque_answer wimblorque_map_look_up(const uint64_t *block, size_t words, uint64_t x);
 
-/* Gives every number of a..b this value and this expiry, replacing both that were there. The entry is joined to one that it touches if
-   that has the same value and the same expiry. No values. Refused with 1, 2, 3, then 4, then 5; the map has at most two entries more. */
+/* Gives every number of a..b the value v, replacing what was there. No values. Refused with 1, 2, 3, then 4, then 5. */
 WIMBLORQUE_MUST_USE wimblorque_answer wimblorque_map_assign(uint64_t *WIMBLORQUE_RESTRICT block, size_t words, uint64_t a,
-    uint64_t b, uint64_t value, uint64_t expiry);
+    uint64_t b, uint64_t v);
 
-/* Leaves no number of a..b a value or an expiry. No values. Refused with 1, 2, 3, then 4, then 5. */
+/* Leaves no number of a..b a value. No values. Refused with 1, 2, 3, then 4, then 5. */
 WIMBLORQUE_MUST_USE wimblorque_answer wimblorque_map_erase(uint64_t *WIMBLORQUE_RESTRICT block, size_t words, uint64_t a,
     uint64_t b);
 
-/* The part of the block with the entries that share a number with a..b, unclipped, as wimblorque_set_window; four words an entry. */
+/* The part of the block with the entries that share a number with a..b, unclipped, as wimblorque_set_window. */
 WIMBLORQUE_MUST_USE wimblorque_answer wimblorque_map_window(const uint64_t *block, size_t words, uint64_t a, uint64_t b);
 
-/* The entry that decides x: the site map's if x has a value there, else the factory map's. Three values: the offset and the length, 4,
-   of its part, which is low, high, value and expiry, and the position of the map that holds it, 0 the site, 1 the factory; none if x has
-   no value in either: look at count. Changes nothing. Both maps are judged whatever x is: refused with 1, 2, 3 of each in turn. Blocks:
-   site 0, factory 1. */
+/* The entry that decides x: the site map's if x has a value there, else the factory map's. Three values: the offset and the length, 3,
+   of its part, and the position of the map that holds it, 0 the site, 1 the factory; none if x has no value in either: look at
+   count. Changes nothing. Both maps are judged whatever x is: refused with 1, 2, 3 of each in turn. Blocks: site 0, factory 1. */
 WIMBLORQUE_MUST_USE wimblorque_answer wimblorque_map_site_over_factory(const uint64_t *site, size_t site_words,
     const uint64_t *factory, size_t factory_words, uint64_t x);
 
-/* Into out, as for sets. The upper map's value and expiry where it has them, else the lower's. out must be another block. Blocks:
-   upper 0, lower 1, out 2. */
+/* Into out, as for sets. The upper map's value where it has one, else the lower's. out must be another block. Blocks: upper 0,
+   lower 1, out 2. */
 WIMBLORQUE_MUST_USE wimblorque_answer wimblorque_map_overlay(const uint64_t *upper, size_t upper_words,
     const uint64_t *lower, size_t lower_words, uint64_t *WIMBLORQUE_RESTRICT out, size_t out_words);
 
-/* The map's values and expiries at the set's numbers, into a map block. out must be another block. Blocks: map 0, set 1, out 2. */
+/* The map's values at the set's numbers, into a map block. out must be another block. Blocks: map 0, set 1, out 2. */
 WIMBLORQUE_MUST_USE wimblorque_answer wimblorque_map_restriction(const uint64_t *map, size_t map_words,
     const uint64_t *set, size_t set_words, uint64_t *WIMBLORQUE_RESTRICT out, size_t out_words);
 
@@ -432,9 +408,7 @@ WIMBLORQUE_MUST_USE wimblorque_answer wimblorque_set_read(const uint8_t *bytes, 
 WIMBLORQUE_MUST_USE wimblorque_answer wimblorque_signed_read(const uint8_t *bytes, size_t length,
     uint64_t *WIMBLORQUE_RESTRICT out, size_t out_words);
 
-/* A map, into a map block: a form that begins with kind 0x05, or a three-word form, which begins with kind 0x02 and whose entries all get
-   the expiry UINT64_MAX. The start decides: an entry of the other one is refused with 10, and so is a start of any other kind. More than
-   2,047 entries are refused with 12 at 0, of either. out must be other memory than the bytes. */
+/* A map, into a map block. out must be other memory than the bytes. */
 WIMBLORQUE_MUST_USE wimblorque_answer wimblorque_map_read(const uint8_t *bytes, size_t length,
     uint64_t *WIMBLORQUE_RESTRICT out, size_t out_words);
 
@@ -470,7 +444,7 @@ WIMBLORQUE_MUST_USE wimblorque_answer wimblorque_set_write(const uint64_t *block
 WIMBLORQUE_MUST_USE wimblorque_answer wimblorque_signed_write(const uint64_t *block, size_t words,
     uint8_t *WIMBLORQUE_RESTRICT bytes, size_t length, size_t p);
 
-/* A map, with expiries, also where the block was read from a three-word form. The bytes must be other memory than the block. */
+/* A map. The bytes must be other memory than the block. */
 WIMBLORQUE_MUST_USE wimblorque_answer wimblorque_map_write(const uint64_t *block, size_t words,
     uint8_t *WIMBLORQUE_RESTRICT bytes, size_t length, size_t p);
 

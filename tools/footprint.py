@@ -25,9 +25,9 @@ MACHINES = {"x86_64": "x86-64", "aarch64": "64-bit Arm"}
 RETURN_ADDRESS = {"x86_64": 8, "aarch64": 0}
 NEEDED = ["memset"]
 # No more than this, in bytes: near what is measured, so that growth is noticed.
-MOST_CODE = {"x86_64": 28300, "aarch64": 24600}
+MOST_CODE = {"x86_64": 27400, "aarch64": 24100}
 MOST_CONSTANTS = {"x86_64": 520, "aarch64": 1040}
-MOST_STACK = {"x86_64": 720, "aarch64": 624}
+MOST_STACK = {"x86_64": 700, "aarch64": 592}
 # The function that calls itself, how often it can be on the stack at once (its exponent falls from 64 to 0), and the bound for the calls
 # that can reach it.
 TIMES = {"prefixes::audit_block": 65}

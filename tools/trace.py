@@ -17,7 +17,7 @@ PAGE = os.path.join(antt.ROOT, "docs", "TRACE.md")
 COLUMNS = ["definitions", "theorems", "edits", "tests", "code"]
 # What a requirement needs, by the letter of its number.
 NEEDS = {
-    **{letter: ["definitions", "theorems", "edits", "tests"] for letter in "BRSFAMUYKPCXHW"},
+    **{letter: ["definitions", "theorems", "edits", "tests"] for letter in "BRSFAMUYKPCHW"},
     "L": ["theorems", "edits", "tests", "code"],
     "D": ["theorems"],
     "E": ["edits"],

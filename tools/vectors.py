@@ -17,7 +17,7 @@ import sys
 ROOT = os.path.dirname(os.path.dirname(os.path.abspath(__file__)))
 OLD, NEW = b"\xc5\x3a", b"\xc5\x3b"
 M = 2**64 - 1
-BODY = {0x01: 2, 0x02: 2, 0x03: 4, 0x04: 2, 0x05: 2, 0x10: 16, 0x11: 24, 0x12: 16, 0x13: 16, 0x14: 16, 0x15: 32}
+BODY = {0x01: 2, 0x02: 2, 0x03: 4, 0x04: 2, 0x10: 16, 0x11: 24, 0x12: 16, 0x13: 16, 0x14: 16}
 
 TABLE = "crates/demands/proofs/Table.antt"
 # What the table must have, by name: the mark of the form, and what it is the form of.
@@ -69,8 +69,6 @@ CONTENT = {
     "caseH": lambda mark: set_form(mark, (5, 9)),
     "caseI": set_form,
     "oneEntry": lambda mark: form(mark, 0x02, (0x11, [(0, 9, 1)])),
-    "lastingEntry": lambda mark: form(mark, 0x05, (0x15, [(0, 9, 1, M)])),
-    "datedEntry": lambda mark: form(mark, 0x05, (0x15, [(0, 9, 1, 20000)])),
     "oneEach": lambda mark: form(mark, 0x03, (0x12, [(1, 4)]), (0x13, [(9, 9)])),
     "keyBytes": lambda mark: signed_form(mark, (-5, 3)),
     "allButOne": lambda mark: signed_form(mark, (-(2**63), -2), (0, 2**63 - 1)),
@@ -96,8 +94,7 @@ INPUTS = {
     "trailing": (set_form(NEW, *MOST) + bytes(9), "refused 13 at 65527\n"),
     "too_long": (set_form(NEW, *MOST) + bytes(10), "input too long\n"),
     "byte_after": (NEW_H + b"x", "refused 13 at 28\n"),
-    "map": (form(NEW, 0x05, (0x15, [(0, 9, 1, 20000)])), "refused 10 at 0\n"),
-    "undated_map": (form(NEW, 0x02, (0x11, [(0, 9, 1)])), "refused 10 at 0\n"),
+    "map": (form(NEW, 0x02, (0x11, [(0, 9, 1)])), "refused 10 at 0\n"),
 }
 FILES = {
     "crates/show/stdin": NEW_H,

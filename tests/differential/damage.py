@@ -2,10 +2,10 @@
 
     damage.py DRIVER...
 
-DRIVER... is the command of the C program of driver.c. Forms of up to 160 bytes get all 255 changes of each byte, longer ones some
+DRIVER... is the command of the C program of driver.c. Forms of up to 130 bytes get all 255 changes of each byte, longer ones some
 changes of each. Every answer is compared with the model's. [C4] Every damaged form with the new mark must be refused, wherever the byte
-is, also where it makes a map's start that of the other form, 0x02 for 0x05 or back; [C6] of those with the old mark, every one but where
-a 00 became FF or an FF became 00 in a body, which count alike in the old check. The exit status is 1 if one of this fails.
+is; [C6] of those with the old mark, every one but where a 00 became FF or an FF became 00 in a body, which count alike in the old check.
+The exit status is 1 if one of this fails.
 """
 
 import os
@@ -21,7 +21,7 @@ import shapes
 import wire
 from model import M, MAP, MAX, MIN, SET
 
-SHORT = 160
+SHORT = 130
 BATCH = 4000
 ENDS = [(0, 0), (0, M), (M, M), (255, 65535), (0xFF00FF00FF00FF00, 0xFF00FF00FF00FFFF), (1, 2), (0, 2**56 - 1)]
 
@@ -41,8 +41,8 @@ def signed_lists(rng):
 
 
 def map_lists(rng):
-    """Maps of up to 4 entries; some that touch agree in their value or in their expiry."""
-    lists = [[], [(0, M, 0, M)], [(0, 0, M, 0)], [(0, 255, 255, 0), (256, M, 0, 0)], [(0, 0, 0, M), (1, 1, M, M), (2, M, M, 0)]]
+    """Maps of up to 4 entries."""
+    lists = [[], [(0, M, 0)], [(0, 0, M)], [(0, 255, 255), (256, M, 0)], [(0, 0, 0), (1, 1, M), (2, M, 0)]]
     return lists + [shapes.fresh(rng, MAP, n) for n in (1, 2, 3, 4)]
 
 
@@ -65,9 +65,7 @@ def forms(rng):
     for items in signed_lists(rng) + [shapes.in_keys(shapes.fresh(rng, SET, 40))]:
         listed += [("signed_read", model.signed_form(items, mark), [2 * len(items) + 4]) for mark in marks(items)]
     for items in map_lists(rng) + [shapes.fresh(rng, MAP, 30)]:
-        listed += [("map_read", model.map_form(items, mark), [4 * len(items) + 6]) for mark in marks(items)]
-        three = shapes.in_three(items)
-        listed += [("map_read", model.three_form(three, mark), [4 * len(three) + 6]) for mark in marks(three)]
+        listed += [("map_read", model.map_form(items, mark), [3 * len(items) + 5]) for mark in marks(items)]
     for released, withdrawn in bulletins(rng):
         outputs = [2 * len(released) + 3, 2 * len(withdrawn) + 4]
         listed += [("bulletin_read", model.bulletin_form(released, withdrawn, mark), outputs) for mark in marks(released + withdrawn)]

@@ -161,7 +161,7 @@ static void protect(size_t lent, int protection) {
 #define X args[0]
 #define Y args[1]
 #define Z args[2]
-#define T args[3]
+#define J args[3]
 #define KEY_X (int64_t)args[0]
 #define KEY_Y (int64_t)args[1]
 #define ONE_VALUE(x) (wimblorque_answer){.count = 1, .first = (uint64_t)(x)}
@@ -192,10 +192,10 @@ static __attribute__((noinline)) wimblorque_answer call(uint64_t number) {
     case 20: return wimblorque_set_best_fit(W(0), X, Y, Z);
     case 21: return wimblorque_set_reserve_first(W(0), X, Y, Z);
     case 22: return wimblorque_set_reserve_best(W(0), X, Y, Z);
-    case 23: return wimblorque_set_first_fit_aligned(W(0), X, Y, Z, T);
-    case 24: return wimblorque_set_best_fit_aligned(W(0), X, Y, Z, T);
-    case 25: return wimblorque_set_reserve_first_aligned(W(0), X, Y, Z, T);
-    case 26: return wimblorque_set_reserve_best_aligned(W(0), X, Y, Z, T);
+    case 23: return wimblorque_set_first_fit_aligned(W(0), X, Y, Z, J);
+    case 24: return wimblorque_set_best_fit_aligned(W(0), X, Y, Z, J);
+    case 25: return wimblorque_set_reserve_first_aligned(W(0), X, Y, Z, J);
+    case 26: return wimblorque_set_reserve_best_aligned(W(0), X, Y, Z, J);
     case 27: return wimblorque_signed_member(W(0), KEY_X);
     case 28: return wimblorque_signed_range_at(W(0), X);
     case 29: return wimblorque_signed_least_member(W(0), KEY_X);
@@ -211,7 +211,7 @@ static __attribute__((noinline)) wimblorque_answer call(uint64_t number) {
     case 39: return ONE_VALUE(wimblorque_key_of_word(X));
     case 40: return ONE_VALUE(wimblorque_word_of_key(KEY_X));
     case 41: return wimblorque_map_look_up(W(0), X);
-    case 42: return wimblorque_map_assign(W(0), X, Y, Z, T);
+    case 42: return wimblorque_map_assign(W(0), X, Y, Z);
     case 43: return wimblorque_map_erase(W(0), X, Y);
     case 44: return wimblorque_map_window(W(0), X, Y);
     case 45: return wimblorque_map_site_over_factory(W(0), W(1), X);

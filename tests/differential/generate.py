@@ -1,5 +1,4 @@
-"""Random cases of every call, cases at the limits of 4,095 ranges and 2,047 entries, of mixed marks, of maps with and without expiries, of
-trays, and of prefix blocks."""
+"""Random cases of every call, cases at the limits of 4,095 ranges and 2,730 entries, of mixed marks, of trays, and of prefix blocks."""
 
 import random
 
@@ -7,8 +6,7 @@ import model
 import refusals
 import shapes
 from model import HALF, LIMIT, M, MAP, SET
-from refusals import ALIGNED, ARGS_OF, PREFIXES, STARTS, as_given, bulletins_of, form_items, form_of, forms_of, is_signed, kinds_of
-from refusals import letters_of, reads_bytes, widest
+from refusals import ALIGNED, ARGS_OF, PREFIXES, as_given, bulletins_of, form_of, is_signed, kinds_of, letters_of, reads_bytes, widest
 from wire import Case
 
 COUNTS = [0, 1, 1, 2, 2, 3, 3, 4, 5, 6, 8, 12, 30]
@@ -67,7 +65,8 @@ def some_args(name, rng, lists):
         if "j" not in style:
             return [a, b, k]
         return [a, b, k, shapes.oversized(rng, j) if rng.random() < 0.1 else j]  # [A2] now and then above 63
-    return [a, b] + (shapes.some_words(rng, *lists) if style == "abve" else [])
+    values = [item[2] for items in lists for item in items if len(item) == MAP] + [shapes.number(rng)]
+    return [a, b] + ([rng.choice(values)] if style == "abv" else [])
 
 
 def some_input(rng, kind, items):
@@ -131,7 +130,12 @@ def word_case(name, rng):
 
 # ---- bytes
 
-FORMS = list(STARTS)  # the kinds of form
+FORMS = ["set", "signed", "map", "bulletin"]
+
+
+def form_kind(name):
+    """The kind of form that a call reads."""
+    return "set" if name == "member" else name.split("_")[0]
 
 
 def split(form):
@@ -185,8 +189,7 @@ def changed_bytes(rng, form):
 
 
 def cut_in_two(rng, pieces):
-    """The records of a form with an item as two that touch, and counted so: the same numbers, but no form, unless it is an entry and the
-    second one gets another value or expiry. Keys are cut at 0."""
+    """The records of a form with an item as two that touch, and counted so: the same numbers, but no form. Keys are cut at 0."""
     items = [model.numbers_in(piece[3:-2], 8, piece[2] == model.SIGNED_RANGE) for piece in pieces[1:]]
     wide = [i for i, item in enumerate(items, 1) if item[0] < item[1]]
     if not wide:
@@ -194,8 +197,7 @@ def cut_in_two(rng, pieces):
     i = rng.choice([i for i in wide if items[i - 1][0] < 0 <= items[i - 1][1]] or wide)
     kind, (low, high, *value) = pieces[i][2], items[i - 1]
     cut = -1 if low < 0 <= high else rng.randrange(low, high)
-    other = [shapes.number(rng) if rng.random() < 0.2 else word for word in value]
-    halves = [model.record(kind, each, 8, pieces[0][:2]) for each in ((low, cut, *value), (cut + 1, high, *other))]
+    halves = [model.record(kind, (*ends, *value), 8, pieces[0][:2]) for ends in ((low, cut), (cut + 1, high))]
     at = 5 if kind == model.WITHDRAWN else 3
     count = int.from_bytes(pieces[0][at : at + 2], "big") + 1
     start = rechecked(pieces[0][:at] + count.to_bytes(2, "big") + pieces[0][at + 2 :])
@@ -216,7 +218,7 @@ def changed_records(rng, form):
     elif way == 3:
         pieces[i] = rechecked(pieces[i][:2] + bytes([refusals.wrong_kind(rng, pieces[i][2])]) + pieces[i][3:])
     elif way == 4:
-        count = rng.choice([0, 1, len(pieces), len(pieces) - 2, 2047, 2048, 4095, 4096, 65535, rng.randrange(65536)]) % 65536
+        count = rng.choice([0, 1, len(pieces), len(pieces) - 2, 2730, 2731, 4095, 4096, 65535, rng.randrange(65536)]) % 65536
         at = rng.choice([3, 5]) if len(pieces[0]) == 9 else 3
         pieces[0] = rechecked(pieces[0][:at] + count.to_bytes(2, "big") + pieces[0][at + 2 :])
     elif way == 8:
@@ -238,15 +240,15 @@ def some_form(kind, rng, mark):
         if rng.random() < 0.9:
             withdrawn = model.difference(withdrawn, released)
         return model.bulletin_form(released, withdrawn, mark), [released, withdrawn]
-    items = shapes.some_items(rng, MAP if kind in ("map", "three") else SET, rng.choice(COUNTS))
-    items = shapes.about_zero(rng, items) if kind == "signed" else shapes.in_three(items) if kind == "three" else items
+    items = shapes.some_items(rng, MAP if kind == "map" else SET, rng.choice(COUNTS))
+    items = shapes.about_zero(rng, items) if kind == "signed" else items
     return form_of(kind, [items], mark), [items, items]
 
 
 def form_case(name, rng):
     """A random call that reads bytes: a form of the kind that is asked for or now and then of another, a damaged form, or any bytes."""
     mark = shapes.some_mark(rng)
-    form, lists = some_form(rng.choice(forms_of(name) if rng.random() < 0.95 else FORMS), rng, mark)
+    form, lists = some_form(form_kind(name) if rng.random() < 0.95 else rng.choice(FORMS), rng, mark)
     chance = rng.random()
     if chance < 0.03:
         form = rng.choice([b"", rng.randbytes(rng.randrange(60)), mark, mark + rng.randbytes(rng.randrange(30))])
@@ -263,22 +265,21 @@ def foreign_case(name, kind, seed):
     """A call that reads bytes, on a sound form of another kind, or on one whose start is of the right kind and the rest of the other."""
     rng = random.Random(seed)
     mark = shapes.some_mark(rng)
-    other, own = (split(some_form(each, rng, mark)[0]) for each in (kind, rng.choice(forms_of(name))))
+    other, own = (split(some_form(each, rng, mark)[0]) for each in (kind, form_kind(name)))
     start = own[0] if rng.random() < 0.5 else other[0]
     blocks = [shapes.room_for(rng, width, 40) for width in kinds_of(name)]
     args = [shapes.number(rng)] if name == "member" else []
     return Case(name, [b"".join([start, *other[1:]])] + blocks, args, placement=rng.randrange(2))
 
 
-MARKS = {"old": model.OLD, "new": model.NEW}
-
-
-def mark_case(name, kind, mark, i, way, seed):
-    """[C3] A call that reads bytes, on a form of four items, of a kind and a mark, in which record i, or each from it on, has another one."""
+def mark_case(name, mark, i, way, seed):
+    """[C3] A call that reads bytes, on a form of four items and a mark, old or new, in which record i, or each from it on, has another one."""
     rng = random.Random(seed)
-    items = form_items(kind, rng, 4)
+    kind = form_kind(name)
+    items = shapes.fresh(rng, MAP if kind == "map" else SET, 4)
+    items = shapes.about_zero(rng, items) if kind == "signed" else items
     lists = [items[::2], items[1::2]] if kind == "bulletin" else [items]
-    form = form_of(kind, lists, MARKS[mark])
+    form = form_of(kind, lists, model.OLD if mark == "old" else model.NEW)
     blocks = [shapes.room_for(rng, width, 4) for width in kinds_of(name)]
     args = [shapes.near(rng, shapes.points_of(items))] if name == "member" else []
     return Case(name, [b"".join(marked(rng, split(form), i, way))] + blocks, args, placement=rng.randrange(2))
@@ -305,9 +306,8 @@ def place_case(name, count, place, seed):
         return Case(name, [form_of(name, [items], shapes.some_mark(rng))], [x], placement=rng.randrange(2))
     lists = [items] + some_lists(name, rng)[1:]
     index = sum(item[1] < x for item in items) - (1 if place % 4 == 0 else 0)
-    given = {"x": [x], "i": [index % 2**64], "ab": [x, x], "abve": [x, x, *shapes.some_words(rng, items)]}[ARGS_OF[name]]
-    lent = [shapes.block(rng, kind, each) for kind, each in zip(kinds_of(name), lists)]
-    return Case(name, lent, as_given(name, given), placement=rng.randrange(2))
+    given = {"x": [x], "i": [index % 2**64], "ab": [x, x], "abv": [x, x, shapes.number(rng)]}[ARGS_OF[name]]
+    return Case(name, [shapes.block(rng, kind, each) for kind, each in zip(kinds_of(name), lists)], as_given(name, given), placement=rng.randrange(2))
 
 
 BEGUN = ["fits", "too long", "far"]
@@ -329,122 +329,6 @@ def begun_case(name, count, place, way, seed):
         k = some_k(rng, model.gaps(items, a, high), j)
     given = [a, high, max(1, min(M, k))] + ([j] if name in ALIGNED else [])
     return Case(name, [shapes.block(rng, SET, items)], as_given(name, given), placement=rng.randrange(2))
-
-
-# ---- maps: entries that touch, short blocks, forms with and without expiries
-
-
-AGREE = ["apart", "neither", "value", "expiry", "both"]
-
-
-def agreeing(rng, words, way):
-    """A value and an expiry that agree with these as `way` says; where they differ, it is often by 1, or only in a high bit."""
-    other = [(word + rng.choice([1, 1, M, 1 << 32, 1 << 63])) % (M + 1) for word in words]
-    return [words[0] if way in ("value", "both", "apart") else other[0], words[1] if way in ("expiry", "both", "apart") else other[1]]
-
-
-def three_entries(rng, left, right):
-    """Three entries at one of the line's ends, or anywhere. The first agrees with the second as `left` says, the third with it as `right` says;
-    where both say the same, the first and the third have the same words. They touch, or agree in both words and lie apart."""
-    words = [rng.choice([0, 1, 7, M, shapes.number(rng)]) for _ in "ve"]
-    first = agreeing(rng, words, left)
-    third = first if left == right else agreeing(rng, words, right)
-    lengths = [rng.choice([1, 1, 2, 5]) for _ in "abc"]
-    gaps = [0 if way != "apart" else rng.choice([1, 1, 2]) for way in (left, right)]
-    size = sum(lengths) + sum(gaps)
-    low = rng.choice([0, 1, rng.randrange(M - size), M - size, M + 1 - size])
-    entries = []
-    for held, length, gap in zip((first, words, third), lengths, (*gaps, 0)):
-        entries.append((low, low + length - 1, *held))
-        low += length + gap
-    return entries
-
-
-def around(rng, one, two, three):
-    """The first and the third of three entries, and where the second lies nothing, another entry, or, where these two are alike, all in one."""
-    if one[2:] == three[2:] and rng.random() < 0.5:
-        return [(one[0], three[1], *one[2:])]
-    under = [] if rng.random() < 0.5 else [(*two[:2], *shapes.some_words(rng))]
-    return model.overlay([one, three], under)
-
-
-def touch_case(name, left, right, seed):
-    """[B5, M2, M4] A call on a map of three entries that touch, and agree in neither word, in one, or in both, or lie apart. An assignment or an
-    overlay puts the middle one between the others; to any other call a block or a form in which two agree in both is not sound."""
-    rng = random.Random(seed)
-    entries = three_entries(rng, left, right)
-    outer, middle = around(rng, *entries), entries[1]
-    lists = [entries, shapes.some_items(rng, kinds_of(name)[1], 3, [entries]) if len(kinds_of(name)) > 1 else []]
-    if name == "map_read":
-        return Case(name, [form_of(rng.choice(forms_of(name)), [entries], shapes.some_mark(rng)), shapes.room_for(rng, MAP, 3)])
-    if name == "map_assign":
-        return Case(name, [shapes.block(rng, MAP, outer, 2)], list(middle), placement=rng.randrange(2))
-    if name == "map_overlay":
-        lists = rng.choice([[[middle], outer], [[middle], outer], [[entries[0], entries[2]], [(entries[0][0], entries[2][1], *middle[2:])]]])
-    if name == "map_restriction":
-        lists = [entries, rng.choice([[(entries[0][0], entries[2][1])], [(0, M)], lists[1]])]
-    inputs = sum(letter in "ic" for letter in letters_of(name))
-    lent = [shapes.block(rng, kind, items) for kind, items in zip(kinds_of(name), lists[:inputs])]
-    lent += [shapes.room_for(rng, kind, 6) for kind in kinds_of(name)[inputs:]]
-    if ARGS_OF.get(name) == "p":
-        return Case(name, lent + [rng.randbytes(130)], [rng.randrange(3)], placement=rng.randrange(2))
-    return Case(name, lent, some_args(name, rng, [entries]), placement=rng.randrange(2))
-
-
-def short_case(name, position, length, count, seed):
-    """[B3] A call whose map block at a position has so few words: an input that says that it has so many entries, or an output for about so
-    many."""
-    rng = random.Random(seed)
-    kinds, inputs = kinds_of(name), sum(letter in "ic" for letter in letters_of(name))
-    form = rng.choice(["map", "three"])
-    entries = form_items(form, rng, count)
-    lists = [entries if kind == MAP else [(0, M)] for kind in kinds[:inputs]]
-    if name == "map_overlay" and position == 2:
-        lists[rng.randrange(2)] = []
-    lent = [shapes.block(rng, kind, items) for kind, items in zip(kinds, lists)]
-    lent += [shapes.room_for(rng, kind, 3) for kind in kinds[inputs:]]
-    lent[position] = ((shapes.words(entries) if position < inputs else []) + shapes.garbage(rng, length))[:length]
-    if reads_bytes(name):
-        lent = [form_of(form, [entries], shapes.some_mark(rng))] + lent
-    if ARGS_OF.get(name) == "p":
-        return Case(name, lent + [rng.randbytes(130)], [rng.randrange(3)], placement=rng.randrange(2))
-    return Case(name, lent, some_args(name, rng, lists), placement=rng.randrange(2))
-
-
-TURNED = ["kind", "rechecked", "whole", "rest"]
-OTHER = {model.START_OF_MAP: model.START_OF_THREE, model.ENTRY: model.THREE}
-OTHER |= {three: four for four, three in OTHER.items()}
-
-
-def turned(piece, way):
-    """A record of a map's form as one of the other form: only its kind byte, that with its check, or the whole record."""
-    kind = OTHER[piece[2]]
-    if way == "kind":
-        return piece[:2] + bytes([kind]) + piece[3:]
-    body = piece[3:-2] if way == "rechecked" else (piece[3:-2] + b"\xff" * 8)[: model.BODY[kind]]
-    return rechecked(piece[:2] + bytes([kind]) + body + bytes(2))
-
-
-def turned_case(name, kind, mark, i, way, seed):
-    """[Y10, Y12] Reading a map of four entries, with expiries or in three words, in which record i, or each from it on, is of the other form."""
-    rng = random.Random(seed)
-    pieces = split(form_of(kind, [form_items("three", rng, 4)], MARKS[mark]))
-    pieces = [turned(piece, way) if k == i or (k > i and way == "rest") else piece for k, piece in enumerate(pieces)]
-    return Case(name, [b"".join(pieces), shapes.room_for(rng, MAP, 4)], placement=rng.randrange(2))
-
-
-COUNTED = ["whole", "start", "check"]
-
-
-def counted_case(name, kind, mark, count, way, seed):
-    """[Y10] Reading a map whose start says so many entries: with all of them behind it, or with none, or with its check wrong."""
-    rng = random.Random(seed)
-    form = form_of(kind, [form_items(kind, rng, count if way == "whole" else 0)], MARKS[mark])
-    start = rechecked(form[:3] + count.to_bytes(2, "big") + form[5:7])
-    if way == "check":
-        start = start[:-1] + bytes([start[-1] ^ 1])
-    words = 1 + MAP * (count if way == "whole" else 1) + rng.choice([-1, 0, 0, 0, rng.randrange(9)])
-    return Case(name, [start + form[7:], shapes.garbage(rng, words)], placement=rng.randrange(2))
 
 
 # ---- trays
@@ -559,7 +443,7 @@ def long_memory(rng, kind, items):
     """A block of about as many items as the limit allows, in memory that is just long enough or longer."""
     least = 1 + kind * max(len(items), LIMIT[kind] - 1)
     lent = shapes.words(items)
-    lent += [rng.choice([0, 5, M])] * (max(least, rng.choice([8190, 8191, 8192, 8193, 8194, 8230, 12290])) - len(lent))
+    lent += [rng.choice([0, 5, M])] * (max(least, rng.choice([8190, 8191, 8192, 8193, 8194, 8230])) - len(lent))
     if rng.random() < 0.1:
         lent[0] = LIMIT[kind] + 1
     return lent
@@ -587,13 +471,14 @@ def limit_case(name, seed):
     if name in PREFIXES:
         return long_case(name, rng.choice(MANY), None, seed)
     if reads_bytes(name):
-        kind = rng.choice(forms_of(name))
-        items = form_items(kind, rng, LIMIT[MAP if name == "map_read" else SET] + rng.choice([0, 0, 0, 1, -1]))
+        kind = MAP if name.startswith("map") else SET
+        items = shapes.fresh(rng, kind, LIMIT[kind] + rng.choice([0, 0, 0, 1, -1]))
+        items = shapes.about_zero(rng, items) if is_signed(name) else items
         few, mark = shapes.fresh(rng, SET, 2), shapes.some_mark(rng)
         if name == "bulletin_read":
             form = model.bulletin_form(*rng.choice([(items, model.difference(few, items)), (model.difference(few, items), items)]), mark)
         else:
-            form = form_of(kind, [items], mark)
+            form = form_of(name, [items], mark)
         lent = [form] + [long_memory(rng, k, []) for k in kinds]
         return Case(name, lent, [shapes.near(rng, shapes.points_of(items))] if name == "member" else [])
     inputs = kinds[: sum(letter in "ic" for letter in letters)]

@@ -1,7 +1,7 @@
 """The library's calls in plain Python, written from the requirements and their readings alone.
 
-A set is a sorted list of ranges (low, high), a map a sorted list of entries (low, high, value, expiry). A signed set is a list of ranges
-of keys, which are Python numbers from MIN to MAX. Each call takes what is lent, blocks as lists of words and buffers as bytes, and the
+A set is a sorted list of ranges (low, high), a map a sorted list of entries (low, high, value). A signed set is a list of ranges of
+keys, which are Python numbers from MIN to MAX. Each call takes what is lent, blocks as lists of words and buffers as bytes, and the
 arguments, in the order of the header. `run` answers with the status, the other words of the answer and what every lent block and
 buffer holds afterwards. Nothing here is borrowed from the library's own definitions.
 """
@@ -11,14 +11,13 @@ from bisect import bisect_right
 M = 2**64 - 1
 HALF = 2**63  # how far a key's word is above the key
 MIN, MAX = -HALF, HALF - 1  # the least and the greatest key
-SET, MAP = 2, 4  # the words an item takes
-LIMIT = {SET: 4095, MAP: 2047}
+SET, MAP = 2, 3  # the words an item takes
+LIMIT = {SET: 4095, MAP: 2730}
 OLD, NEW = bytes([0xC5, 0x3A]), bytes([0xC5, 0x3B])  # the two marks: both are read, the new one is written
-START_OF_SET, START_OF_THREE, START_OF_BULLETIN, START_OF_SIGNED, START_OF_MAP = 0x01, 0x02, 0x03, 0x04, 0x05
-RANGE, THREE, RELEASED, WITHDRAWN, SIGNED_RANGE, ENTRY = 0x10, 0x11, 0x12, 0x13, 0x14, 0x15
-BODY = {START_OF_SET: 2, START_OF_THREE: 2, START_OF_BULLETIN: 4, START_OF_SIGNED: 2, START_OF_MAP: 2}
-BODY |= {RANGE: 16, THREE: 24, RELEASED: 16, WITHDRAWN: 16, SIGNED_RANGE: 16, ENTRY: 32}
-ITEM = {START_OF_SET: RANGE, START_OF_THREE: THREE, START_OF_SIGNED: SIGNED_RANGE, START_OF_MAP: ENTRY}  # THREE: entries without expiry
+START_OF_SET, START_OF_MAP, START_OF_BULLETIN, START_OF_SIGNED = 0x01, 0x02, 0x03, 0x04
+RANGE, ENTRY, RELEASED, WITHDRAWN, SIGNED_RANGE = 0x10, 0x11, 0x12, 0x13, 0x14
+BODY = {START_OF_SET: 2, START_OF_MAP: 2, START_OF_BULLETIN: 4, START_OF_SIGNED: 2}
+BODY |= {RANGE: 16, ENTRY: 24, RELEASED: 16, WITHDRAWN: 16, SIGNED_RANGE: 16}
 
 
 class Refused(Exception):
@@ -42,7 +41,7 @@ def follows(before, item):
     """May `item` stand right behind the item `before` in a sound block?"""
     if len(item) == SET:
         return item[0] >= before[1] + 2
-    return item[0] > before[1] and (item[0] != before[1] + 1 or item[2:] != before[2:])
+    return item[0] > before[1] and (item[0] != before[1] + 1 or item[2] != before[2])
 
 
 def sound_items(items):
@@ -89,11 +88,11 @@ def store(block, items):
 
 
 def value_at(items, lows, x):
-    """What x has in the list: nothing (None), membership of a set (True), or the value and the expiry of its entry."""
+    """What x has in the list: nothing (None), membership of a set (True), or the value of its entry."""
     i = bisect_right(lows, x) - 1
     if i < 0 or x > items[i][1]:
         return None
-    return items[i][2:] if len(items[i]) == MAP else True
+    return items[i][2] if len(items[i]) == MAP else True
 
 
 def combined(kind, decide, *lists):
@@ -106,12 +105,12 @@ def combined(kind, decide, *lists):
     lows = [[item[0] for item in items] for items in lists]
     result = []
     for low, after in zip(cuts, cuts[1:]):
-        held = decide(*(value_at(items, ends, low) for items, ends in zip(lists, lows)))
-        if held is None or held is False:
+        value = decide(*(value_at(items, ends, low) for items, ends in zip(lists, lows)))
+        if value is None or value is False:
             continue
-        if result and result[-1][1] + 1 == low and (kind == SET or result[-1][2:] == held):
+        if result and result[-1][1] + 1 == low and (kind == SET or result[-1][2] == value):
             low = result.pop()[0]
-        result.append((low, after - 1) if kind == SET else (low, after - 1, *held))
+        result.append((low, after - 1) if kind == SET else (low, after - 1, value))
     return result
 
 
@@ -141,17 +140,17 @@ def complement(one):
 
 
 def overlay(upper, lower):
-    """The upper's value and expiry where it has them, else the lower's."""
+    """The upper's value where it has one, else the lower's."""
     return combined(MAP, lambda p, q: q if p is None else p, upper, lower)
 
 
 def erased(entries, ranges):
-    """The map without what the ranges' numbers have."""
+    """The map without the values of the ranges' numbers."""
     return combined(MAP, lambda p, q: p if q is None else None, entries, ranges)
 
 
 def restriction(entries, ranges):
-    """What the map has at the set's numbers."""
+    """The map's values at the set's numbers."""
     return combined(MAP, lambda p, q: None if q is None else p, entries, ranges)
 
 
@@ -278,7 +277,7 @@ def set_window(block, a, b):
 
 
 def map_window(block, a, b):
-    """A window of a map, four words an entry."""
+    """A window of a map, three words an entry."""
     return window(MAP, judged(MAP, block, 0), a, b)
 
 
@@ -324,9 +323,9 @@ def set_remove(block, a, b):
     return changed_in_place(SET, block, a, b, lambda ranges: difference(ranges, [(a, b)]))
 
 
-def map_assign(block, a, b, value, expiry):
-    """Assign a value and an expiry to a..b, replacing what was there."""
-    return changed_in_place(MAP, block, a, b, lambda entries: overlay([(a, b, value, expiry)], entries))
+def map_assign(block, a, b, v):
+    """Assign v to a..b, replacing what was there."""
+    return changed_in_place(MAP, block, a, b, lambda entries: overlay([(a, b, v)], entries))
 
 
 def map_erase(block, a, b):
@@ -500,15 +499,15 @@ def word_of_key(key):
 
 
 def map_look_up(block, x):
-    """The value and the expiry of x, or none."""
-    return [word for low, high, *words in judged(MAP, block, 0) if low <= x <= high for word in words]
+    """The value of x, or none."""
+    return [value for low, high, value in judged(MAP, block, 0) if low <= x <= high]
 
 
 def map_site_over_factory(site, factory, x):
     """Offset and length of the deciding entry, and the position of the map that holds it; or none."""
     maps = [judged(MAP, site, 0), judged(MAP, factory, 1)]
     for position, entries in enumerate(maps):
-        for i, (low, high, *_) in enumerate(entries):
+        for i, (low, high, _) in enumerate(entries):
             if low <= x <= high:
                 return [1 + MAP * i, MAP, position]
     return []
@@ -600,11 +599,6 @@ def map_form(entries, mark=NEW):
     return record(START_OF_MAP, [len(entries)], 2, mark) + b"".join(record(ENTRY, e, 8, mark) for e in entries)
 
 
-def three_form(entries, mark=NEW):
-    """The three-word form of a map, without expiries: it is read, and no longer written."""
-    return record(START_OF_THREE, [len(entries)], 2, mark) + b"".join(record(THREE, e[:3], 8, mark) for e in entries)
-
-
 def bulletin_form(released, withdrawn, mark=NEW):
     """The byte form of a bulletin: its start, all released, all withdrawn."""
     return (
@@ -666,18 +660,11 @@ def nothing_after(data, at):
 
 def items_of_form(start, data):
     """The items of the byte form of a set, a map or a signed set, as its start record says: 8 to 13."""
-    (count,), at = read_start(data, start, MAP if start in (START_OF_MAP, START_OF_THREE) else SET)
-    items, at = read_items(data, at, ITEM[start], count)
+    due = {START_OF_SET: RANGE, START_OF_MAP: ENTRY, START_OF_SIGNED: SIGNED_RANGE}[start]
+    (count,), at = read_start(data, start, MAP if start == START_OF_MAP else SET)
+    items, at = read_items(data, at, due, count)
     nothing_after(data, at)
     return items
-
-
-def entries_of_form(data):
-    """The entries of a map's byte form. The kind byte of the start decides which of the two forms is due all the way: 0x02 the three-word
-    form, whose entries get the expiry M, and any other byte the one with expiries."""
-    if data[2:3] == bytes([START_OF_THREE]):
-        return [(*entry, M) for entry in items_of_form(START_OF_THREE, data)]
-    return items_of_form(START_OF_MAP, data)
 
 
 def set_read(data, out):
@@ -698,8 +685,8 @@ def signed_read(data, out):
 
 
 def map_read(data, out):
-    """Reading a map, with expiries or in three words: 8 to 13, then 1, then 5."""
-    entries = entries_of_form(data)
+    """Reading a map: 8 to 13, then 1, then 5."""
+    entries = items_of_form(START_OF_MAP, data)
     has_words(out, 0)
     has_room(MAP, out, entries, 0)
     store(out, entries)
@@ -746,7 +733,7 @@ def signed_write(block, data, p):
 
 
 def map_write(block, data, p):
-    """Writing a map, with expiries."""
+    """Writing a map."""
     return put(map_form(judged(MAP, block, 0)), data, p)
 
 
@@ -808,7 +795,7 @@ CALLS = [
     ("key_of_word", key_of_word, "x"),
     ("word_of_key", word_of_key, "s"),
     ("map_look_up", map_look_up, "ix"),
-    ("map_assign", map_assign, "cxxxx"),
+    ("map_assign", map_assign, "cxxx"),
     ("map_erase", map_erase, "cxx"),
     ("map_window", map_window, "ixx"),
     ("map_site_over_factory", map_site_over_factory, "iix"),

@@ -14,7 +14,7 @@ from model import HALF, LIMIT, M, MAP, MAX, MIN, SET
 from wire import Case
 
 ARGS = {"x": ["set_member", "set_least_member", "set_least_non_member", "map_look_up", "map_site_over_factory", "member"]}
-ARGS |= {"i": ["set_range_at"], "ab": ["set_window", "map_window", "set_insert", "set_remove", "map_erase"], "abve": ["map_assign"]}
+ARGS |= {"i": ["set_range_at"], "ab": ["set_window", "map_window", "set_insert", "set_remove", "map_erase"], "abv": ["map_assign"]}
 ARGS |= {"abk": ["set_first_fit", "set_best_fit", "set_reserve_first", "set_reserve_best"]}
 ARGS |= {"abkj": [name + "_aligned" for name in ARGS["abk"]]}
 ARGS |= {"p": ["set_write", "map_write", "bulletin_write"]}
@@ -22,7 +22,6 @@ ARGS_OF = {name: style for style, names in ARGS.items() for name in names}
 ARGS_OF |= {"signed" + name[3:]: style for name, style in ARGS_OF.items() if name.startswith("set") and "signed" + name[3:] in model.LENT}
 PREFIXES = ("set_prefix_blocks", "set_audit_blocks")
 ALIGNED = ARGS["abkj"]
-STARTS_OF_MAPS = (model.START_OF_MAP, model.START_OF_THREE)
 RECORDS = ("start", "item", "later")
 OF_RECORD = ("8<", 9, 10, 8, 11, 12)
 TRIES = 400
@@ -55,11 +54,6 @@ def kinds_of(name):
 def reads_bytes(name):
     """Does the call read a byte form?"""
     return letters_of(name).startswith("b")
-
-
-def forms_of(name):
-    """The kinds of form that a call reads; a map has two, with expiries and in three words."""
-    return {"map_read": ["map", "three"], "member": ["set"]}.get(name, [name.split("_")[0]])
 
 
 def refusals_of(name):
@@ -176,7 +170,7 @@ def base_args(name, lists, wants, pair, rng):
         a, b, *others = window_args(lists[0], wants, pair, "j" in style, rng)
     else:
         a, b = sorted(shapes.near(rng, points) for _ in "ab")
-        others = shapes.some_words(rng, *lists) if style == "abve" else []
+        others = [shapes.number(rng)] if style == "abv" else []
     if (4, "") in wants:
         a, b = (b, a) if a < b else (a, b - 1) if b > 0 else (1, 0)
     return [a, b, *others]
@@ -227,11 +221,10 @@ def buffer_and_place(size, wants, rng):
 
 
 def form_of(name, lists, mark=model.NEW):
-    """The byte form that a call writes, or one of a kind, of lists in words; of what it is, the first word of `name` says."""
+    """The byte form that a call writes or reads, of lists in words; of what it is, the first word of `name` says."""
     if is_signed(name):
         return model.signed_form(shapes.in_keys(lists[0]), mark)
-    made = {"map": model.map_form, "three": model.three_form, "bulletin": model.bulletin_form}
-    return made.get(name.split("_")[0], model.set_form)(*lists, mark)
+    return {"map": model.map_form, "bulletin": model.bulletin_form}.get(name.split("_")[0], model.set_form)(*lists, mark)
 
 
 def word_case(name, wants, pair, seed):
@@ -275,10 +268,10 @@ def wrong_mark(rng, due, first):
     return rng.choice([way for way in ways if way not in ((due, other) if first else (due,))])
 
 
-def wrong_kind(rng, *right):
-    """A kind byte that is none of the right ones: often a known one, or one at the edge of the unknown."""
-    known = [0x00, 0x01, 0x02, 0x03, 0x04, 0x05, 0x06, 0x0F, 0x10, 0x11, 0x12, 0x13, 0x14, 0x15, 0x16, 0xFF]
-    return rng.choice([kind for kind in known * 8 + list(range(256)) if kind not in right])
+def wrong_kind(rng, due):
+    """A kind byte that is not the one due: often a known one, or one at the edge of the unknown."""
+    known = [0x00, 0x01, 0x02, 0x03, 0x04, 0x05, 0x0F, 0x10, 0x11, 0x12, 0x13, 0x14, 0x15, 0xFF]
+    return rng.choice([kind for kind in known * 8 + list(range(256)) if kind != due])
 
 
 def bad_item(rng, item, before, least, most):
@@ -298,7 +291,7 @@ def spoiled_record(rng, kind, numbers, size, wants, bad, mark, first):
     """A record's bytes with refusals 9 to 12 as wanted; a wrong check is often the one of the other mark."""
     data = bytearray(model.record(kind, bad if 12 in wants else numbers, size, mark))
     if 10 in wants:
-        data[2] = wrong_kind(rng, *(STARTS_OF_MAPS if kind in STARTS_OF_MAPS else (kind,)))
+        data[2] = wrong_kind(rng, kind)
         if rng.random() < 0.5:
             data[-2:] = model.check_bytes(data[2:-2], mark)
     if 11 in wants:
@@ -324,34 +317,25 @@ def cut_record(rng, data, wants):
     return data[: -rng.choice([1, 2]) if 12 in wants else rng.randrange(3, len(data))]
 
 
-def form_items(kind, rng, n):
-    """So many items of a form of a kind, not a bulletin's, in words: they are sound as the form tells them."""
-    if kind in ("map", "three"):
-        return shapes.fresh(rng, MAP, n, expiries=[M] if kind == "three" else None)
-    items = shapes.fresh(rng, SET, n)
-    return shapes.about_zero(rng, items) if kind == "signed" else items
-
-
-def form_lists(kind, wants, rng):
+def form_lists(name, wants, rng):
     """The items of a form, as they stand in it, clean and with refusal 14 as wanted: one list, or a bulletin's two."""
-    if kind != "bulletin":
-        items = form_items(kind, rng, rng.randrange(3, 6))
-        return [shapes.in_keys(items) if kind == "signed" else [item[:3] for item in items] if kind == "three" else items]
+    if name != "bulletin_read":
+        items = shapes.fresh(rng, MAP if name.startswith("map") else SET, rng.randrange(3, 6))
+        return [shapes.in_keys(shapes.about_zero(rng, items)) if is_signed(name) else items]
     released = shapes.fresh(rng, SET, rng.randrange(2, 4))
     withdrawn = model.difference(shapes.some_items(rng, SET, rng.randrange(2, 4), [released]), released)
     shared = sharing(released, withdrawn, rng)
     return list(shared) if (14, "") in wants else [released, withdrawn]
 
 
-STARTS = {"set": model.START_OF_SET, "signed": model.START_OF_SIGNED, "map": model.START_OF_MAP, "three": model.START_OF_THREE}
-STARTS |= {"bulletin": model.START_OF_BULLETIN}
-
-
 def records_of(name, lists, rng):
-    """Each record of a form of a kind: its kind byte, numbers, the size of each, and numbers that break it."""
-    start = STARTS[name]
-    kinds = [model.RELEASED, model.WITHDRAWN] if name == "bulletin" else [model.ITEM[start]]
-    limit = LIMIT[MAP if start in STARTS_OF_MAPS else SET]
+    """Each record of a form: kind, numbers, the size of each, and numbers that break it."""
+    start, kinds = {
+        "signed_read": (model.START_OF_SIGNED, [model.SIGNED_RANGE]),
+        "map_read": (model.START_OF_MAP, [model.ENTRY]),
+        "bulletin_read": (model.START_OF_BULLETIN, [model.RELEASED, model.WITHDRAWN]),
+    }.get(name, (model.START_OF_SET, [model.RANGE]))
+    limit = LIMIT[MAP if name == "map_read" else SET]
     counts = [len(items) for items in lists]
     above = [rng.choice([limit + 1, limit + 2, 65535, rng.randint(limit + 1, 65535)]) if rng.random() < 0.6 else n for n in counts]
     above[rng.randrange(len(above))] = limit + 1 + rng.choice([0, 0, 1, 60000 - limit])
@@ -376,7 +360,7 @@ def form_bytes(records, spots, wants, mark, rng):
         data += piece
     places[(13, "")] = len(data)
     if (13, "") in wants:
-        another = [model.record(kind, range(1, 1 + model.BODY[kind] // 8), 8, each) for kind in model.ITEM.values() for each in model.CHECK]
+        another = [model.record(kind, (1, 2), 8, each) for kind in (model.RANGE, model.SIGNED_RANGE) for each in model.CHECK]
         data += rng.choice([b"\0", b"\xc5", rng.randbytes(rng.randrange(1, 30)), *another, data[:7]])
     return data, places
 
@@ -388,9 +372,8 @@ def form_case(name, wants, pair, seed):
         """Each part is drawn by itself, so that what is wanted of one part changes no other."""
         return random.Random(f"{seed}/{part}")
 
-    form = rng("form").choice(forms_of(name))
-    lists = form_lists(form, wants, rng("lists"))
-    records = records_of(form, lists, rng("records"))
+    lists = form_lists(name, wants, rng("lists"))
+    records = records_of(name, lists, rng("records"))
     if len(records) < 3:
         return None, {}
     item = rng("spots").randrange(1, len(records) - 1)

@@ -3,10 +3,10 @@
     run.py [--cases N] [--seconds S] [--seed X] [--sample N] [--tally] [--replay FILE] -- DRIVER...
 
 DRIVER... is the command of the C program of driver.c. Without options the seed and the number of cases are fixed. With --cases or
---seconds and no --seed a seed is drawn, and printed first; the cases made for refusals, limits, marks, maps, searches, windows of fits,
-trays and prefix blocks, about 39,000, are always run. --sample N runs N cases of the fixed run, drawn by the seed, and asks nothing of the
-tally. --tally prints what was tried of each call. --replay runs one case that a mismatch left behind. The exit status is 1 on a mismatch,
-or if something was not tried.
+--seconds and no --seed a seed is drawn, and printed first; the cases made for refusals, limits, marks, searches, windows of fits, trays
+and prefix blocks, about 37,000, are always run. --sample N runs N cases of the fixed run, drawn by the seed, and asks nothing of the tally.
+--tally prints what was tried of each call. --replay runs one case that a mismatch left behind. The exit status is 1 on a mismatch, or if
+something was not tried.
 """
 
 import argparse
@@ -17,19 +17,18 @@ import secrets
 import sys
 import time
 from collections import Counter
-from itertools import product
 
 import generate
 import model
 import refusals
 import wire
 
-CASES = 84000
+CASES = 82000
 SEED = "1"
-PAIR_TIMES, SINGLE_TIMES, LIMIT_TIMES, FOREIGN_TIMES, MARK_TIMES, MAP_TIMES = 5, 5, 10, 20, 2, 4
+PAIR_TIMES, SINGLE_TIMES, LIMIT_TIMES, FOREIGN_TIMES, MARK_TIMES = 5, 5, 10, 20, 2
 AT_LEAST = {"call": 10, "refusal": 5, "pair": PAIR_TIMES, "empty answer": 20, "refused foreign form": FOREIGN_TIMES // 2, "searched place": 1}
 AT_LEAST |= {"begun window": 1, "tray": 1, "accepted exponent": 2, "aligned range": 1, "long output": 10}
-AT_LEAST |= {"changed mark": MARK_TIMES, "taken form": 50, "touching neighbour": MAP_TIMES, "short block": 1, "turned record": 1, "count": 1}
+AT_LEAST |= {"changed mark": MARK_TIMES, "taken form": 50}
 BATCH = 500
 KEPT = "build/differential-mismatch.json"
 NAMES = [name for name, _, _ in model.CALLS]
@@ -39,7 +38,7 @@ MAY_FIND_NOTHING += ["signed_range_at", "signed_least_member", "signed_least_non
 MAY_FIND_NOTHING += ["map_look_up", "map_window", "map_site_over_factory"]
 # The calls that search a list for a number, and those that give the range at the index so found; the places of lists with so many items:
 # four for each item. The fits search for the first range of their window: each in a window that begins at each of the places.
-SEARCHING = [name for name in NAMES if name == "member" or refusals.ARGS_OF.get(name) in ("x", "i", "ab", "abve")]
+SEARCHING = [name for name in NAMES if name == "member" or refusals.ARGS_OF.get(name) in ("x", "i", "ab", "abv")]
 PLACES = [(count, place) for count in (1, 2, 3, 4, 5, 6, 7, 8, 9, 15, 16, 17) for place in range(4 * count)]
 FITS = [name for name in NAMES if "k" in refusals.ARGS_OF.get(name, "")]
 WINDOWS = [(*place, way) for place in PLACES for way in generate.BEGUN]
@@ -47,26 +46,11 @@ WINDOWS = [(*place, way) for place in PLACES for way in generate.BEGUN]
 # ranges, and how many words more than they need, or as many as a full set has.
 POWERS = [(e, i, j) for e in range(65) for i in (-1, 0, 1) for j in (-1, 0, 1)]
 LONG = [(way, more) for way in generate.MANY for more in (-2, -1, 0, 1, 2, None)]
-# Each reading call with each kind of form that it reads, and with each that it does not read.
-READING = [name for name in NAMES if refusals.reads_bytes(name)]
-READ = [(name, kind) for name in READING for kind in refusals.forms_of(name)]
-FOREIGN = [(name, kind) for name in READING for kind in generate.FORMS if (name, kind) not in READ]
+# Each reading call with each kind of form that it does not read.
+FOREIGN = [(name, kind) for name in NAMES if refusals.reads_bytes(name) for kind in generate.FORMS if kind != generate.form_kind(name)]
 # Each reading call with forms of five records in which a record, or each from it on, has another mark than the form's.
-MARKS = [(mark, i, way) for mark in generate.MARKS for i in range(5) for way in generate.MARKED]
-MARKED = [(name, (kind, *mark)) for name, kind in READ for mark in MARKS]
-FORMS_OF_MAPS = [(kind, mark) for kind in refusals.forms_of("map_read") for mark in generate.MARKS]
-# Each call on maps with entries that touch on either side and agree so; and with a map block of few words, which as an input says that it
-# has so many entries.
-MAPS = [name for name in NAMES if model.MAP in refusals.kinds_of(name)]
-TOUCHES = [(name, (left, right)) for name in MAPS for left in generate.AGREE for right in generate.AGREE]
-MAP_BLOCKS = [(name, i) for name in MAPS for i, kind in enumerate(refusals.kinds_of(name)) if kind == model.MAP]
-SHORT = [(name, (i, length, count)) for name, i in MAP_BLOCKS for length in range(1, 11) for count in range(4)]
-# Forms of maps, with expiries and in three words, in which a record, or each from it on, is of the other form; and such with counts about
-# the limit, and about the one that three-word maps had, 2,730.
-TURNED = [("map_read", (*form, i, way)) for form in FORMS_OF_MAPS for i in range(5) for way in generate.TURNED]
-COUNTS = [0, 1, 2046, 2047, 2048, 2729, 2730, 2731, 4095, 4096, 65535]
-COUNTED = [(count, way) for count in COUNTS for way in generate.COUNTED if count < 4000 or way != "whole"]
-COUNTED = [("map_read", (*form, *counted)) for form in FORMS_OF_MAPS for counted in COUNTED]
+READING = [name for name in NAMES if refusals.reads_bytes(name)]
+MARKS = [(mark, i, way) for mark in ("old", "new") for i in range(5) for way in generate.MARKED]
 
 
 def header_calls():
@@ -78,20 +62,15 @@ def header_calls():
 
 def jobs(cases):
     """What to try, in short: the wanted refusals of each call, alone and in pairs, the limits, forms of another kind than the one that is
-    read, another mark at every record, maps with touching entries, in short blocks, in forms that change from one kind to the other, and with
-    counts about the limit, every place of a list that is searched, windows of fits that begin at each, trays at every power of two, prefix
-    blocks at every power of two and many of them, and random cases up to so many."""
+    read, another mark at every record, every place of a list that is searched, windows of fits that begin at each, trays at every power of
+    two, prefix blocks at every power of two and many of them, and random cases up to so many."""
     listed = []
     for name in NAMES:
         listed += [("refusals", name, (x,), i) for x in refusals.refusals_of(name) for i in range(SINGLE_TIMES)]
         listed += [("refusals", name, pair, i) for pair in refusals.listed_pairs(name) for i in range(PAIR_TIMES)]
         listed += [("limit", name, (), i) for i in range(LIMIT_TIMES)]
     listed += [("foreign", name, (kind,), i) for name, kind in FOREIGN for i in range(FOREIGN_TIMES)]
-    listed += [("mark", name, mark, i) for name, mark in MARKED for i in range(MARK_TIMES)]
-    listed += [("touch", name, touch, i) for name, touch in TOUCHES for i in range(MAP_TIMES)]
-    listed += [("short", name, short, 0) for name, short in SHORT]
-    listed += [("turned", name, turned, 0) for name, turned in TURNED]
-    listed += [("counted", name, counted, 0) for name, counted in COUNTED]
+    listed += [("mark", name, mark, i) for name in READING for mark in MARKS for i in range(MARK_TIMES)]
     listed += [("place", name, place, 0) for name in SEARCHING for place in PLACES]
     listed += [("begun", name, window, 0) for name in FITS for window in WINDOWS]
     listed += [("tray", name, tray, 0) for name in refusals.ALIGNED for tray in generate.TRAYS]
@@ -104,7 +83,6 @@ def jobs(cases):
 # What makes the case of a job that was listed by what it tries.
 LISTED = {"mark": generate.mark_case, "place": generate.place_case, "begun": generate.begun_case}
 LISTED |= {"tray": generate.tray_case, "power": generate.power_case, "long": generate.long_case}
-LISTED |= {"touch": generate.touch_case, "short": generate.short_case, "turned": generate.turned_case, "counted": generate.counted_case}
 
 
 def case_of(job, seed):
@@ -122,9 +100,9 @@ def case_of(job, seed):
 
 class Tally:
     """How often each call, each refusal of a call, each ordered pair of refusals and each empty answer was tried, forms of another kind that
-    were refused as such, another mark at each record, forms of each kind and mark that were taken, what was listed for maps, each place of a
-    list that was searched, windows of fits that begin at each, trays at each power of two, and accepted ones, prefix blocks at each power of
-    two, and more of them than a set can hold ranges."""
+    were refused as such, another mark at each record, forms of either mark that were taken, each place of a list that was searched, windows
+    of fits that begin at each, trays at each power of two, and accepted ones, prefix blocks at each power of two, and more of them than a set
+    can hold ranges."""
 
     def __init__(self):
         self.calls, self.refusals, self.pairs, self.nothing, self.foreign = (Counter() for _ in range(5))
@@ -142,7 +120,7 @@ class Tally:
         if name in refusals.ALIGNED and outcome[0] == 0:
             self.exponents[name, case.args[3]] += 1
         if name in READING and outcome[0] < 16:
-            self.taken[name, bytes(case.lent[0][:3])] += 1
+            self.taken[name, bytes(case.lent[0][:2])] += 1
         if name in refusals.PREFIXES and outcome[0] == 0 and outcome[2][1][0] > model.LIMIT[model.SET]:
             self.long[name] += 1
         if outcome[0] == 0 and name in MAY_FIND_NOTHING and outcome[1][1] == 0:
@@ -150,9 +128,9 @@ class Tally:
         if sort == "foreign" and outcome[0] == 16 + 10:
             self.foreign[name, *pair] += 1
 
-    def tried(self, sort, pairs):
+    def tried(self, sort, names, each):
         """How often each call was tried on each of what was listed for it."""
-        return {(name, which): self.listed[sort, name, which] for name, which in pairs}
+        return {(name, which): self.listed[sort, name, which] for name in names for which in each}
 
     def groups(self):
         """Everything that must be tried, with how often it was: accepted calls count as refusal 0."""
@@ -162,18 +140,13 @@ class Tally:
         yield "pair", {(name, pair): self.pairs[name, pair] for name in NAMES for pair in refusals.listed_pairs(name)}
         yield "empty answer", {name: self.nothing[name] for name in MAY_FIND_NOTHING}
         yield "refused foreign form", {key: self.foreign[key] for key in FOREIGN}
-        yield "changed mark", self.tried("mark", MARKED)
-        begins = [(name, mark + bytes([refusals.STARTS[kind]])) for name, kind in READ for mark in model.CHECK]
-        yield "taken form", {each: self.taken[each] for each in begins}
-        yield "touching neighbour", self.tried("touch", TOUCHES)
-        yield "short block", self.tried("short", SHORT)
-        yield "turned record", self.tried("turned", TURNED)
-        yield "count", self.tried("counted", COUNTED)
-        yield "searched place", self.tried("place", product(SEARCHING, PLACES))
-        yield "begun window", self.tried("begun", product(FITS, WINDOWS))
-        yield "tray", self.tried("tray", product(refusals.ALIGNED, generate.TRAYS))
+        yield "changed mark", self.tried("mark", READING, MARKS)
+        yield "taken form", {(name, mark): self.taken[name, mark] for name in READING for mark in model.CHECK}
+        yield "searched place", self.tried("place", SEARCHING, PLACES)
+        yield "begun window", self.tried("begun", FITS, WINDOWS)
+        yield "tray", self.tried("tray", refusals.ALIGNED, generate.TRAYS)
         yield "accepted exponent", {(name, j): self.exponents[name, j] for name in refusals.ALIGNED for j in range(64)}
-        yield "aligned range", self.tried("power", product(refusals.PREFIXES, POWERS))
+        yield "aligned range", self.tried("power", refusals.PREFIXES, POWERS)
         yield "long output", {name: self.long[name] for name in refusals.PREFIXES}
 
     def missing(self):

@@ -3,9 +3,9 @@ the one of Python's own library.
 
 The line 0..M is cut into 17 or 18 cells, all but one or two of them a single number: the single numbers stand at the line's low end,
 at its high end, at both, or in its middle, and the wide cells are all the rest. A set is then a Python set of cells, a map a dict from
-cells to pairs of a value and an expiry, and every answer is found by trying cells one by one. The line of the signed sets is
--2^63..2^63 - 1, cut alike. For prefix blocks a short line of 8 or 16 numbers is laid into the long one, at its ends and over all of it,
-and every list of prefix blocks there is tried.
+cells to values, and every answer is found by trying cells one by one. The line of the signed sets is -2^63..2^63 - 1, cut alike. For
+prefix blocks a short line of 8 or 16 numbers is laid into the long one, at its ends and over all of it, and every list of prefix blocks
+there is tried.
 """
 
 import binascii
@@ -34,21 +34,21 @@ class Line:
         self.cells = range(len(widths))
 
     def runs(self, held):
-        """The ranges or entries of a set or dict of cells: neighbours of the same value and the same expiry are one item."""
-        words = held.get if isinstance(held, dict) else lambda cell: () if cell in held else None
+        """The ranges or entries of a set or dict of cells: neighbours of the same value are one item."""
+        value = held.get if isinstance(held, dict) else lambda cell: 0 if cell in held else None
         items = []
         for cell in self.cells:
-            if words(cell) is None:
+            if value(cell) is None:
                 continue
-            if cell > 0 and words(cell - 1) == words(cell):
+            if cell > 0 and value(cell - 1) == value(cell):
                 items[-1][1] = self.high[cell]
             else:
-                items.append([self.low[cell], self.high[cell], *words(cell)])
+                items.append([self.low[cell], self.high[cell]] + ([value(cell)] if isinstance(held, dict) else []))
         return items
 
     def block(self, held, spare=0):
         """The stored form of a set or dict of cells, and spare words: the least number of the line is the word 0."""
-        items = [[low - self.least, high - self.least, *words] for low, high, *words in self.runs(held)]
+        items = [[low - self.least, high - self.least, *value] for low, high, *value in self.runs(held)]
         return [len(items)] + [word for item in items for word in item] + [77] * spare
 
     def cell_of(self, x):
@@ -192,23 +192,18 @@ def check_fits(line, rng, one):
             expect(f"{name}, aligned to 1", model.run(name + "_aligned", lent, args + [0]), model.run(name, lent, args))
 
 
-def some_words(rng):
-    """A value and an expiry, of few, so that neighbours often agree in one of them."""
-    return rng.choice([0, 1, M]), rng.choice([0, 1, M])
-
-
 def check_maps(line, rng, upper, lower, held):
     """Every call about maps."""
     x = rng.choice(line.low + line.high)
     cell = line.cell_of(x)
     first, last = sorted(rng.choices(line.cells, k=2))
     ends, asked = [line.low[first], line.high[last]], range(first, last + 1)
-    block, other, length = line.block(upper, 8), line.block(lower), 81
+    block, other, length = line.block(upper, 6), line.block(lower), 61
     room = [99] * length
-    words = some_words(rng)
-    expect("look up", values("map_look_up", [block], [x]), list(upper[cell]) if cell in upper else [])
-    assigned = upper | dict.fromkeys(asked, words)
-    expect("assign", written("map_assign", [block], [*ends, *words]), zeros(line.block(assigned), len(block)))
+    value = rng.randrange(3)
+    expect("look up", values("map_look_up", [block], [x]), [upper[cell]] if cell in upper else [])
+    assigned = upper | dict.fromkeys(asked, value)
+    expect("assign", written("map_assign", [block], ends + [value]), zeros(line.block(assigned), len(block)))
     without = {c: v for c, v in upper.items() if c not in asked}
     expect("erase", written("map_erase", [block], ends), zeros(line.block(without), len(block)))
     expect("overlay", written("map_overlay", [block, other, room]), zeros(line.block(lower | upper), length))
@@ -218,7 +213,7 @@ def check_maps(line, rng, upper, lower, held):
     found = []
     for position, entries in ((1, lower), (0, upper)):
         for i, run in enumerate(line.runs(entries)):
-            found = [1 + 4 * i, 4, position] if cell in entries and run[0] <= x <= run[1] else found
+            found = [1 + 3 * i, 3, position] if cell in entries and run[0] <= x <= run[1] else found
     expect("site over factory", values("map_site_over_factory", [block, other], [x]), found)
 
 
@@ -250,7 +245,7 @@ def check_bulletins(line, one, bulletin1, bulletin2):
 def check_soundness(rng):
     """A block is sound exactly if its items are the runs of its own numbers, in order: tried at both ends of the line."""
     for kind in (SET, MAP):
-        items = [[rng.randrange(9), rng.randrange(9)] + [rng.randrange(2) for _ in range(kind - 2)] for _ in range(rng.randrange(4))]
+        items = [[rng.randrange(9), rng.randrange(9)] + [rng.randrange(2)] * (kind - 2) for _ in range(rng.randrange(4))]
         if rng.randrange(4):
             items = sorted(sorted(item[:2]) + item[2:] for item in items)
         for line in (Line([1] * 10 + [M - 9]), Line([M - 9] + [1] * 10)):
@@ -259,7 +254,7 @@ def check_soundness(rng):
             held = {} if kind == MAP else set()
             for item in placed:
                 cells = [c for c in line.cells if item[0] <= line.low[c] <= item[1]]
-                held = held | (dict.fromkeys(cells, tuple(item[2:])) if kind == MAP else set(cells))
+                held = held | (dict.fromkeys(cells, item[2]) if kind == MAP else set(cells))
             block = [len(items)] + [word for item in placed for word in item]
             name = "set_size" if kind == SET else "map_look_up"
             refused = values(name, [block], [] if kind == SET else [0]) == 3
@@ -269,12 +264,12 @@ def check_soundness(rng):
 def check_written(named_blocks):
     """Reading gives back what writing wrote, in the bytes that it takes, for blocks by the name of what they hold."""
     for name, block in named_blocks:
-        size = 7 + (37 if name == "map" else 21) * block[0]
+        size = 7 + (29 if name == "map" else 21) * block[0]
         expect(name + " size", values(name + "_write", [block, bytearray(size)], [0]), [size])
         expect(name + " space", values(name + "_write", [block, bytearray(size)], [1]), 15)
         form = written(name + "_write", [block, bytearray(size + 2)], [1])
         expect(name + " bytes around", (form[0], form[-1]), (0, 0))
-        expect(name + " read", written(name + "_read", [form[1:-1], [5] * 80]), zeros(block, 80))
+        expect(name + " read", written(name + "_read", [form[1:-1], [5] * 60]), zeros(block, 60))
         check_records(bytes(form[1:-1]))
         check_old(name, block, bytes(form[1:-1]))
 
@@ -297,39 +292,6 @@ def check_old(name, block, form):
     read = written(name + "_read", [old, [5] * len(block)])
     expect(name + " read in the old form", read, block)
     expect(name + " written after that", written(name + "_write", [read, bytearray(len(old))], [0]), form)
-
-
-def check_three(line, entries):
-    """The three-word form of a map, made byte by byte, is read with either mark, every expiry M; and written with expiries, 8 bytes an entry
-    more. Its entries are those of the map without its expiries."""
-    values = {cell: (value, M) for cell, (value, _) in entries.items()}
-    block = line.block(values)
-    bodies = [struct.pack(">BH", 2, block[0])] + [struct.pack(">BQQQ", 0x11, *run[:3]) for run in line.runs(values)]
-    for mark in (OLD, NEW):
-        form = b"".join(mark + body + model.check_bytes(body, mark) for body in bodies)
-        read = written("map_read", [form, [5] * len(block)])
-        expect("three-word form read", read, block)
-        again = written("map_write", [read, bytearray(len(form) + 8 * block[0])], [0])
-        expect("three-word form written with expiries", again, model.map_form([tuple(run) for run in line.runs(values)]))
-        if block[0]:
-            expect("three-word form, no room", written("map_read", [form, [5] * (len(block) - 1)]), 5)
-            expect("three-word form, no space", written("map_write", [read, bytearray(len(form))], [0]), 15)
-
-
-def check_accepted_maps(rng, line, entries):
-    """Bytes are read as a map exactly if they are the form of the entries in them, with expiries or in three words, old or new, and these
-    sound; and as that map."""
-    three, mark = rng.randrange(2), rng.choice([OLD, NEW])
-    form_of, size, words = (model.three_form, 29, 3) if three else (model.map_form, 37, 4)
-    form = bytearray(form_of([tuple(run) for run in line.runs(entries)], mark))
-    form[rng.choice([2, rng.randrange(len(form))])] = rng.choice([0, 255, 2, 5, form[2], rng.randrange(256)])
-    form = rng.choice([form, form, form[:-1], form + b"\0", form + model.record(model.ENTRY, (0, 0, 0, 0), 8, mark)])
-    count, rest = divmod(len(form) - 7, size)
-    items = [struct.unpack_from(f">{words}Q", form, 10 + size * i) for i in range(count)] if rest == 0 else []
-    accepted = rest == 0 and form in (form_of(items, OLD), form_of(items, NEW)) and model.sound_items(items)
-    due = zeros([count] + [word for item in items for word in (*item, M)[:4]], 99) if accepted else None
-    status, _, after = model.run("map_read", [form, [0] * 99], [])
-    expect("acceptance of a map", after[1] if status == 0 else None, due)
 
 
 def check_accepted(rng, line, one):
@@ -381,7 +343,7 @@ def check_against_brute_force(rounds, seed):
         if line.own == "signed":
             check_keys(rng, line)
             continue
-        upper, lower = ({c: some_words(rng) for c in some()} for _ in "ab")
+        upper, lower = ({c: rng.randrange(3) for c in some()} for _ in "ab")
         r1, r2 = some(), some()
         w1, w2 = (some() - r if rng.randrange(8) else some() for r in (r1, r2))
         check_window(line, rng, upper, "map_window", MAP)
@@ -389,8 +351,6 @@ def check_against_brute_force(rounds, seed):
         check_bulletins(line, one, (r1, w1), (r2, w2))
         check_soundness(rng)
         check_written([("map", line.block(upper))])
-        check_three(line, upper)
-        check_accepted_maps(rng, line, upper)
 
 
 def fewest(width):
@@ -530,19 +490,10 @@ def check_member_worked():
 
 
 def check_others_worked():
-    """The worked numbers G, with one expiry throughout, and J."""
-    for day in (0, 20000, M):
-        one = [1, 0, 9, 1, day] + [0] * 8
-        three = written("map_assign", [one], [3, 5, 2, day])
-        expect("G", three, [3, 0, 2, 1, day, 3, 5, 2, day, 6, 9, 1, day])
-        expect("G", written("map_assign", [three], [3, 5, 1, day]), one)
-        other = written("map_assign", [one], [3, 5, 1, day - 1 if day else 7])
-        expect("G, the same value with another expiry", other, [3, 0, 2, 1, day, 3, 5, 1, day - 1 if day else 7, 6, 9, 1, day])
-        expect("G, and back", written("map_assign", [other], [3, 5, 1, day]), one)
-        expect("look up", values("map_look_up", [three], [4]), [2, day])
-        expect("look up", values("map_look_up", [three], [10]), [])
-        expect("window", values("map_window", [three], [3, 6]), [5, 8])
-        expect("site over factory", values("map_site_over_factory", [three, one], [7]), [9, 4, 0])
+    """The worked numbers G and J."""
+    three = written("map_assign", [[1, 0, 9, 1, 0, 0, 0, 0, 0, 0]], [3, 5, 2])
+    expect("G", three, [3, 0, 2, 1, 3, 5, 2, 6, 9, 1])
+    expect("G", written("map_assign", [three], [3, 5, 1]), [1, 0, 9, 1, 0, 0, 0, 0, 0, 0])
     _, _, after = model.run("bulletin_fold", [[1, 1, 4], [0], [1, 9, 9], [1, 3, 3], [0] * 7, [0] * 3], [])
     expect("J", after[4:], [[3, 1, 2, 4, 4, 9, 9], [1, 3, 3]])
 
@@ -576,14 +527,13 @@ def check_bytes_worked():
         expect("CRC of any bytes", int.from_bytes(model.check_bytes(text, NEW), "big"), binascii.crc_hqx(text, 0xFFFF))
 
 
-SOME = {"set": [[(5, 9), (20, M)]], "signed": [[(0, 9), (2**63 - 2, 2**63 + 1)]], "map": [[(0, 9, 1, M), (10, 10, 1, 5)]]}
-SOME |= {"three": [[(0, 9, 1, M), (10, 10, M, M)]], "bulletin": [[(0, 0), (M, M)], [(5, 9)]]}
+SOME = {"set": [[(5, 9), (20, M)]], "signed": [[(0, 9), (2**63 - 2, 2**63 + 1)]], "map": [[(0, 9, 1), (10, 10, M)]]}
+SOME |= {"bulletin": [[(0, 0), (M, M)], [(5, 9)]]}
 
 
 def reading(kind):
     """The calls that read forms of a kind, each with what else it is lent and its arguments."""
-    name = "map" if kind == "three" else kind
-    listed = [(name + "_read", [[7] * 9] * (2 if kind == "bulletin" else 1), [])]
+    listed = [(kind + "_read", [[7] * 9] * (2 if kind == "bulletin" else 1), [])]
     return listed + [("set_judge_form", [], []), ("member", [], [0])] if kind == "set" else listed
 
 
@@ -624,49 +574,6 @@ def check_damage():
     expect("00 and FF in the old form", [i for i in range(28) if zero[i] != wide[i]], [25])
 
 
-ENTRY_BYTES = bytes.fromhex("C53B050001374D C53B15 0000000000000000 0000000000000009 0000000000000001 FFFFFFFFFFFFFFFF AF28")
-THREE_BYTES = bytes.fromhex("C53B020001B2DD C53B11 0000000000000000 0000000000000009 0000000000000001 0A4C")
-OLD_THREE_BYTES = bytes.fromhex("C53A0200010703 C53A11 0000000000000000 0000000000000009 0000000000000001 FC1B")
-
-
-def check_maps_worked():
-    """Worked numbers about blocks of maps: how many entries fit so many words; and entries that touch."""
-    for length in range(1, 12):
-        for count, due in ((0, []), ((length - 1) // 4, []), ((length - 1) // 4 + 1, 2)):
-            entries = [word for i in range(count) for word in (2 * i, 2 * i, 5, 5)]
-            block = ([count] + entries + [0] * length)[:length]
-            expect(f"a map of {count} entries in {length} words", values("map_look_up", [block], [M]), due)
-    for words, due in (((1, 7), 3), ((1, 8), [1, 7]), ((2, 7), [1, 7]), ((2, 8), [1, 7])):
-        expect(f"touching, with {words}", values("map_look_up", [[2, 0, 9, 1, 7, 10, 12, *words]], [3]), due)
-
-
-def check_map_bytes_worked():
-    """Worked numbers about forms of maps, with expiries and in three words: what is read and written, entries that touch, and forms that
-    change from one to the other."""
-    expect("form", written("map_write", [[1, 0, 9, 1, M], bytearray(44)], [0]), ENTRY_BYTES)
-    for form in (ENTRY_BYTES, THREE_BYTES, OLD_THREE_BYTES, model.map_form([(0, 9, 1, M)], OLD)):
-        expect("form read", written("map_read", [form, [7] * 6]), [1, 0, 9, 1, M, 0])
-        expect("form read, no room", model.run("map_read", [form, [7] * 4], [])[:2], (21, (0, 0, 0, 0, 0)))
-        for name in ("set_read", "signed_read", "set_judge_form"):
-            expect("of another kind", model.run(name, [form, [7] * 9][: len(model.LENT[name])], [])[:2], (26, (0, 0, 0, 0, 0)))
-    for form in (ENTRY_BYTES[:7] + THREE_BYTES[7:], THREE_BYTES[:7] + ENTRY_BYTES[7:]):
-        expect("an entry of the other form", model.run("map_read", [form, [7] * 9], [])[:2], (26, (7, 0, 0, 0, 0)))
-    for at, form in ((44, model.map_form([(0, 9, 1, 7), (10, 12, 1, 7)])), (36, model.three_form([(0, 9, 1, 7), (10, 12, 1, 8)]))):
-        expect("touching in bytes", model.run("map_read", [form, [7] * 9], [])[:2], (28, (at, 0, 0, 0, 0)))
-
-
-def check_counts_worked():
-    """Forms of maps at the limit, and with as many entries as three-word maps could have before, 2,730: refused at 0, whatever the form."""
-    for form in (model.map_form, model.three_form):
-        for mark in (OLD, NEW):
-            for count in (2047, 2048, 2730, 2731):
-                block = [count] + [word for i in range(count) for word in (2 * i, 2 * i, 5, M)]
-                data = form([(2 * i, 2 * i, 5, M) for i in range(count)], mark)
-                status, answer, after = model.run("map_read", [data, [7] * len(block)], [])
-                expect(f"{count} entries", (status, answer[0]), (0, 0) if count == 2047 else (28, 0))
-                expect(f"{count} entries, read", after[1], block if count == 2047 else [7] * len(block))
-
-
 def check_signed_worked():
     """Worked numbers about signed sets: around 0, at both ends of the line, and a form in both marks: the old one was computed by hand."""
     low, zero, high = 0, 2**63, M  # the words of -2^63, 0 and 2^63 - 1
@@ -699,9 +606,6 @@ def main():
     check_most_prefixes()
     check_signed_worked()
     check_others_worked()
-    check_maps_worked()
-    check_map_bytes_worked()
-    check_counts_worked()
     check_bytes_worked()
     check_marks()
     check_damage()

@@ -77,41 +77,19 @@ def moved(rng, ranges):
     return ranges[:first] + [(low + shift, high + shift) for low, high in ranges[first:]]
 
 
-def palette(rng):
-    """A few words, for the values or the expiries of entries."""
-    return rng.choice([[0, 1], [0, M], [0, 7, M], [5, 6, 7, 8], [number(rng), number(rng), 3], [M]])
-
-
-def valued(rng, ranges, expiries=None):
-    """Entries of these ranges; where two touch, they mostly agree in the value or in the expiry, and never in both. If `expiries` are given,
-    each has one of them."""
-    values, days, entries = palette(rng), expiries or palette(rng), []
+def valued(rng, ranges):
+    """Entries of these ranges; where two touch, their values differ."""
+    palette = rng.choice([[0, 1], [0, M], [0, 7, M], [5, 6, 7, 8], [number(rng), number(rng), 3]])
+    entries = []
     for low, high in ranges:
-        words = [rng.choice(values), rng.choice(days)]
-        if entries and entries[-1][1] + 1 == low:
-            before = entries[-1][2:]
-            kept, other = (1, 0) if expiries else rng.choice([(0, 1), (1, 0)])
-            words[kept] = rng.choice([before[kept], before[kept], words[kept]])
-            words[other] = (words[other] + (tuple(words) == before)) % (M + 1)
-        entries.append((low, high, *words))
+        value = rng.choice(palette)
+        if entries and entries[-1][1] + 1 == low and entries[-1][2] == value:
+            value = (value + 1) % (M + 1)
+        entries.append((low, high, value))
     return entries
 
 
-def some_words(rng, *lists):
-    """A value and an expiry: mostly those of one of the entries, or the one of one and the other of another; or any."""
-    entries = [item for items in lists for item in items if len(item) == MAP]
-    if not entries or rng.random() < 0.15:
-        return [number(rng), number(rng)]
-    one, two = rng.choice(entries), rng.choice(entries)
-    return [one[2], rng.choice([one[3], one[3], two[3], two[3], number(rng)])]
-
-
-def in_three(entries):
-    """The entries as a three-word form can tell them: all with the expiry M, and joined where they touch and have the same value."""
-    return model.combined(MAP, lambda words: words and (words[0], M), entries)
-
-
-def fresh(rng, kind, n, steps=None, expiries=None):
+def fresh(rng, kind, n, steps=None):
     """n sound items, with lengths and gaps that are often the least possible, below `steps` if that is given."""
     if n == 0:
         return []
@@ -122,7 +100,7 @@ def fresh(rng, kind, n, steps=None, expiries=None):
         ranges.append((at, high))
         at = high + (2 if kind == SET else 1) + rng.choice([0, rng.randrange(steps)])
     ranges = moved(rng, ranges)
-    return valued(rng, ranges, expiries) if kind == MAP else ranges
+    return valued(rng, ranges) if kind == MAP else ranges
 
 
 def aligned(rng, n):
@@ -156,9 +134,9 @@ def related(rng, kind, points, n):
     cuts = sorted({near(rng, points) for _ in range(2 * n)})
     if kind == SET:
         return model.union(list(zip(cuts[::2], cuts[1::2])), [])
-    pairs = rng.choice([[(0, 0), (0, 1), (1, 0), (1, 1), None], [(0, M), (7, M), (7, 0), (M, 7), None], [(0, M), (1, M), None]])
-    drawn = [(low, after - 1, rng.choice(pairs)) for low, after in zip(cuts, cuts[1:])]
-    return model.combined(MAP, lambda words: words, [(low, high, *words) for low, high, words in drawn if words is not None])
+    palette = rng.choice([[0, 1, None], [0, 7, M, None]])
+    pieces = [(low, after - 1, rng.choice(palette)) for low, after in zip(cuts, cuts[1:])]
+    return model.combined(MAP, lambda value: value, [piece for piece in pieces if piece[2] is not None])
 
 
 def special(rng, kind):

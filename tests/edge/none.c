@@ -5,7 +5,7 @@
 int printf(const char *format, ...);
 
 static const uint64_t set[] = {2, 5, 9, 20, 29}, empty[] = {0}, full[] = {1, 0, 18446744073709551615ull};
-static const uint64_t map[] = {2, 5, 9, 7, 70, 20, 29, 0, 0};
+static const uint64_t map[] = {2, 5, 9, 7, 20, 29, 0};
 /* -9..-5 and -1..3, as words */
 static const uint64_t keys[] = {2, 9223372036854775799u, 9223372036854775803u, 9223372036854775807u, 9223372036854775811u};
 static int asked, wrong;
@@ -67,11 +67,10 @@ int main(void) {
     answers("greatest difference", wimblorque_key_difference(-1, INT64_MIN), 1, INT64_MAX, 0);
     answers("least difference", wimblorque_key_difference(-1, INT64_MAX), 1, (uint64_t)INT64_MIN, 0);
     answers("a difference of 0", wimblorque_key_difference(INT64_MIN, INT64_MIN), 1, 0, 0);
-    answers("map window of the second entry", wimblorque_map_window(MAP, 29, 99), 2, 5, 4);
-    answers("site over factory, in the site", wimblorque_map_site_over_factory(MAP, EMPTY, 5), 3, 1, 4);
-    answers("site over factory, in the factory", wimblorque_map_site_over_factory(EMPTY, MAP, 25), 3, 5, 4);
-    answers("a value and an expiry", wimblorque_map_look_up(MAP, 5), 2, 7, 70);
-    answers("a value and an expiry of 0", wimblorque_map_look_up(MAP, 25), 2, 0, 0);
+    answers("map window of the second entry", wimblorque_map_window(MAP, 29, 99), 2, 4, 3);
+    answers("site over factory, in the site", wimblorque_map_site_over_factory(MAP, EMPTY, 5), 3, 1, 3);
+    answers("site over factory, in the factory", wimblorque_map_site_over_factory(EMPTY, MAP, 25), 3, 4, 3);
+    answers("a value of 0", wimblorque_map_look_up(MAP, 25), 1, 0, 0);
     if (!wrong) {
         printf("%d questions that find nothing, or nearly: 0 values where there is nothing\n", asked);
     }

@@ -9,10 +9,10 @@ static uint64_t *words_at;
 static uint8_t *bytes_at;
 
 /* Blocks and buffers for the places that are not tried. */
-static uint64_t set[9] = {1, 5, 9}, other[9] = {1, 20, 29}, map[10] = {1, 5, 9, 7, 70}, out[9], second[9];
+static uint64_t set[9] = {1, 5, 9}, other[9] = {1, 20, 29}, map[10] = {1, 5, 9, 7}, out[9], second[9];
 static uint8_t form[28] = {0xC5, 0x3B, 0x01, 0x00, 0x01, 0xEB, 0x8D, 0xC5, 0x3B, 0x10, 0, 0, 0, 0, 0, 0, 0, 5,
                            0,    0,    0,    0,    0,    0,    0,    9,    0x3F, 0x08};
-static uint8_t bytes[128], signed_form[28], map_form[44], bulletin_form[51];
+static uint8_t bytes[128], signed_form[28], map_form[36], bulletin_form[51];
 
 #define NO words_at, 0
 #define NO_BYTES bytes_at, 0
@@ -83,7 +83,7 @@ static wimblorque_answer tried(unsigned number) {
     case 50: return wimblorque_signed_reserve_first(NO, -9, 9, 1);
     case 51: return wimblorque_signed_reserve_best(NO, -9, 9, 1);
     case 52: return wimblorque_map_look_up(NO, 7);
-    case 53: return wimblorque_map_assign(NO, 1, 2, 3, 4);
+    case 53: return wimblorque_map_assign(NO, 1, 2, 3);
     case 54: return wimblorque_map_erase(NO, 1, 2);
     case 55: return wimblorque_map_window(NO, 0, 9);
     case 56: return wimblorque_map_site_over_factory(NO, MAP, 7);

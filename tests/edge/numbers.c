@@ -7,7 +7,7 @@ int printf(const char *format, ...);
 
 enum { MOST = WIMBLORQUE_MOST_RANGES + 1 };
 
-static uint64_t one[WIMBLORQUE_SET_WORDS(MOST) + 8], two[WIMBLORQUE_SET_WORDS(MOST) + 8], map[WIMBLORQUE_MAP_WORDS(MOST) + 8];
+static uint64_t one[WIMBLORQUE_SET_WORDS(MOST) + 8], two[WIMBLORQUE_SET_WORDS(MOST)], map[WIMBLORQUE_MAP_WORDS(MOST) + 8];
 static uint64_t pairs[WIMBLORQUE_PREFIX_WORDS(2 * MOST)];
 static uint8_t bytes[WIMBLORQUE_BULLETIN_BYTES(MOST, MOST)];
 static int wrong;
@@ -30,8 +30,8 @@ static void fill_set(uint64_t *block, uint64_t n, uint64_t first) {
 static void fill_map(uint64_t n) {
     map[0] = n;
     for (uint64_t i = 0; i < n; i++) {
-        map[1 + 4 * i] = map[2 + 4 * i] = 4 * i;
-        map[3 + 4 * i] = map[4 + 4 * i] = i;
+        map[1 + 3 * i] = map[2 + 3 * i] = 4 * i;
+        map[3 + 3 * i] = i;
     }
 }
 
@@ -49,70 +49,6 @@ static void signed_sizes(size_t n) {
     }
 }
 
-/* The words and bytes of n entries. */
-static void map_sizes(size_t n) {
-    const size_t words = WIMBLORQUE_MAP_WORDS(n), length = WIMBLORQUE_MAP_BYTES(n);
-    fill_map(n);
-    expect("map words", n, wimblorque_map_look_up(map, words, 0).status, WIMBLORQUE_ACCEPTED);
-    expect("map bytes", n, wimblorque_map_write(map, words, bytes, length, 0).first, length);
-    expect("map, a byte too few", n, wimblorque_map_write(map, words, bytes, length - 1, 0).status, WIMBLORQUE_NO_SPACE);
-    expect("map, read", n, wimblorque_map_read(bytes, length, two, words).status, WIMBLORQUE_ACCEPTED);
-    expect("map, a byte short", n, wimblorque_map_read(bytes, length - 1, two, words).status, WIMBLORQUE_SHORT);
-    if (n > 0) {
-        expect("map, a word too few", n, wimblorque_map_look_up(map, words - 1, 0).status, WIMBLORQUE_COUNT);
-        expect("map, no room", n, wimblorque_map_read(bytes, length, two, words - 1).status, WIMBLORQUE_ROOM);
-    }
-}
-
-/* Ends a record of so many bytes as the old mark has it, with Fletcher's sums: no call writes such a record. */
-static uint8_t *end_old_record(uint8_t *p, uint8_t kind, size_t size) {
-    unsigned a = 0, b = 0;
-    p[0] = 0xC5;
-    p[1] = 0x3A;
-    p[2] = kind;
-    for (size_t i = 2; i < size - 2; i++) {
-        a = (a + p[i]) % 255;
-        b = (b + a) % 255;
-    }
-    p[size - 2] = (uint8_t)b;
-    p[size - 1] = (uint8_t)a;
-    return p + size;
-}
-
-/* Writes the three-word form of the map of n entries, with the old mark, and returns its length. */
-static size_t write_three_words(size_t n) {
-    bytes[3] = (uint8_t)(n >> 8);
-    bytes[4] = (uint8_t)n;
-    uint8_t *p = end_old_record(bytes, 0x02, WIMBLORQUE_MAP_START_BYTES);
-    for (size_t i = 0; i < n; i++) {
-        for (size_t k = 0; k < 24; k++) {
-            p[3 + k] = (uint8_t)(map[1 + 4 * i + k / 8] >> 8 * (7 - k % 8));
-        }
-        p = end_old_record(p, 0x11, WIMBLORQUE_THREE_WORD_ENTRY_BYTES);
-    }
-    return (size_t)(p - bytes);
-}
-
-/* The bytes of n entries in a three-word form, which is read into the words of n entries, each with the expiry that stands for none. */
-static void three_word_sizes(size_t n) {
-    const size_t words = WIMBLORQUE_MAP_WORDS(n);
-    fill_map(n);
-    const size_t length = write_three_words(n);
-    if (n > WIMBLORQUE_MOST_ENTRIES) {
-        expect("three words, over the limit", n, wimblorque_map_read(bytes, length, two, words).status, WIMBLORQUE_CONTENT);
-        return;
-    }
-    expect("three words, read", n, wimblorque_map_read(bytes, length, two, words).status, WIMBLORQUE_ACCEPTED);
-    for (size_t i = 0; i < n; i++) {
-        expect("three words, the value", n, two[3 + 4 * i], i);
-        expect("three words, the expiry", n, two[4 + 4 * i], WIMBLORQUE_NO_EXPIRY);
-    }
-    expect("three words, a byte short", n, wimblorque_map_read(bytes, length - 1, two, words).status, WIMBLORQUE_SHORT);
-    expect("three words, no space", n, n > 0 ? wimblorque_map_write(two, words, bytes, length, 0).status : WIMBLORQUE_NO_SPACE,
-           WIMBLORQUE_NO_SPACE);
-    expect("three words, written", n, wimblorque_map_write(two, words, bytes, sizeof bytes, 0).first, WIMBLORQUE_MAP_BYTES(n));
-}
-
 /* The words and bytes of n items. */
 static void sizes(size_t n) {
     const size_t words = WIMBLORQUE_SET_WORDS(n), length = WIMBLORQUE_SET_BYTES(n);
@@ -124,8 +60,16 @@ static void sizes(size_t n) {
         expect("set, a word too few", n, wimblorque_set_size(one, words - 1).status, WIMBLORQUE_COUNT);
     }
     signed_sizes(n);
-    if (n <= WIMBLORQUE_MOST_ENTRIES) {
-        map_sizes(n);
+    if (n > WIMBLORQUE_MOST_ENTRIES) {
+        return;
+    }
+    const size_t map_words = WIMBLORQUE_MAP_WORDS(n), map_length = WIMBLORQUE_MAP_BYTES(n);
+    fill_map(n);
+    expect("map words", n, wimblorque_map_look_up(map, map_words, 0).status, WIMBLORQUE_ACCEPTED);
+    expect("map bytes", n, wimblorque_map_write(map, map_words, bytes, map_length, 0).first, map_length);
+    expect("map, a byte too few", n, wimblorque_map_write(map, map_words, bytes, map_length - 1, 0).status, WIMBLORQUE_NO_SPACE);
+    if (n > 0) {
+        expect("map, a word too few", n, wimblorque_map_look_up(map, map_words - 1, 0).status, WIMBLORQUE_COUNT);
     }
 }
 
@@ -201,8 +145,6 @@ int main(void) {
         sizes(n);
         sizes(WIMBLORQUE_MOST_ENTRIES - n);
         sizes(WIMBLORQUE_MOST_RANGES - n);
-        three_word_sizes(n);
-        three_word_sizes(WIMBLORQUE_MOST_ENTRIES + 2 - n);
         bulletin(n, 3 * n);
         capacity(n + 1);
         capacity(WIMBLORQUE_SET_WORDS(WIMBLORQUE_MOST_RANGES) - 10 + n);
@@ -229,8 +171,6 @@ int main(void) {
     SAY(WIMBLORQUE_BULLETIN_START_BYTES);
     SAY(WIMBLORQUE_RANGE_BYTES);
     SAY(WIMBLORQUE_ENTRY_BYTES);
-    SAY(WIMBLORQUE_THREE_WORD_ENTRY_BYTES);
-    SAY(WIMBLORQUE_NO_EXPIRY);
     SAY(WIMBLORQUE_SET_BYTES(1000));
     SAY(WIMBLORQUE_MAP_BYTES(1000));
     SAY(WIMBLORQUE_BULLETIN_BYTES(1000, 100));

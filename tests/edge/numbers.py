@@ -3,9 +3,8 @@
     numbers.py NUMBERS WORDS
 
 NUMBERS and WORDS are files with what the two programs wrote. Limits and capacity are compared with the definitions of `blocks` and
-`prefixes`, the sizes of records with the kinds of `records`, the sizes of forms with the proved statements of `demands`; the names of the
-refusals with the numbers that `answers` gives them and with the header's constants; the version with CHANGELOG.md. The exit status is 1
-if one differs.
+`prefixes`, the sizes of records with the kinds of `records`, the sizes of forms with the proved statements of `demands`; the names of the refusals with the
+numbers that `answers` gives them and with the header's constants; the version with CHANGELOG.md. The exit status is 1 if one differs.
 """
 
 import glob
@@ -53,13 +52,10 @@ def sizes_due():
     body = {int(kind, 16): int(size) for kind, size in re.findall(r"\(eqb kind (0x\w\w)\) \(some (\d+)\)", records)}
     record = {kind: 5 + size for kind, size in body.items()}  # the mark, the kind and the check are five bytes
     set_form = only(r"readSetCall b out ≡ leaves w → length b ≡ (\d+) \+ (\d+) \* getD w 0 0\)$", laws)
-    map_read = only(r"readMapCall b out ≡ leaves w → length b ≡ (\d+) \+ pick \(eqb \(getD b 2 0\) 0x02\) (\d+) (\d+) \* getD w 0 0\)$", laws)
-    map_form = only(r"writeMapCall w bytes p ≡ .* → \(n ≡ (\d+) \+ (\d+) \* getD w 0 0\)$", laws)
+    map_form = only(r"readMapCall b out ≡ leaves w → length b ≡ (\d+) \+ (\d+) \* getD w 0 0\)$", laws)
     bulletin = only(r"readBulletinCall .* → length b ≡ (\d+) \+ (\d+) \* \(getD r 0 0 \+ getD w 0 0\)\)$", laws)
     signed_form = only(r"readSignedCall b out ≡ leaves w → length b ≡ (\d+) \+ (\d+) \* getD w 0 0\)$", laws)
-    expect("the records of the laws", [*set_form, *map_form, *bulletin], [record[k] for k in (0x01, 0x10, 0x05, 0x15, 0x03, 0x12)])
-    expect("the records of both forms of a map", map_read, [record[k] for k in (0x05, 0x11, 0x15)])
-    expect("the start of a three-word form", record[0x02], record[0x05])
+    expect("the records of the laws", [*set_form, *map_form, *bulletin], [record[k] for k in (0x01, 0x10, 0x02, 0x11, 0x03, 0x12)])
     expect("released and withdrawn ranges", record[0x12], record[0x13])
     expect("the form of a signed set, which the header measures as a set's", [*signed_form, record[0x04], record[0x14]], set_form * 2)
     return {
@@ -76,12 +72,10 @@ def sizes_due():
         "MAP_CAPACITY(100000)": entries,
         "PREFIX_CAPACITY(100000)": (100000 - 1) // pair_words,
         "SET_START_BYTES": record[0x01],
-        "MAP_START_BYTES": record[0x05],
+        "MAP_START_BYTES": record[0x02],
         "BULLETIN_START_BYTES": record[0x03],
         "RANGE_BYTES": record[0x10],
-        "ENTRY_BYTES": record[0x15],
-        "THREE_WORD_ENTRY_BYTES": record[0x11],
-        "NO_EXPIRY": 2**64 - 1,
+        "ENTRY_BYTES": record[0x11],
         "SET_BYTES(1000)": set_form[0] + set_form[1] * 1000,
         "MAP_BYTES(1000)": map_form[0] + map_form[1] * 1000,
         "BULLETIN_BYTES(1000, 100)": bulletin[0] + bulletin[1] * 1100,

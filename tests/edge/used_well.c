@@ -1,5 +1,5 @@
 /* No misuse: no compiler may warn of anything here. Two blocks by turns, one block for two inputs, results used, keys cast, prefix
-   blocks, trays, values with expiries, both headers. */
+   blocks, trays, both headers. */
 #include "wimblorque_refusals.h"
 
 int used_well(uint64_t *list, uint64_t *next, const uint64_t *released, const uint64_t *withdrawn, uint8_t *bytes, unsigned n);
@@ -19,11 +19,6 @@ int used_well(uint64_t *list, uint64_t *next, const uint64_t *released, const ui
     a = wimblorque_map_make_empty(map, sizeof map / sizeof map[0]);
     if (a.status != WIMBLORQUE_ACCEPTED || wimblorque_set_make_empty(block, sizeof block / sizeof block[0]).status != 0) {
         return 3;
-    }
-    a = wimblorque_map_assign(map, sizeof map / sizeof map[0], 1000, 1999, n, WIMBLORQUE_NO_EXPIRY);
-    const wimblorque_answer held = wimblorque_map_look_up(map, WIMBLORQUE_MAP_WORDS(4), 1500);
-    if (a.status != WIMBLORQUE_ACCEPTED || held.count != 2 || held.first != n || held.second != WIMBLORQUE_NO_EXPIRY) {
-        return 9;
     }
     if (wimblorque_signed_insert(block, sizeof block / sizeof block[0], -5, n).status != WIMBLORQUE_ACCEPTED) {
         return 4;

@@ -18,8 +18,6 @@ use Rattle.answers.specs.declared.Found.{Found}
 use Rattle.answers.specs.declared.Found.TheVariants as found
 use Rattle.answers.specs.declared.Ranged.{Ranged}
 use Rattle.answers.specs.declared.Ranged.TheVariants as ranged
-use Rattle.answers.specs.declared.Valued.{Valued}
-use Rattle.answers.specs.declared.Valued.TheVariants as valued
 use Rattle.answers.specs.declared.FoundKey.{FoundKey}
 use Rattle.answers.specs.declared.FoundKey.TheVariants as foundKey
 use Rattle.answers.specs.declared.RangedKeys.{RangedKeys}
@@ -89,12 +87,6 @@ abbrev pub ranged_says : Ranged → Answer
 ranged_says (ranged.Range low high) = given (low ∷ high ∷ [])
 ranged_says ranged.Nothing = given []
 ranged_says (ranged.Refused f) = refusal_says f
-
--- [M1, G7] value and expiry, or no value
-abbrev pub valued_says : Valued → Answer
-valued_says (valued.Value v expiry) = given (v ∷ expiry ∷ [])
-valued_says valued.Nothing = given []
-valued_says (valued.Refused f) = refusal_says f
 
 -- [S3, G7] no value of the empty set, else the size less one
 abbrev pub sized_says : Sized → Answer

@@ -1,5 +1,5 @@
 -- Blocks of words: the entries that they say, the words of entries, capacity, and the judge's verdict.
--- An item has s words: low, high, and s - 2 words of value. Sets have s = 2, maps s = 4: a record's word and its expiry.
+-- An item has s words: low, high, and s - 2 words of value. Sets have s = 2, maps s = 3.
 use Rattle.std.specs.Prelude.{◌≡◌, Bool, true, not, List, [], ◌∷◌, ◌++◌, ℕ, zero, suc, ◌+◌, ◌-◌, ◌/◌, ◌≤◌, ◌<◌, min, leb, ltb, eqb, length, get_or, take, drop, replicate}
 use Rattle.entries.specs.Entries.{Each, Entry, entry, Sound}
 use Rattle.entries.specs.Sets.{past_m}
@@ -14,11 +14,11 @@ layout s limit = record { width = s; limit = limit }
 abbrev pub set_layout : Layout
 set_layout = layout 2 4095
 
--- [B2, B3, X1] a map: four words an entry, at most 2,047 of them
+-- [B2, B3] a map: three words an entry, at most 2,730 of them
 abbrev pub map_layout : Layout
-map_layout = layout 4 2047
+map_layout = layout 3 2730
 
--- [B3] the capacity of a block of L words, L at least 1: the lesser of floor((L-1)/2) and 4,095 for a set, of floor((L-1)/4) and 2,047
+-- [B3] the capacity of a block of L words, L at least 1: the lesser of floor((L-1)/2) and 4,095 for a set, of floor((L-1)/3) and 2,730
 -- for a map
 abbrev pub capacity : Layout → ℕ → ℕ
 capacity l L = min ((L - 1) / l.width) l.limit

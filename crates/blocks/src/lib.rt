@@ -1,4 +1,4 @@
-// Blocks of words: judged, and moved within. A layout says how many words an item takes, two in a set and four in a map.
+// Blocks of words: judged, and moved within. A layout says how many words an item takes, two in a set and three in a map.
 ghost use Rattle.std.specs.Prelude.{◌≡◌, ◌+◌, ◌<◌, ◌≤◌, [], ◌∷◌, length, get_or, take, drop};
 ghost use Rattle.entries.specs.Build.{pick, same_words};
 ghost use Rattle.blocks.specs.Blocks.{items_of, capacity, fine, soundb, verdict};
@@ -18,15 +18,15 @@ pub struct Layout {
     pub limit: usize,
 }
 
-// A set: low and high of each range. A map: low, high, value and expiry of each entry.
+// A set: low and high of each range. A map: low, high and value of each entry.
 pub const SET: Layout = Layout {
     width: 2,
     limit: 4095,
 };
 
 pub const MAP: Layout = Layout {
-    width: 4,
-    limit: 2047,
+    width: 3,
+    limit: 2730,
 };
 
 // The capacity of a block of len words, of which there is at least one.

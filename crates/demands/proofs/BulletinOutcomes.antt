@@ -227,8 +227,8 @@ module _ (bytes : List ℕ) (p : ℕ) where
   set_writes : (w : List ℕ) → Writes of_set (w ∷ []) (SoundSet w) (7 + 21 * get_or w 0 0) bytes p
   set_writes w = writes of_set set_kind (w ∷ []) refl (SoundSet w) (λ c. c.0) (λ h. (h, (refl, tt))) _ (omega (arith, count_in 2 w)) bytes p
 
-  map_writes : (w : List ℕ) → Writes of_map (w ∷ []) (SoundMap w) (7 + 37 * get_or w 0 0) bytes p
-  map_writes w = writes of_map map_kind (w ∷ []) refl (SoundMap w) (λ c. c.0) (λ h. (h, (refl, tt))) _ (omega (arith, count_in 4 w)) bytes p
+  map_writes : (w : List ℕ) → Writes of_map (w ∷ []) (SoundMap w) (7 + 29 * get_or w 0 0) bytes p
+  map_writes w = writes of_map map_kind (w ∷ []) refl (SoundMap w) (λ c. c.0) (λ h. (h, (refl, tt))) _ (omega (arith, count_in 3 w)) bytes p
 
   bulletin_writes : (r w : List ℕ) → Writes of_bulletin (r ∷ w ∷ []) (Bulletin r w) (9 + 21 * (get_or r 0 0 + get_or w 0 0)) bytes p
   bulletin_writes r w =

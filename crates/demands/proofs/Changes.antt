@@ -20,8 +20,6 @@ use Rattle.entries.proofs.Limits.{overlay_bound}
 use Rattle.answers.proofs.Turns.{turn_accepted, clear_at, applies_clear}
 use Rattle.blocks.specs.declared.Layout.{Layout}
 use Rattle.blocks.specs.Blocks.{set_layout, map_layout, capacity, entries_of, block_of, verdict}
-use Rattle.maps.specs.Calls.{map_entries}
-use Rattle.maps.proofs.Looking.{width}
 use Rattle.blocks.specs.Calls.{output, holding}
 use Rattle.blocks.proofs.Refusing.{some_words}
 use Rattle.blocks.proofs.Words.{items_length}
@@ -79,17 +77,17 @@ remove_changes w a b after e =
     )
 
 pub assign_changes : Assign
-assign_changes w a b v t after e =
-    let k = edit_accepted map_layout w a b (some (v ∷ t ∷ [])) after e in (
-      assign_means w a b v t [] after e,
-      omega (arith, k.count, put_bound (map_entries w) a b k.order (some (v ∷ t ∷ [])) (verdict_sound map_layout w k.sound).sound, count_in width w),
+assign_changes w a b v after e =
+    let k = edit_accepted map_layout w a b (some (v ∷ [])) after e in (
+      assign_means w a b v [] after e,
+      omega (arith, k.count, put_bound (entries_of 3 w) a b k.order (some (v ∷ [])) (verdict_sound map_layout w k.sound).sound, count_in 3 w),
     )
 
 pub erase_changes : Erase
 erase_changes w a b after e =
     let k = edit_accepted map_layout w a b none after e in (
       erase_means w a b [] after e,
-      omega (arith, k.count, erase_bound (map_entries w) a b k.order (verdict_sound map_layout w k.sound).sound, count_in width w),
+      omega (arith, k.count, erase_bound (entries_of 3 w) a b k.order (verdict_sound map_layout w k.sound).sound, count_in 3 w),
     )
 
 -- an accepted result of two blocks
@@ -199,10 +197,10 @@ overlay_changes upper lower o after e =
       omega (
         arith,
         k.count,
-        overlay_bound (map_entries upper) (map_entries lower) (verdict_sound map_layout upper k.first_sound).sound
+        overlay_bound (entries_of 3 upper) (entries_of 3 lower) (verdict_sound map_layout upper k.first_sound).sound
             (verdict_sound map_layout lower k.second_sound).sound,
-        count_in width upper,
-        count_in width lower,
+        count_in 3 upper,
+        count_in 3 lower,
       ),
     )
 
@@ -212,7 +210,7 @@ restriction_changes map set o after e =
     record {
       sound = l.sound;
       long = l.long;
-      names = λ x. l.names x ∙ kept (value_at (map_entries map) x) (value_at (entries_of 2 set) x);
+      names = λ x. l.names x ∙ kept (value_at (entries_of 3 map) x) (value_at (entries_of 2 set) x);
       stored_form = l.stored_form;
     }
   where

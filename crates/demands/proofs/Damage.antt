@@ -30,12 +30,10 @@ use Rattle.verdicts.specs.Steps.{FormKind}
 use Rattle.verdicts.specs.Forms.{of_set, mark_of, kinds_of, start_size, size_of, form_counts, form_entries, form_refusals}
 use Rattle.verdicts.proofs.Whole.{kinds, many_kinds, many_counts, counted}
 use Rattle.forms.specs.Calls.{stored_in, read_call}
-use Rattle.forms.specs.Calls.{taken_runs}
-use Rattle.demands.specs.Bytes.{Readable, of_four, of_undated_lem}
 use Rattle.forms.proofs.Forms.{accepted_size, formed_accepted}
-use Rattle.demands.specs.Bytes.{is_set, is_map, is_bulletin, is_signed, IsForm}
+use Rattle.demands.specs.Bytes.{OfFour, is_set, is_map, is_bulletin, is_signed, IsForm}
 use Rattle.demands.specs.Damage.{OneByte, OneByteAsked, LaterMark}
-use Rattle.demands.proofs.Forms.{read_kind}
+use Rattle.demands.proofs.Forms.{kind_of}
 use Rattle.demands.proofs.Reading.{no_form, host_refuses}
 
 -- BYTES AS FAR AS A PLACE: c is as long as b, and the same before place m
@@ -92,7 +90,7 @@ bytes_take (suc n) [] y i = y i
 bytes_take (suc n) (x ∷ b) y zero = y 0
 bytes_take (suc n) (x ∷ b) y (suc i) = bytes_take n b (λ j. y (suc j)) i
 
-pub bytes_set : (b : List ℕ) (i v : ℕ) → Bytes b → v < 256 → Bytes (set b i v)
+bytes_set : (b : List ℕ) (i v : ℕ) → Bytes b → v < 256 → Bytes (set b i v)
 bytes_set [] i v y h j = y j
 bytes_set (x ∷ b) zero v y h zero = h
 bytes_set (x ∷ b) zero v y h (suc j) = y (suc j)
@@ -116,7 +114,7 @@ part n b = take (n + 1) (drop 2 b)
 
 -- of a record: where the mark is not the old one and both are whole, the byte is not changed
 module _ (mark : ℕ) (new : mark ≡ old_mark → ⊥) (v : ℕ) (small : v < 256) where
-  module _ (due n : ℕ) {other : ℕ} (b : List ℕ) (i : ℕ) (y : Bytes b) (w : Whole mark due n b) (x : Whole mark other n (set b i v)) where
+  module _ (due n : ℕ) (b : List ℕ) (i : ℕ) (y : Bytes b) (w : Whole mark due n b) (x : Whole mark due n (set b i v)) where
     in_body : 2 ≤ i → i < n + 3 → v ≡ get_or b i 0
     in_body h l =
         let p : part n (set b i v) ≡ set (part n b) (i - 2) v =
@@ -277,7 +275,7 @@ form_later f k b c j q h e m x outs =
     record_kept q b c m.kept (mark_of b) f.start (2 * f.runs) (omega arith) k.start.body _ _ (ap (all_within f.layout.limit) n) x.0 in
     let fs = runs_refusals (mark_of b) f.layout.width a (kinds_of f) (form_counts f b) (drop a c) in
     rw (mark_kept q b c m.kept (omega arith), v, n)
-    (ap (λ (gs : List Finding). in_turn gs outs (outcome (given []) (stored_in outs (taken_runs f.undated (form_entries f c))))) (append_assoc fs _ _)
+    (ap (λ (gs : List Finding). in_turn gs outs (outcome (given []) (stored_in outs (form_entries f c)))) (append_assoc fs _ _)
     ∙ later_runs (mark_of b) f.layout.width q outs _ _ (kinds_of f) (form_counts f b) (as_many f k b) (kinds f k) j (q - a) a (drop a b) (drop a c)
     h (omega arith) (omega arith) (remarked_drop a (mark_of b) q b c (omega arith) m) (items_clear f k b x))
 
@@ -298,22 +296,21 @@ no_counts (suc n) b q e = ap₂ ◌∷◌ (omega arith) (no_counts n b (q + 2) (
 abbrev bare : Form → List ℕ
 bare f = f.start ∷ count_bytes (counts_in f.runs [] 3)
 
-two_checks : {f : Form} → Readable f → check_of new_mark (bare f) ≡ check_of old_mark (bare f) → ⊥
+two_checks : {f : Form} → OfFour f → check_of new_mark (bare f) ≡ check_of old_mark (bare f) → ⊥
 unfolding check_of fletcher crc_from crc_byte crc_bit
-two_checks (of_four is_set) e = omega arith
-two_checks (of_four is_map) e = omega arith
-two_checks (of_four is_bulletin) e = omega arith
-two_checks (of_four is_signed) e = omega arith
-two_checks of_undated_lem e = omega arith
+two_checks is_set e = omega arith
+two_checks is_map e = omega arith
+two_checks is_bulletin e = omega arith
+two_checks is_signed e = omega arith
 
 -- where a form of the new mark and the same with one byte set are both accepted,
-module _ (f : Form) (t : Readable f) (b : List ℕ) (i v : ℕ) (y : Bytes b) (new : mark_of b ≡ new_mark) (c : Clear (form_refusals f b))
+module _ (f : Form) (t : OfFour f) (b : List ℕ) (i v : ℕ) (y : Bytes b) (new : mark_of b ≡ new_mark) (c : Clear (form_refusals f b))
     (x : Clear (form_refusals f (set b i v))) where
   abbrev b' : List ℕ
   b' = set b i v
 
   abbrev k : FormKind f
-  k = read_kind t
+  k = kind_of t
 
   -- the second is not of the old mark, the byte being one of the first two,
   not_old : i < 2 → mark_of b' ≡ old_mark → ⊥
@@ -366,34 +363,22 @@ module _ (f : Form) (t : Readable f) (b : List ℕ) (i v : ℕ) (y : Bytes b) (n
       (rw (same_mark, q, drop_set m b i v l) at (items_clear f k b' x)))
 
 -- so what is left is no form, where the byte is another
-changed_no_form : (f : Form) → Readable f → (b : List ℕ) → Bytes b → IsForm f b → mark_of b ≡ new_mark → (i v : ℕ) → i < length b → v < 256
+changed_no_form : (f : Form) → OfFour f → (b : List ℕ) → Bytes b → IsForm f b → mark_of b ≡ new_mark → (i v : ℕ) → i < length b → v < 256
     → (v ≡ get_or b i 0 → ⊥) → IsForm f (set b i v) → ⊥
 changed_no_form f t b y g m i v h small other o =
-    let k = read_kind t in
+    let k = kind_of t in
     other (form_changed f t b i v y m (formed_accepted f k b g.runs g.form).0 (formed_accepted f k (set b i v) o.runs o.form).0 h small)
-
--- nor is it a form of another start with as many counts, where the kind of the start is changed
-pub start_changed : (f g : Form) → Readable f → Readable g → g.runs ≡ f.runs → (b : List ℕ) → Bytes b → IsForm f b → mark_of b ≡ new_mark → (v : ℕ) → v < 256
-    → (v ≡ get_or b 2 0 → ⊥) → IsForm g (set b 2 v) → ⊥
-start_changed f g t u many b y i m v small other o =
-    let k = read_kind t in
-    let l = read_kind u in
-    let b' = set b 2 v in
-    let w = start_whole f k b (formed_accepted f k b i.runs i.form).0 in
-    let x = start_whole g l b' (formed_accepted g l b' o.runs o.form).0 in
-    let same : mark_of b' ≡ mark_of b = mark_kept 2 b b' (kept_set 2 b 2 v (omega arith)) (omega arith) in
-    other (one_changed (mark_of b) (λ e. omega arith) v small f.start (2 * f.runs) b 2 y w (rw (same, many) at x) (omega arith))
 
 pub one_byte : OneByte
 one_byte f t b y g m i v h small other outs = no_form f t (set b i v) (bytes_set b i v y small) (changed_no_form f t b y g m i v h small other) outs
 
 pub one_byte_asked : OneByteAsked
 one_byte_asked b y g m i v h small other x =
-    host_refuses (set b i v) x (bytes_set b i v y small) (changed_no_form of_set (of_four is_set) b y g m i v h small other)
+    host_refuses (set b i v) x (bytes_set b i v y small) (changed_no_form of_set is_set b y g m i v h small other)
 
 pub later_mark : LaterMark
 later_mark f t b z g j x y h n outs =
-    let k = read_kind t in
+    let k = kind_of t in
     let s = 8 * f.layout.width + 5 in
     let q = start_size f + s * j in
     let a = (formed_accepted f k b g.runs g.form).0 in

@@ -109,10 +109,10 @@ other_member w a b after x out = (kept_in, kept_out)
     kept_out e = kept none false e (remove_means w a b [] after e)
 
 pub assigned_value : AssignedValue
-assigned_value w a b v t after e x h k =
-    let l = assign_means w a b v t [] after e in
+assigned_value w a b v after e x h k =
+    let l = assign_means w a b v [] after e in
     looked after x l.sound
-    ∙ ap (λ (o : Option Value). outcome (worth o) []) (l.names x ∙ ap (λ (c : Bool). pick c (some (v ∷ t ∷ [])) (ValueOf w x)) (in_between a b x h k))
+    ∙ ap (λ (o : Option Value). outcome (worth o) []) (l.names x ∙ ap (λ (t : Bool). pick t (some (v ∷ [])) (ValueOf w x)) (in_between a b x h k))
 
 pub erased_value : ErasedValue
 erased_value w a b after e x h k =
@@ -121,7 +121,7 @@ erased_value w a b after e x h k =
     (l.names x ∙ ap (λ (t : Bool). pick t none (ValueOf w x)) (in_between a b x h k))
 
 pub other_value : OtherValue
-other_value w a b after x out = (λ v t e. kept (some (v ∷ t ∷ [])) e (assign_means w a b v t [] after e), λ e. kept none e (erase_means w a b [] after e))
+other_value w a b after x out = (λ v e. kept (some (v ∷ [])) e (assign_means w a b v [] after e), λ e. kept none e (erase_means w a b [] after e))
   where
     -- whatever is put on a..b
     kept : (o : Option Value) → edit_call map_layout w a b o ≡ leaves after → Left map_layout (length w) (λ y. pick (between a b y) o (ValueOf w y)) after

@@ -26,60 +26,40 @@ use Rattle.verdicts.proofs.Whole.{set_kind, map_kind, bulletin_kind, signed_kind
 use Rattle.forms.specs.Calls.{stored_in, read_call, read_set_call, one_number, first_of, member_of_form_call, held_in, inputs, block_refusals, write_refusals, written_at}
 use Rattle.forms.specs.Calls.{write_call, write_set_call, write_map_call, write_bulletin_call, write_signed_call}
 use Rattle.forms.proofs.Forms.{accepted_formed, formed_accepted, read_written, written_read, held_fine, many_held}
-use Rattle.forms.proofs.Forms.{Writes, read_kept}
-use Rattle.forms.specs.Calls.{taken_runs}
-use Rattle.verdicts.specs.Forms.{of_undated, block_layout}
-use Rattle.verdicts.proofs.Whole.{undated_kind}
-use Rattle.blocks.specs.declared.Layout.{Layout}
-use Rattle.demands.specs.Bytes.{Readable, of_four, of_undated_lem}
 use Rattle.demands.specs.Bytes.{OfFour, is_set, is_map, is_bulletin, is_signed, Read, ReadExactly, BothRead, ReadWritten, WrittenRead}
 use Rattle.demands.specs.Bytes.{WriteSizes, BytesKeep, HostQuestion}
 
--- the laws of every form hold of the four, which are written as themselves, and of that without expiries, which is written as a map
+-- the laws of every form hold of the four
 pub kind_of : {f : Form} → OfFour f → FormKind f
 kind_of is_set = set_kind
 kind_of is_map = map_kind
 kind_of is_bulletin = bulletin_kind
 kind_of is_signed = signed_kind
 
-pub read_kind : {f : Form} → Readable f → FormKind f
-read_kind (of_four t) = kind_of t
-read_kind of_undated_lem = undated_kind
-
-pub own : {f : Form} → OfFour f → Writes f f
-own is_set = record { kind = set_kind; laid = refl; many = refl; dates = refl }
-own is_map = record { kind = map_kind; laid = refl; many = refl; dates = refl }
-own is_bulletin = record { kind = bulletin_kind; laid = refl; many = refl; dates = refl }
-own is_signed = record { kind = signed_kind; laid = refl; many = refl; dates = refl }
-
-pub as_map : Writes of_undated of_map
-as_map = record { kind = map_kind; laid = refl; many = refl; dates = refl }
-
 module _ (f : Form) (k : FormKind f) (b : List ℕ) (y : Bytes b) (outs ws : List (List ℕ)) where
   was_read : read_call f b outs ≡ outcome (given []) ws → Read f b outs ws
   unfolding read_call
   was_read e =
-      let rs = out_refusals (block_layout f) (lengths outs) (lengths (form_entries f b)) in
-      let t = turn_accepted (form_refusals f b ++ rs) outs (outcome (given []) (stored_in outs (taken_runs f.undated (form_entries f b)))) [] ws e in
+      let rs = out_refusals f.layout (lengths outs) (lengths (form_entries f b)) in
+      let t = turn_accepted (form_refusals f b ++ rs) outs (outcome (given []) (stored_in outs (form_entries f b))) [] ws e in
       let c = clear_split (form_refusals f b) rs t.0 in
       record { runs = form_entries f b; form = accepted_formed f k b y c.0; room = c.1; left = same t.1 }
     where
-      same : outcome (given []) (stored_in outs (taken_runs f.undated (form_entries f b))) ≡ outcome (given []) ws
-          → ws ≡ stored_in outs (taken_runs f.undated (form_entries f b))
+      same : outcome (given []) (stored_in outs (form_entries f b)) ≡ outcome (given []) ws → ws ≡ stored_in outs (form_entries f b)
       same d = cc
 
   is_read : Read f b outs ws → read_call f b outs ≡ outcome (given []) ws
   unfolding read_call
   is_read r =
       let a = formed_accepted f k b r.runs r.form in
-      let rs = out_refusals (block_layout f) (lengths outs) (lengths (form_entries f b)) in
-      clear_turn (form_refusals f b ++ rs) outs (outcome (given []) (stored_in outs (taken_runs f.undated (form_entries f b))))
-      (clear_both (form_refusals f b) rs a.0 (subst (λ (es : List (List Entry)). Clear (out_refusals (block_layout f) (lengths outs) (lengths es))) (sym a.1)
+      let rs = out_refusals f.layout (lengths outs) (lengths (form_entries f b)) in
+      clear_turn (form_refusals f b ++ rs) outs (outcome (given []) (stored_in outs (form_entries f b)))
+      (clear_both (form_refusals f b) rs a.0 (subst (λ (es : List (List Entry)). Clear (out_refusals f.layout (lengths outs) (lengths es))) (sym a.1)
       r.room))
-      ∙ ap (outcome (given [])) (ap (λ (es : List (List Entry)). stored_in outs (taken_runs f.undated es)) a.1 ∙ sym r.left)
+      ∙ ap (outcome (given [])) (ap (stored_in outs) a.1 ∙ sym r.left)
 
 pub read_exactly : ReadExactly
-read_exactly f t b y outs ws = record { to = was_read f (read_kind t) b y outs ws; from = is_read f (read_kind t) b y outs ws }
+read_exactly f t b y outs ws = record { to = was_read f (kind_of t) b y outs ws; from = is_read f (kind_of t) b y outs ws }
 
 -- OLD FORMS AND NEW
 pub both_read : BothRead
@@ -87,28 +67,24 @@ unfolding read_call
 both_read f t mark o runs many fine apart outs room =
     let b = form_of mark f runs in
     let h = shapes f.layout.width f.layout.limit runs fine in
-    let fs = out_refusals (block_layout f) (lengths outs) (lengths runs) in
-    ap (λ (es : List (List Entry)). in_turn (form_refusals f b ++ out_refusals (block_layout f) (lengths outs) (lengths es)) outs
-    (outcome (given []) (stored_in outs (taken_runs f.undated es)))) (back f (read_kind t) mark runs many h)
-    ∙ clear_turn (form_refusals f b ++ fs) outs (outcome (given []) (stored_in outs (taken_runs f.undated runs)))
-    (clear_both (form_refusals f b) fs (whole f (read_kind t) mark runs many h (mark_back mark f runs o) fine apart) room)
+    let fs = out_refusals f.layout (lengths outs) (lengths runs) in
+    ap (λ (es : List (List Entry)). in_turn (form_refusals f b ++ out_refusals f.layout (lengths outs) (lengths es)) outs
+    (outcome (given []) (stored_in outs es))) (back f (kind_of t) mark runs many h)
+    ∙ clear_turn (form_refusals f b ++ fs) outs (outcome (given []) (stored_in outs runs))
+    (clear_both (form_refusals f b) fs (whole f (kind_of t) mark runs many h (mark_back mark f runs o) fine apart) room)
 
 pub read_and_written : ReadWritten
-read_and_written f t b outs ws bytes p y n e h =
-    let l : length b ≡ size_of f (lengths (held_in f.layout ws)) =
-    (read_kept f (kind_of t) b outs ws y n e).long ∙ ap (λ (a : Layout). size_of f (lengths (held_in a ws))) (sym (own t).laid) in
-    read_written f (kind_of t) f (own t) b outs ws bytes p y n e (omega arith)
-    ∙ ap (λ (m : ℕ). outcome (given (m ∷ [])) (patch p (form_of new_mark f (held_in f.layout ws)) bytes ∷ [])) (sym l)
+read_and_written f t b outs ws bytes p y n e h = read_written f (kind_of t) b outs ws bytes p y n e h
 
 pub written_and_read : WrittenRead
-written_and_read f t ws bytes bytes' outs p n h e c = written_read f (kind_of t) (own t) ws bytes bytes' outs p n h e c
+written_and_read f t ws bytes bytes' outs p n h e c = written_read f (kind_of t) ws bytes bytes' outs p n h e c
 
 -- REFUSED: no word or byte lent is changed
 read_keeps : (f : Form) (b : List ℕ) (outs : List (List ℕ)) → Keeps outs (read_call f b outs)
 unfolding read_call
 read_keeps f b outs =
-    turn_keeps (form_refusals f b ++ out_refusals (block_layout f) (lengths outs) (lengths (form_entries f b))) outs
-    (outcome (given []) (stored_in outs (taken_runs f.undated (form_entries f b)))) tt
+    turn_keeps (form_refusals f b ++ out_refusals f.layout (lengths outs) (lengths (form_entries f b))) outs
+    (outcome (given []) (stored_in outs (form_entries f b))) tt
 
 write_keeps : (f : Form) (ws : List (List ℕ)) (bytes : List ℕ) (p : ℕ) → Keeps (bytes ∷ []) (write_call f ws bytes p)
 unfolding write_call
@@ -197,8 +173,8 @@ write_sizes p n bytes bytes' = (of_sets, of_maps, of_bulletins, of_signeds)
     of_sets w e = let k = written of_set set_kind (w ∷ []) bytes bytes' p n refl e in (omega (arith, k.0, items_length 2 (get_or w 0 0) (drop 1 w)), k.1)
 
     of_maps : (w : List ℕ) → write_map_call w bytes p ≡ outcome (given (n ∷ [])) (bytes' ∷ [])
-        → (n ≡ 7 + 37 * get_or w 0 0) × (bytes' ≡ patch p (form_of new_mark of_map (entries_of 4 w ∷ [])) bytes)
-    of_maps w e = let k = written of_map map_kind (w ∷ []) bytes bytes' p n refl e in (omega (arith, k.0, items_length 4 (get_or w 0 0) (drop 1 w)), k.1)
+        → (n ≡ 7 + 29 * get_or w 0 0) × (bytes' ≡ patch p (form_of new_mark of_map (entries_of 3 w ∷ [])) bytes)
+    of_maps w e = let k = written of_map map_kind (w ∷ []) bytes bytes' p n refl e in (omega (arith, k.0, items_length 3 (get_or w 0 0) (drop 1 w)), k.1)
 
     of_bulletins : (r w : List ℕ) → write_bulletin_call r w bytes p ≡ outcome (given (n ∷ [])) (bytes' ∷ [])
         → (n ≡ 9 + 21 * (get_or r 0 0 + get_or w 0 0)) × (bytes' ≡ patch p (form_of new_mark of_bulletin (entries_of 2 r ∷ entries_of 2 w ∷ [])) bytes)

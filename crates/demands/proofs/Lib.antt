@@ -18,7 +18,6 @@ pub mod Forms
 pub mod Reading
 pub mod Damage
 pub mod OneForm
-pub mod Expiry
 pub mod Folding
 pub mod Effects
 pub mod Chains

@@ -1,9 +1,9 @@
 -- What is asked of a map, by its meaning: the statements of specs/Questions.
-use mathlib.Core.Path.{◌≡◌, refl, sym, ◌∙◌, ap, ap₂, subst}
+use mathlib.Core.Path.{◌≡◌, refl, sym, ◌∙◌, ap, subst}
 use mathlib.Core.Option.{Option, none, some}
 use mathlib.Core.Bool.{Bool, true, false}
 use mathlib.Core.List.{List, [], ◌∷◌, ◌++◌}
-use Prim.Native.Nat.{ℕ, suc, ◌+◌, ◌*◌, ◌≤◌, ◌<◌}
+use Prim.Native.Nat.{ℕ, ◌+◌, ◌*◌, ◌≤◌, ◌<◌}
 use native.Mathlib.Omega.{arith}
 use lib.ListN.{length, get_or, take, drop}
 use lib.Seq.{drop-cons}
@@ -30,58 +30,50 @@ use Rattle.demands.specs.Questions.{InMap, LookUp, MapWindow, SiteOverFactory, E
 use Rattle.demands.proofs.Words.{in_item, item_in}
 use Rattle.demands.proofs.Questions.{window_means}
 
--- the words of an entry's value: the record and its expiry
-value_words : (w : List ℕ) (i : ℕ) → SoundMap w → i < get_or w 0 0 → take 2 (drop (4 * i + 3) w) ≡ get_or w (3 + 4 * i) 0 ∷ get_or w (4 + 4 * i) 0 ∷ []
-value_words w i s h =
+-- the one word of an entry's value
+one_word : (w : List ℕ) (i : ℕ) → SoundMap w → i < get_or w 0 0 → take 1 (drop (3 * i + 3) w) ≡ get_or w (3 + 3 * i) 0 ∷ []
+one_word w i s h =
     let d = verdict_sound map_layout w s in
     let r = room_words map_layout (length w) (get_or w 0 0) d.some d.fits in
-    let k : suc (4 * i + 3) < length w = omega arith in
-    let p : 4 * i + 3 ≡ 3 + 4 * i = omega arith in
-    let q : suc (4 * i + 3) ≡ 4 + 4 * i = omega arith in
-    ap (take 2) (drop-cons w (4 * i + 3) 0 (omega arith) ∙ ap (λ (l : List ℕ). get_or w (4 * i + 3) 0 ∷ l) (drop-cons w (suc (4 * i + 3)) 0 k))
-    ∙ ap₂ (λ (j m : ℕ). get_or w j 0 ∷ get_or w m 0 ∷ []) p q
+    let k : 3 * i + 3 < length w = omega arith in
+    let p : 3 * i + 3 ≡ 3 + 3 * i = omega arith in
+    ap (take 1) (drop-cons w (3 * i + 3) 0 k) ∙ ap (λ (j : ℕ). get_or w j 0 ∷ []) p
 
-value_in : (w : List ℕ) (x v t : ℕ) → SoundMap w → ValueOf w x ≡ some (v ∷ t ∷ []) → InEntry w x v t
-value_in w x v t s e =
-    let g = in_item map_layout w (omega arith) s x (v ∷ t ∷ []) e in
-    let p : 1 + 4 * g.index ≡ 4 * g.index + 1 = omega arith in
-    let q : 2 + 4 * g.index ≡ 4 * g.index + 2 = omega arith in
-    let k = sym (value_words w g.index s g.below) ∙ g.value in
+value_in : (w : List ℕ) (x v : ℕ) → SoundMap w → ValueOf w x ≡ some (v ∷ []) → InEntry w x v
+value_in w x v s e =
+    let g = in_item map_layout w (omega arith) s x (v ∷ []) e in
+    let p : 1 + 3 * g.index ≡ 3 * g.index + 1 = omega arith in
+    let q : 2 + 3 * g.index ≡ 3 * g.index + 2 = omega arith in
     record {
       index = g.index;
       below = g.below;
       low = rw p g.low;
       high = rw q g.high;
-      value = cc;
-      expiry = cc;
+      value = head (sym (one_word w g.index s g.below) ∙ g.value);
     }
+  where
+    head : {a b : ℕ} → a ∷ [] ≡ b ∷ [] → a ≡ b
+    head e = cc
 
-in_value : (w : List ℕ) (x v t : ℕ) → SoundMap w → InEntry w x v t → ValueOf w x ≡ some (v ∷ t ∷ [])
-in_value w x v t s g =
-    let p : 1 + 4 * g.index ≡ 4 * g.index + 1 = omega arith in
-    let q : 2 + 4 * g.index ≡ 4 * g.index + 2 = omega arith in
-    item_in map_layout w (omega arith) s x (v ∷ t ∷ [])
+in_value : (w : List ℕ) (x v : ℕ) → SoundMap w → InEntry w x v → ValueOf w x ≡ some (v ∷ [])
+in_value w x v s g =
+    let p : 1 + 3 * g.index ≡ 3 * g.index + 1 = omega arith in
+    let q : 2 + 3 * g.index ≡ 3 * g.index + 2 = omega arith in
+    item_in map_layout w (omega arith) s x (v ∷ [])
     (record {
       index = g.index;
       below = g.below;
       low = rw p at g.low;
       high = rw q at g.high;
-      value = value_words w g.index s g.below ∙ ap₂ (λ (y z : ℕ). y ∷ z ∷ []) g.value g.expiry;
+      value = one_word w g.index s g.below ∙ ap (λ (y : ℕ). y ∷ []) g.value;
     })
 
 pub in_map : InMap
-in_map w x v t s = record { to = value_in w x v t s; from = in_value w x v t s }
+in_map w x v s = record { to = value_in w x v s; from = in_value w x v s }
 
-worth_some : (o : Option Value) (v t : ℕ) → outcome (worth o) [] ≡ answers (v ∷ t ∷ []) → o ≡ some (v ∷ t ∷ [])
-worth_some none v t e = let z : ◌≡◌ {A = ℕ} 0 1 = cc in absurd (omega arith)
-worth_some (some u) v t e = let z : u ≡ v ∷ t ∷ [] = cc in ap some z
-
--- a value that a map gives stands in an entry
-entry_of : (w : List ℕ) (x : ℕ) (u : Value) → SoundMap w → ValueOf w x ≡ some u → ((v t : ℕ) → InEntry w x v t → ⊥) → ⊥
-entry_of w x u s e h =
-    let g = in_item map_layout w (omega arith) s x u e in
-    let k : u ≡ get_or w (3 + 4 * g.index) 0 ∷ get_or w (4 + 4 * g.index) 0 ∷ [] = sym g.value ∙ value_words w g.index s g.below in
-    h _ _ (value_in w x _ _ s (e ∙ ap some k))
+worth_some : (o : Option Value) (v : ℕ) → outcome (worth o) [] ≡ answers (v ∷ []) → o ≡ some (v ∷ [])
+worth_some none v e = let z : ◌≡◌ {A = ℕ} 0 1 = cc in absurd (omega arith)
+worth_some (some u) v e = let z : u ≡ v ∷ [] = cc in ap some z
 
 pub looked : (w : List ℕ) (x : ℕ) → SoundMap w → look_up_call w x ≡ outcome (worth (ValueOf w x)) []
 unfolding look_up_call
@@ -90,25 +82,29 @@ looked w x s = clear_turn (input 0 map_layout w ∷ []) [] _ (s, tt)
 pub look_up_means : LookUp
 unfolding look_up_call
 look_up_means w x s = (
-  λ v t. record { to = λ e. value_in w x v t s (worth_some (ValueOf w x) v t (sym asked ∙ e)); from = λ g. found v t g },
+  λ v. record { to = λ e. value_in w x v s (worth_some (ValueOf w x) v (sym asked ∙ e)); from = λ g. found v g },
   record { to = nothing; from = alone },
 )
   where
     asked : look_up_call w x ≡ outcome (worth (ValueOf w x)) []
     asked = looked w x s
 
-    found : (v t : ℕ) → InEntry w x v t → look_up_call w x ≡ answers (v ∷ t ∷ [])
-    found v t g = asked ∙ ap (λ (o : Option Value). outcome (worth o) []) (in_value w x v t s g)
+    found : (v : ℕ) → InEntry w x v → look_up_call w x ≡ answers (v ∷ [])
+    found v g = asked ∙ ap (λ (o : Option Value). outcome (worth o) []) (in_value w x v s g)
 
-    nothing : look_up_call w x ≡ answers [] → (v t : ℕ) → InEntry w x v t → ⊥
-    nothing e v t g = let q = sym (found v t g) ∙ e in let z : ◌≡◌ {A = ℕ} 0 1 = cc in omega arith
+    nothing : look_up_call w x ≡ answers [] → (v : ℕ) → InEntry w x v → ⊥
+    nothing e v g = let q = sym (found v g) ∙ e in let z : ◌≡◌ {A = ℕ} 0 1 = cc in omega arith
 
-    alone : ((v t : ℕ) → InEntry w x v t → ⊥) → look_up_call w x ≡ answers []
+    alone : ((v : ℕ) → InEntry w x v → ⊥) → look_up_call w x ≡ answers []
     alone h = asked ∙ go (ValueOf w x) refl
       where
         go : (o : Option Value) → ValueOf w x ≡ o → outcome (worth o) [] ≡ answers []
         go none e = refl
-        go (some u) e = absurd (entry_of w x u s e h)
+        go (some u) e =
+            let g = in_item map_layout w (omega arith) s x u e in
+            let v = get_or w (3 + 3 * g.index) 0 in
+            let k : u ≡ v ∷ [] = sym g.value ∙ one_word w g.index s g.below in
+            absurd (h v (value_in w x v s (e ∙ ap some k)))
 
 pub map_window_means : MapWindow
 map_window_means w a b s order = window_means map_layout (omega arith) w a b s order
@@ -177,13 +173,13 @@ module _ (w : List ℕ) (x : ℕ) (s : SoundMap w) where
   window_here : words_at w (map_window_call w x x) ≡ words_of (meeting x x (map_entries w))
   window_here = map_window_means w x x s (omega arith)
 
-  window_entry : (v t : ℕ) → ValueOf w x ≡ some (v ∷ t ∷ []) → EntryWords x v t (words_at w (map_window_call w x x))
-  window_entry v t e =
-      let m = some_meets (map_entries w) x (v ∷ t ∷ []) (verdict_sound map_layout w s).sound e in
+  window_entry : (v : ℕ) → ValueOf w x ≡ some (v ∷ []) → EntryWords x v (words_at w (map_window_call w x x))
+  window_entry v e =
+      let m = some_meets (map_entries w) x (v ∷ []) (verdict_sound map_layout w s).sound e in
       record {
         low = m.one.low;
         high = m.one.high;
-        four = window_here ∙ ap words_of m.only ∙ ap (λ (u : Value). m.one.low ∷ m.one.high ∷ (u ++ [])) m.value;
+        three = window_here ∙ ap words_of m.only ∙ ap (λ (u : Value). m.one.low ∷ m.one.high ∷ (u ++ [])) m.value;
         from = m.from;
         upto = m.upto;
       }
@@ -199,14 +195,14 @@ deciding_entry site factory x p q = (found, nothing)
         factory x x))
     words o e = site_over_factory_means site factory x p q ∙ rw e
 
-    found : (v t : ℕ) → or_else (ValueOf site x) (ValueOf factory x) ≡ some (v ∷ t ∷ [])
-        → EntryWords x v t (words_of_two site factory (site_over_factory_call site factory x))
-    found v t k = go (ValueOf site x) refl k
+    found : (v : ℕ) → or_else (ValueOf site x) (ValueOf factory x) ≡ some (v ∷ [])
+        → EntryWords x v (words_of_two site factory (site_over_factory_call site factory x))
+    found v k = go (ValueOf site x) refl k
       where
-        go : (o : Option Value) → ValueOf site x ≡ o → or_else o (ValueOf factory x) ≡ some (v ∷ t ∷ [])
-            → EntryWords x v t (words_of_two site factory (site_over_factory_call site factory x))
-        go (some u) e k = subst (EntryWords x v t) (sym (words (some u) e)) (window_entry site x p v t (e ∙ k))
-        go none e k = subst (EntryWords x v t) (sym (words none e)) (window_entry factory x q v t k)
+        go : (o : Option Value) → ValueOf site x ≡ o → or_else o (ValueOf factory x) ≡ some (v ∷ [])
+            → EntryWords x v (words_of_two site factory (site_over_factory_call site factory x))
+        go (some u) e k = subst (EntryWords x v) (sym (words (some u) e)) (window_entry site x p v (e ∙ k))
+        go none e k = subst (EntryWords x v) (sym (words none e)) (window_entry factory x q v k)
 
     nothing : or_else (ValueOf site x) (ValueOf factory x) ≡ none → words_of_two site factory (site_over_factory_call site factory x) ≡ []
     nothing k = go (ValueOf site x) refl k
@@ -216,15 +212,19 @@ deciding_entry site factory x p q = (found, nothing)
         go none e k = words none e ∙ window_none factory x q k
 
 -- no value, no entry
-no_entry : (w : List ℕ) (x : ℕ) → SoundMap w → has (ValueOf w x) ≡ false → (v t : ℕ) → InEntry w x v t → ⊥
-no_entry w x s e v t g = true≢false (ap has (sym (in_value w x v t s g)) ∙ e)
+no_entry : (w : List ℕ) (x : ℕ) → SoundMap w → has (ValueOf w x) ≡ false → (v : ℕ) → InEntry w x v → ⊥
+no_entry w x s e v g = true≢false (ap has (sym (in_value w x v s g)) ∙ e)
 
-some_entry : (w : List ℕ) (x : ℕ) → SoundMap w → ((v t : ℕ) → InEntry w x v t → ⊥) → has (ValueOf w x) ≡ false
+some_entry : (w : List ℕ) (x : ℕ) → SoundMap w → ((v : ℕ) → InEntry w x v → ⊥) → has (ValueOf w x) ≡ false
 some_entry w x s h = go (ValueOf w x) refl
   where
     go : (o : Option Value) → ValueOf w x ≡ o → has o ≡ false
     go none e = refl
-    go (some u) e = absurd (entry_of w x u s e h)
+    go (some u) e =
+        let g = in_item map_layout w (omega arith) s x u e in
+        let v = get_or w (3 + 3 * g.index) 0 in
+        let k : u ≡ v ∷ [] = sym g.value ∙ one_word w g.index s g.below in
+        absurd (h v (value_in w x v s (e ∙ ap some k)))
 
 pub which_map_means : WhichMap
 which_map_means site factory x p q = (ap (λ (d : Deciding). d.position) here ∙ position (has (ValueOf site x)), record { to = nothing; from = alone })
@@ -237,27 +237,27 @@ which_map_means site factory x p q = (ap (λ (d : Deciding). d.position) here �
     position true = refl
     position false = refl
 
-    one : (w : List ℕ) → SoundMap w → (t : Bool) → has (ValueOf w x) ≡ t → (window_part map_layout.width w x x).length ≡ pick t 4 0
-    one w s t e = four t (length (meeting x x (map_entries w))) (one_meets (map_entries w) x (verdict_sound map_layout w s).sound ∙ rw e)
+    one : (w : List ℕ) → SoundMap w → (t : Bool) → has (ValueOf w x) ≡ t → (window_part map_layout.width w x x).length ≡ pick t 3 0
+    one w s t e = three t (length (meeting x x (map_entries w))) (one_meets (map_entries w) x (verdict_sound map_layout w s).sound ∙ rw e)
       where
-        four : (t : Bool) (n : ℕ) → n ≡ pick t 1 0 → 4 * n ≡ pick t 4 0
-        four true n k = omega arith
-        four false n k = omega arith
+        three : (t : Bool) (n : ℕ) → n ≡ pick t 1 0 → 3 * n ≡ pick t 3 0
+        three true n k = omega arith
+        three false n k = omega arith
 
     -- the length is that of the deciding entry
-    long : (t u : Bool) → has (ValueOf site x) ≡ t → has (ValueOf factory x) ≡ u → (site_over_factory_call site factory x).length ≡ pick t 4 (pick u 4 0)
+    long : (t u : Bool) → has (ValueOf site x) ≡ t → has (ValueOf factory x) ≡ u → (site_over_factory_call site factory x).length ≡ pick t 3 (pick u 3 0)
     long true u e f = ap (λ (d : Deciding). d.length) here ∙ rw e (one site p true e)
     long false u e f = ap (λ (d : Deciding). d.length) here ∙ rw e (one factory q u f)
 
-    none_of : (t u : Bool) → ◌≡◌ {A = ℕ} (pick t 4 (pick u 4 0)) 0 → (t ≡ false) × (u ≡ false)
+    none_of : (t u : Bool) → ◌≡◌ {A = ℕ} (pick t 3 (pick u 3 0)) 0 → (t ≡ false) × (u ≡ false)
     none_of true u e = absurd (omega arith)
     none_of false true e = absurd (omega arith)
     none_of false false e = (refl, refl)
 
-    nothing : (site_over_factory_call site factory x).length ≡ 0 → (v t : ℕ) → (InEntry site x v t → ⊥) × (InEntry factory x v t → ⊥)
-    nothing e v t =
+    nothing : (site_over_factory_call site factory x).length ≡ 0 → (v : ℕ) → (InEntry site x v → ⊥) × (InEntry factory x v → ⊥)
+    nothing e v =
         let k = none_of (has (ValueOf site x)) (has (ValueOf factory x)) (sym (long (has (ValueOf site x)) (has (ValueOf factory x)) refl refl) ∙ e) in
-        (no_entry site x p k.0 v t, no_entry factory x q k.1 v t)
+        (no_entry site x p k.0 v, no_entry factory x q k.1 v)
 
-    alone : ((v t : ℕ) → (InEntry site x v t → ⊥) × (InEntry factory x v t → ⊥)) → (site_over_factory_call site factory x).length ≡ 0
-    alone h = long false false (some_entry site x p (λ v t g. (h v t).0 g)) (some_entry factory x q (λ v t g. (h v t).1 g))
+    alone : ((v : ℕ) → (InEntry site x v → ⊥) × (InEntry factory x v → ⊥)) → (site_over_factory_call site factory x).length ≡ 0
+    alone h = long false false (some_entry site x p (λ v g. (h v).0 g)) (some_entry factory x q (λ v g. (h v).1 g))

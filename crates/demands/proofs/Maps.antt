@@ -61,11 +61,11 @@ edit_means w a b o xs after f e =
     go true x v h q = f v q
     go false x v h q = shaped_value width (map_entries w) h x v q
 
--- assign: v, with the expiry t, on a..b, every other number as it was
-pub assign_means : (w : List ℕ) (a b v t : ℕ) (xs after : List ℕ) → assign_call w a b v t ≡ outcome (given xs) (after ∷ [])
-    → Left map_layout (length w) (with (map_entries w) a b (some (v ∷ t ∷ []))) after
-assign_means w a b v t xs after e =
-    edit_means w a b (some (v ∷ t ∷ [])) xs after (λ u q. let k : v ∷ t ∷ [] ≡ u = cc in sym (ap (λ (l : List ℕ). 2 + length l) k) ∙ refl) e
+-- assign: v on a..b, every other number as it was
+pub assign_means : (w : List ℕ) (a b v : ℕ) (xs after : List ℕ) → assign_call w a b v ≡ outcome (given xs) (after ∷ [])
+    → Left map_layout (length w) (with (map_entries w) a b (some (v ∷ []))) after
+assign_means w a b v xs after e =
+    edit_means w a b (some (v ∷ [])) xs after (λ u q. let k : v ∷ [] ≡ u = cc in sym (ap (λ (l : List ℕ). 2 + length l) k) ∙ refl) e
 
 -- erase: no value on a..b, every other number as it was
 pub erase_means : (w : List ℕ) (a b : ℕ) (xs after : List ℕ) → erase_call w a b ≡ outcome (given xs) (after ∷ [])

@@ -16,24 +16,18 @@ use Rattle.numbers.specs.Numbers.{Bytes, past2, patch}
 use Rattle.checks.specs.Check.{new_mark}
 use Rattle.runs.specs.Runs.{lengths, Fine}
 use Rattle.answers.proofs.Turns.{clear_split}
+use Rattle.runs.proofs.Several.{shapes}
 use Rattle.verdicts.specs.declared.Form.{Form}
 use Rattle.verdicts.specs.Forms.{of_set, of_map, of_bulletin, of_signed, mark_of, form_of, size_of, overlap, no_blocks, no_rooms}
+use Rattle.verdicts.proofs.Whole.{size}
 use Rattle.forms.specs.Calls.{stored_in, read_call, read_set_call, read_map_call, read_bulletin_call, read_signed_call, held_in, inputs, no_space, written_at, write_call}
-use Rattle.forms.proofs.Forms.{read_kept}
-use Rattle.forms.proofs.Taking.{runs_fine, runs_lent, runs_many, runs_lengths, runs_one}
-use Rattle.forms.specs.Calls.{taken_runs}
-use Rattle.verdicts.specs.Forms.{of_undated, block_layout, Formed}
-use Rattle.verdicts.proofs.Blocks.{block_two}
-use Rattle.entries.specs.Build.{pick}
-use mathlib.Core.Bool.{Bool, true, false}
-use lib.Dec.{eqb}
-use Rattle.demands.specs.Bytes.{Readable, of_four, of_undated_lem}
+use Rattle.forms.proofs.Forms.{read_written}
 use Rattle.demands.specs.Plain.{In, leaves}
-use Rattle.demands.specs.Bytes.{is_set, is_map, is_bulletin, is_signed, GivesBack, WholeForm, ReadSizes, OneSetForm, OneMapForm, OneBulletinForm}
+use Rattle.demands.specs.Bytes.{OfFour, is_set, is_map, is_bulletin, is_signed, GivesBack, WholeForm, ReadSizes, OneSetForm, OneMapForm, OneBulletinForm}
 use Rattle.demands.specs.Bytes.{OneSignedForm, OneSetWritten, OneMapWritten, OneSignedWritten, OneBulletinWritten}
 use Rattle.demands.proofs.Signed.{all_keys}
 use Rattle.demands.proofs.Stored.{one_set, one_map}
-use Rattle.demands.proofs.Forms.{read_kind, own, read_exactly, read_and_written}
+use Rattle.demands.proofs.Forms.{kind_of, read_exactly}
 
 -- a sound block of 64-bit words
 abbrev Good : Layout → List ℕ → Type 0
@@ -58,109 +52,81 @@ module _ (l : Layout) (two : 2 ≤ l.width) (small : l.limit < past2) where
       )
 
 -- READING leaves such blocks; the bytes are the form of what they say, and as many as its size
-module _ (f : Form) (t : Readable f) where
-  pub record Blocks (b : List ℕ) (ws : List (List ℕ)) : Type 0 where
-    pub runs : List (List Entry)
-    pub formed : Formed f b runs
-    pub good : Each (Good (block_layout f)) ws
-    pub said : held_in (block_layout f) ws ≡ taken_runs f.undated runs
-    pub long : length b ≡ size_of f (lengths (held_in (block_layout f) ws))
-
-  pub read_blocks : (b : List ℕ) (outs ws : List (List ℕ)) → Bytes b → length outs ≡ f.runs → read_call f b outs ≡ outcome (given []) ws → Blocks b ws
+module _ (f : Form) (t : OfFour f) where
+  read_blocks : (b : List ℕ) (outs ws : List (List ℕ)) → Bytes b → length outs ≡ f.runs → read_call f b outs ≡ outcome (given []) ws
+      → Each (Good f.layout) ws × (b ≡ form_of (mark_of b) f (held_in f.layout ws)) × (length b ≡ size_of f (lengths (held_in f.layout ws)))
   read_blocks b outs ws y many e =
-      let k = read_kind t in
-      let L = block_layout f in
+      let k = kind_of t in
       let r = (read_exactly f t b y outs ws).to e in
       let g = r.form in
-      let ts = taken_runs f.undated r.runs in
-      let c = clear_split (no_blocks 0 (lengths outs)) (no_rooms L 0 (lengths outs) (lengths r.runs)) r.room in
-      let h = outputs_hold L (block_two f k) k.small 0 0 outs ts (many ∙ sym (runs_many f.undated r.runs ∙ g.many)) c.0
-      (subst (λ (ns : List ℕ). Clear (no_rooms L 0 (lengths outs) ns)) (sym (runs_lengths f.undated r.runs)) c.1)
-      (runs_fine f.undated f.layout.width f.layout.limit r.runs g.fine) (runs_lent f.undated r.runs g.lent) in
-      record {
-        runs = r.runs;
-        formed = g;
-        good = subst (Each (Good L)) (sym r.left) h.0;
-        said = ap (held_in L) r.left ∙ h.1;
-        long = (read_kept f k b outs ws y many e).long;
-      }
+      let c = clear_split (no_blocks 0 (lengths outs)) (no_rooms f.layout 0 (lengths outs) (lengths r.runs)) r.room in
+      let h = outputs_hold f.layout k.first.two k.small 0 0 outs r.runs (many ∙ sym g.many) c.0 c.1 g.fine
+      g.lent in
+      let said : r.runs ≡ held_in f.layout ws = sym h.1 ∙ ap (held_in f.layout) (sym r.left) in (
+        subst (Each (Good f.layout)) (sym r.left) h.0,
+        g.form ∙ ap (form_of (mark_of b) f) said,
+        ap length g.form ∙ size f k (mark_of b) r.runs g.many (shapes f.layout.width f.layout.limit r.runs g.fine)
+            ∙ ap (λ (runs : List (List Entry)). size_of f (lengths runs)) said,
+      )
 
   -- so blocks that say the same were read from the same bytes, if these bear the same mark
   one_form : (b b' : List ℕ) (outs outs' ws ws' : List (List ℕ)) → Bytes b → Bytes b' → mark_of b ≡ mark_of b' → length outs ≡ f.runs
       → length outs' ≡ f.runs → read_call f b outs ≡ outcome (given []) ws → read_call f b' outs' ≡ outcome (given []) ws'
-      → (Each (Good (block_layout f)) ws → Each (Good (block_layout f)) ws' → held_in (block_layout f) ws ≡ held_in (block_layout f) ws') → b ≡ b'
+      → (Each (Good f.layout) ws → Each (Good f.layout) ws' → held_in f.layout ws ≡ held_in f.layout ws') → b ≡ b'
   one_form b b' outs outs' ws ws' y y' o m m' e e' same =
       let r = read_blocks b outs ws y m e in
       let r' = read_blocks b' outs' ws' y' m' e' in
-      r.formed.form
-      ∙ ap₂ (λ (mark : ℕ) (runs : List (List Entry)). form_of mark f runs) o
-      (runs_one f.undated r.runs r'.runs (sym r.said ∙ same r.good r'.good ∙ r'.said))
-      ∙ sym r'.formed.form
-
--- the bytes are the form of what the blocks say
-pub whole_form : WholeForm
-whole_form f t b y outs ws many e =
-    let r = read_blocks f (of_four t) b outs ws y many e in
-    r.formed.form
-    ∙ ap (form_of (mark_of b) f)
-    (sym (ap (λ (l : Layout). held_in l ws) (own t).laid ∙ r.said ∙ ap (λ (u : Bool). taken_runs u r.runs) (own t).dates))
+      r.1 ∙ ap₂ (λ (mark : ℕ) (runs : List (List Entry)). form_of mark f runs) o (same r.0 r'.0) ∙ sym r'.1
 
 pub gives_back : GivesBack
 gives_back f t b outs ws bytes p y many o e h =
-    read_and_written f t b outs ws bytes p y many e h
+    read_written f (kind_of t) b outs ws bytes p y many e h
     ∙ ap (λ (x : List ℕ). outcome (given (length b ∷ [])) (patch p x bytes ∷ []))
-    (sym (whole_form f t b y outs ws many e ∙ ap (λ (mark : ℕ). form_of mark f (held_in f.layout ws)) o))
+    (sym ((read_blocks f t b outs ws y many e).1 ∙ ap (λ (mark : ℕ). form_of mark f (held_in f.layout ws)) o))
+
+pub whole_form : WholeForm
+whole_form f t b y outs ws many e = (read_blocks f t b outs ws y many e).1
 
 pub read_sizes : ReadSizes
 read_sizes b y = (of_sets, of_maps, of_bulletins, of_signeds)
   where
     of_sets : (out w : List ℕ) → read_set_call b out ≡ leaves w → length b ≡ 7 + 21 * get_or w 0 0
-    of_sets out w e = omega (arith, (read_blocks of_set (of_four is_set) b (out ∷ []) (w ∷ []) y refl e).long, items_length 2 (get_or w 0 0) (drop 1 w))
+    of_sets out w e = omega (arith, (read_blocks of_set is_set b (out ∷ []) (w ∷ []) y refl e).2, items_length 2 (get_or w 0 0) (drop 1 w))
 
-    of_maps : (out w : List ℕ) → read_map_call b out ≡ leaves w → length b ≡ 7 + pick (eqb (get_or b 2 0) 0x02) 29 37 * get_or w 0 0
-    of_maps out w e = go (eqb (get_or b 2 0) 0x02) e
-      where
-        go : (t : Bool) → read_call (pick t of_undated of_map) b (out ∷ []) ≡ leaves w → length b ≡ 7 + pick t 29 37 * get_or w 0 0
-        go true e = omega (arith, (read_blocks of_undated of_undated_lem b (out ∷ []) (w ∷ []) y refl e).long, items_length 4 (get_or w 0 0) (drop 1 w))
-        go false e = omega (arith, (read_blocks of_map (of_four is_map) b (out ∷ []) (w ∷ []) y refl e).long, items_length 4 (get_or w 0 0) (drop 1 w))
+    of_maps : (out w : List ℕ) → read_map_call b out ≡ leaves w → length b ≡ 7 + 29 * get_or w 0 0
+    of_maps out w e = omega (arith, (read_blocks of_map is_map b (out ∷ []) (w ∷ []) y refl e).2, items_length 3 (get_or w 0 0) (drop 1 w))
 
     of_bulletins : (outR outW r w : List ℕ) → read_bulletin_call b outR outW ≡ outcome (given []) (r ∷ w ∷ []) → length b ≡ 9 + 21 * (get_or r 0 0 + get_or w 0 0)
     of_bulletins outR outW r w e =
         omega (
           arith,
-          (read_blocks of_bulletin (of_four is_bulletin) b (outR ∷ outW ∷ []) (r ∷ w ∷ []) y refl e).long,
+          (read_blocks of_bulletin is_bulletin b (outR ∷ outW ∷ []) (r ∷ w ∷ []) y refl e).2,
           items_length 2 (get_or r 0 0) (drop 1 r),
           items_length 2 (get_or w 0 0) (drop 1 w),
         )
 
     of_signeds : (out w : List ℕ) → read_signed_call b out ≡ leaves w → length b ≡ 7 + 21 * get_or w 0 0
-    of_signeds out w e = omega (arith, (read_blocks of_signed (of_four is_signed) b (out ∷ []) (w ∷ []) y refl e).long, items_length 2 (get_or w 0 0) (drop 1 w))
+    of_signeds out w e = omega (arith, (read_blocks of_signed is_signed b (out ∷ []) (w ∷ []) y refl e).2, items_length 2 (get_or w 0 0) (drop 1 w))
 
 pub one_set_form : OneSetForm
 one_set_form b b' out out' w w' y y' o e e' h =
-    one_form of_set (of_four is_set) b b' (out ∷ []) (out' ∷ []) (w ∷ []) (w' ∷ []) y y' o refl refl e e'
+    one_form of_set is_set b b' (out ∷ []) (out' ∷ []) (w ∷ []) (w' ∷ []) y y' o refl refl e e'
     (λ p q. ap (λ (es : List Entry). es ∷ []) (one_set w w' p.0.0 q.0.0 p.0.1 q.0.1 h))
 
 pub one_map_form : OneMapForm
-one_map_form b b' out out' w w' y y' o a e e' h =
-    go (eqb (get_or b 2 0) 0x02) e (ap (λ (n : ℕ). read_call (pick (eqb n 0x02) of_undated of_map) b' (out' ∷ [])) a ∙ e')
-  where
-    alike : Each (Good map_layout) (w ∷ []) → Each (Good map_layout) (w' ∷ []) → held_in map_layout (w ∷ []) ≡ held_in map_layout (w' ∷ [])
-    alike p q = ap (λ (es : List Entry). es ∷ []) (one_map w w' p.0.0 q.0.0 p.0.1 q.0.1 h)
-
-    go : (t : Bool) → read_call (pick t of_undated of_map) b (out ∷ []) ≡ leaves w → read_call (pick t of_undated of_map) b' (out' ∷ []) ≡ leaves w' → b ≡ b'
-    go true e e' = one_form of_undated of_undated_lem b b' (out ∷ []) (out' ∷ []) (w ∷ []) (w' ∷ []) y y' o refl refl e e' alike
-    go false e e' = one_form of_map (of_four is_map) b b' (out ∷ []) (out' ∷ []) (w ∷ []) (w' ∷ []) y y' o refl refl e e' alike
+one_map_form b b' out out' w w' y y' o e e' h =
+    one_form of_map is_map b b' (out ∷ []) (out' ∷ []) (w ∷ []) (w' ∷ []) y y' o refl refl e e'
+    (λ p q. ap (λ (es : List Entry). es ∷ []) (one_map w w' p.0.0 q.0.0 p.0.1 q.0.1 h))
 
 pub one_bulletin_form : OneBulletinForm
 one_bulletin_form b b' outR outW outR' outW' r w r' w' y y' o e e' h g =
-    one_form of_bulletin (of_four is_bulletin) b b' (outR ∷ outW ∷ []) (outR' ∷ outW' ∷ []) (r ∷ w ∷ []) (r' ∷ w' ∷ []) y y' o refl refl e e'
+    one_form of_bulletin is_bulletin b b' (outR ∷ outW ∷ []) (outR' ∷ outW' ∷ []) (r ∷ w ∷ []) (r' ∷ w' ∷ []) y y' o refl refl e e'
     (λ p q. ap₂ (λ (es fs : List Entry). es ∷ fs ∷ []) (one_set r r' p.0.0 q.0.0 p.0.1 q.0.1 h)
     (one_set w w' p.1.0.0 q.1.0.0 p.1.0.1 q.1.0.1 g))
 
 pub one_signed_form : OneSignedForm
 one_signed_form b b' out out' w w' y y' o e e' h =
-    one_form of_signed (of_four is_signed) b b' (out ∷ []) (out' ∷ []) (w ∷ []) (w' ∷ []) y y' o refl refl e e'
+    one_form of_signed is_signed b b' (out ∷ []) (out' ∷ []) (w ∷ []) (w' ∷ []) y y' o refl refl e e'
     (λ p q. ap (λ (es : List Entry). es ∷ []) (one_set w w' p.0.0 q.0.0 p.0.1 q.0.1 ((all_keys (λ x. In w x ≡ In w' x)).from h)))
 
 -- WRITING looks at the verdicts on the blocks, and at what they say

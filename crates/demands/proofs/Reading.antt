@@ -27,10 +27,6 @@ use Rattle.verdicts.specs.Forms.{mark_of, of_set, kinds_of, start_size, form_cou
 use Rattle.verdicts.specs.Forms.{no_blocks, no_rooms, out_refusals}
 use Rattle.verdicts.proofs.Whole.{counted}
 use Rattle.forms.specs.Calls.{stored_in, read_call, read_set_call, judge_call, judge_set_call}
-use Rattle.forms.specs.Calls.{taken_runs}
-use Rattle.verdicts.specs.Forms.{block_layout}
-use Rattle.demands.specs.Bytes.{Readable, of_four, of_undated_lem}
-use Rattle.demands.proofs.Forms.{read_kind}
 use Rattle.forms.proofs.Forms.{accepted_formed, formed_accepted}
 use Rattle.demands.specs.Bytes.{OfFour, is_set, is_map, is_bulletin, is_signed, last_of_bytes, IsForm, ReadRefusals, HostRefuses, NoRoomFor, ReadRoom}
 use Rattle.demands.specs.Bytes.{JudgeAsRead, OtherMark, MixedMarks, OtherStart, OtherItem, KeyRecord}
@@ -100,17 +96,12 @@ bytes_numbers f is_map b = form_numbers 13 (omega arith) f b (λ z. absurd (z re
 bytes_numbers f is_bulletin b = form_numbers 14 (omega arith) f b (applied (From8 14) (sharing (form_entries f b)) 14 (omega arith, omega arith))
 bytes_numbers f is_signed b = form_numbers 13 (omega arith) f b (λ z. absurd (z refl))
 
-read_numbers : (f : Form) → Readable f → (b : List ℕ) → Numbered (From8 (last_of_bytes f)) (form_refusals f b)
-unfolding form_entries runs_in
-read_numbers f (of_four t) b = bytes_numbers f t b
-read_numbers f of_undated_lem b = form_numbers 13 (omega arith) f b (λ z. absurd (z refl))
-
 -- THE NUMBERS with which reading refuses
 pub read_refusals : ReadRefusals
 unfolding read_call
 read_refusals f t b y outs after n p e =
-    go (named_split (form_refusals f b) (out_refusals (block_layout f) ls counts)
-    (refused_named (form_refusals f b ++ out_refusals (block_layout f) ls counts) outs [] (stored_in outs (taken_runs f.undated (form_entries f b))) n p after e))
+    go (named_split (form_refusals f b) (out_refusals f.layout ls counts)
+    (refused_named (form_refusals f b ++ out_refusals f.layout ls counts) outs [] (stored_in outs (form_entries f b)) n p after e))
   where
     ls : List ℕ
     ls = lengths outs
@@ -118,28 +109,28 @@ read_refusals f t b y outs after n p e =
     counts : List ℕ
     counts = lengths (form_entries f b)
 
-    of_outputs : Named (no_blocks 0 ls) n p ⊎ (Clear (no_blocks 0 ls) × Named (no_rooms (block_layout f) 0 ls counts) n p) → (n ≡ 1) ⊎ (n ≡ 5)
+    of_outputs : Named (no_blocks 0 ls) n p ⊎ (Clear (no_blocks 0 ls) × Named (no_rooms f.layout 0 ls counts) n p) → (n ≡ 1) ⊎ (n ≡ 5)
     of_outputs (inl m) = inl (named_number (λ n. n ≡ 1) (no_blocks 0 ls) (words_numbers 0 ls) m)
-    of_outputs (inr m) = inr (named_number (λ n. n ≡ 5) (no_rooms (block_layout f) 0 ls counts) (rooms_numbers (block_layout f) 0 ls counts) m.1)
+    of_outputs (inr m) = inr (named_number (λ n. n ≡ 5) (no_rooms f.layout 0 ls counts) (rooms_numbers f.layout 0 ls counts) m.1)
 
-    go : Named (form_refusals f b) n p ⊎ (Clear (form_refusals f b) × Named (out_refusals (block_layout f) ls counts) n p)
+    go : Named (form_refusals f b) n p ⊎ (Clear (form_refusals f b) × Named (out_refusals f.layout ls counts) n p)
         → ((8 ≤ n) × (n ≤ last_of_bytes f) × (IsForm f b → ⊥)) ⊎ (((n ≡ 1) ⊎ (n ≡ 5)) × IsForm f b)
     go (inl m) =
-        let k = named_number (From8 (last_of_bytes f)) (form_refusals f b) (read_numbers f t b) m in
-        inl (k.0, k.1, λ i. named_applies (form_refusals f b) m (formed_accepted f (read_kind t) b i.runs i.form).0)
+        let k = named_number (From8 (last_of_bytes f)) (form_refusals f b) (bytes_numbers f t b) m in
+        inl (k.0, k.1, λ i. named_applies (form_refusals f b) m (formed_accepted f (kind_of t) b i.runs i.form).0)
     go (inr m) =
         inr (
-          of_outputs (named_split (no_blocks 0 ls) (no_rooms (block_layout f) 0 ls counts) m.1),
-          record { runs = form_entries f b; form = accepted_formed f (read_kind t) b y m.0 },
+          of_outputs (named_split (no_blocks 0 ls) (no_rooms f.layout 0 ls counts) m.1),
+          record { runs = form_entries f b; form = accepted_formed f (kind_of t) b y m.0 },
         )
 
 -- bytes that are no form are refused, whatever the outputs are
-pub no_form : (f : Form) → Readable f → (b : List ℕ) → Bytes b → (IsForm f b → ⊥) → (outs : List (List ℕ)) → BytesRefused f b outs
+pub no_form : (f : Form) → OfFour f → (b : List ℕ) → Bytes b → (IsForm f b → ⊥) → (outs : List (List ℕ)) → BytesRefused f b outs
 unfolding read_call
 no_form f t b y not outs = go (read_call f b outs) refl
   where
     rs : List Finding
-    rs = out_refusals (block_layout f) (lengths outs) (lengths (form_entries f b))
+    rs = out_refusals f.layout (lengths outs) (lengths (form_entries f b))
 
     told : (n p : ℕ) → read_call f b outs ≡ refuse n p outs
         → ((8 ≤ n) × (n ≤ last_of_bytes f) × (IsForm f b → ⊥)) ⊎ (((n ≡ 1) ⊎ (n ≡ 5)) × IsForm f b) → BytesRefused f b outs
@@ -148,8 +139,8 @@ no_form f t b y not outs = go (read_call f b outs) refl
 
     go : (o : Outcome) → read_call f b outs ≡ o → BytesRefused f b outs
     go (outcome (given xs) after) e =
-        let a = turn_accepted (form_refusals f b ++ rs) outs (outcome (given []) (stored_in outs (taken_runs f.undated (form_entries f b)))) xs after e in
-        absurd (not (record { runs = form_entries f b; form = accepted_formed f (read_kind t) b y (clear_split (form_refusals f b) rs a.0).0 }))
+        let a = turn_accepted (form_refusals f b ++ rs) outs (outcome (given []) (stored_in outs (form_entries f b))) xs after e in
+        absurd (not (record { runs = form_entries f b; form = accepted_formed f (kind_of t) b y (clear_split (form_refusals f b) rs a.0).0 }))
     go (outcome (refused n p) after) e =
         let d : read_call f b outs ≡ refuse n p outs = e ∙ ap (outcome (refused n p)) (subst (Keeps outs) e (bytes_keep.0 f b outs)) in
         told n p d (read_refusals f t b y outs outs n p d)
@@ -157,7 +148,7 @@ no_form f t b y not outs = go (read_call f b outs) refl
 -- THE C HOST'S QUESTION of bytes that are no form
 pub host_refuses : HostRefuses
 host_refuses b x y not =
-    let r = no_form of_set (of_four is_set) b y not [] in
+    let r = no_form of_set is_set b y not [] in
     let k = (host_question b x y).1 r.number r.place r.refused in
     (omega (arith, k, r.from8), omega (arith, k, r.to_last))
 
@@ -174,7 +165,7 @@ judge_as_read b y = (given_by, refused_by)
 
     given_by : (out w : List ℕ) → read_set_call b out ≡ leaves w → judge_set_call b ≡ outcome (given (get_or w 0 0 ∷ [])) []
     given_by out w e =
-        let r = (read_exactly of_set (of_four is_set) b y (out ∷ []) (w ∷ [])).to e in
+        let r = (read_exactly of_set is_set b y (out ∷ []) (w ∷ [])).to e in
         let a = formed_accepted of_set (kind_of is_set) b r.runs r.form in
         clear_turn (form_refusals of_set b) [] (outcome (given (form_counts of_set b)) []) a.0
         ∙ ap (λ (ns : List ℕ). outcome (given ns) [])
@@ -193,11 +184,6 @@ as_many f is_map b = refl
 as_many f is_bulletin b = refl
 as_many f is_signed b = refl
 
-read_many : (f : Form) → Readable f → (b : List ℕ) → length (lengths (form_entries f b)) ≡ f.runs
-unfolding form_entries runs_in
-read_many f (of_four t) b = as_many f t b
-read_many f of_undated_lem b = refl
-
 -- ROOM exactly
 pub read_room : ReadRoom
 unfolding read_call
@@ -210,7 +196,7 @@ read_room f t b y outs many i = record { to = to; from = from }
     counts = lengths (form_entries f b)
 
     after : List (List ℕ)
-    after = stored_in outs (taken_runs f.undated (form_entries f b))
+    after = stored_in outs (form_entries f b)
 
     firsts : List Finding
     firsts = form_refusals f b ++ no_blocks 0 ls
@@ -219,17 +205,17 @@ read_room f t b y outs many i = record { to = to; from = from }
     other : Numbered Not5 firsts
     other =
         numbered_both Not5 (form_refusals f b) (no_blocks 0 ls)
-        (numbered_so (From8 (last_of_bytes f)) Not5 (λ n h e. omega (arith, h.0)) (form_refusals f b) (read_numbers f t b))
+        (numbered_so (From8 (last_of_bytes f)) Not5 (λ n h e. omega (arith, h.0)) (form_refusals f b) (bytes_numbers f t b))
         (numbered_so (λ n. n ≡ 1) Not5 (λ n h e. omega arith) (no_blocks 0 ls) (words_numbers 0 ls))
 
-    exactly : Iff (in_turn (firsts ++ no_rooms (block_layout f) 0 ls counts) outs (outcome (given []) after) ≡ refuse 5 i outs)
-        (Clear firsts × Lacks (block_layout f) ls counts i)
-    exactly = refused_room (block_layout f) 0 ls counts (many_lengths outs ∙ many ∙ sym (read_many f t b)) i i (omega arith) firsts other outs [] after
+    exactly : Iff (in_turn (firsts ++ no_rooms f.layout 0 ls counts) outs (outcome (given []) after) ≡ refuse 5 i outs)
+        (Clear firsts × Lacks f.layout ls counts i)
+    exactly = refused_room f.layout 0 ls counts (many_lengths outs ∙ many ∙ sym (as_many f t b)) i i (omega arith) firsts other outs [] after
 
-    same : read_call f b outs ≡ in_turn (firsts ++ no_rooms (block_layout f) 0 ls counts) outs (outcome (given []) after)
+    same : read_call f b outs ≡ in_turn (firsts ++ no_rooms f.layout 0 ls counts) outs (outcome (given []) after)
     same =
         ap (λ (fs : List Finding). in_turn fs outs (outcome (given []) after))
-        (sym (append_assoc (form_refusals f b) (no_blocks 0 ls) (no_rooms (block_layout f) 0 ls counts)))
+        (sym (append_assoc (form_refusals f b) (no_blocks 0 ls) (no_rooms f.layout 0 ls counts)))
 
     to : read_call f b outs ≡ refuse 5 i outs → NoRoomFor f b outs i
     to e =
@@ -237,17 +223,17 @@ read_room f t b y outs many i = record { to = to; from = from }
         let c = clear_split (form_refusals f b) (no_blocks 0 ls) h.0 in
         record {
           runs = form_entries f b;
-          form = accepted_formed f (read_kind t) b y c.0;
+          form = accepted_formed f (kind_of t) b y c.0;
           words = clear_words 0 outs c.1;
           short = h.1;
         }
 
     from : NoRoomFor f b outs i → read_call f b outs ≡ refuse 5 i outs
     from h =
-        let a = formed_accepted f (read_kind t) b h.runs h.form in
+        let a = formed_accepted f (kind_of t) b h.runs h.form in
         same ∙ exactly.from (
           clear_both (form_refusals f b) (no_blocks 0 ls) a.0 (words_clear 0 outs h.words),
-          subst (λ (es : List (List Entry)). Lacks (block_layout f) ls (lengths es) i) (sym a.1) h.short,
+          subst (λ (es : List (List Entry)). Lacks f.layout ls (lengths es) i) (sym a.1) h.short,
         )
 
 -- THE MARK: a record whose mark is not the one that is due
@@ -284,27 +270,25 @@ first_item mark s p kind (suc k) v kinds counts b gs hs lent o z e = rw e
 
 pub other_item : OtherItem
 unfolding read_call form_refusals
-other_item f (of_four is_set) b outs v z h m n = rw v (first_item _ _ _ _ _ 9 _ _ _ _ _ _ _ z (other_kind _ _ _ _ h m n))
-other_item f (of_four is_map) b outs v z h m n = rw v (first_item _ _ _ _ _ 9 _ _ _ _ _ _ _ z (other_kind _ _ _ _ h m n))
-other_item f (of_four is_bulletin) b outs v z h m n = rw v (first_item _ _ _ _ _ 9 _ _ _ _ _ _ _ z (other_kind _ _ _ _ h m n))
-other_item f (of_four is_signed) b outs v z h m n = rw v (first_item _ _ _ _ _ 9 _ _ _ _ _ _ _ z (other_kind _ _ _ _ h m n))
-other_item f of_undated_lem b outs v z h m n = rw v (first_item _ _ _ _ _ 9 _ _ _ _ _ _ _ z (other_kind _ _ _ _ h m n))
+other_item f is_set b outs v z h m n = rw v (first_item _ _ _ _ _ 9 _ _ _ _ _ _ _ z (other_kind _ _ _ _ h m n))
+other_item f is_map b outs v z h m n = rw v (first_item _ _ _ _ _ 9 _ _ _ _ _ _ _ z (other_kind _ _ _ _ h m n))
+other_item f is_bulletin b outs v z h m n = rw v (first_item _ _ _ _ _ 9 _ _ _ _ _ _ _ z (other_kind _ _ _ _ h m n))
+other_item f is_signed b outs v z h m n = rw v (first_item _ _ _ _ _ 9 _ _ _ _ _ _ _ z (other_kind _ _ _ _ h m n))
 
 -- an item behind a good start, whose mark is not the start's
-module _ (f : Form) (t : Readable f) (b : List ℕ) (v : start_verdict (mark_of b) f.start f.runs f.layout.limit b ≡ 0) (d : List ℕ)
+module _ (f : Form) (t : OfFour f) (b : List ℕ) (v : start_verdict (mark_of b) f.start f.runs f.layout.limit b ≡ 0) (d : List ℕ)
     (h : 3 ≤ length d) (n : num2 d 0 ≡ num2 b 0 → ⊥) where
   not_marked : (due : ℕ) (content : Bool) → record_verdict (mark_of b) due content d ≡ 9
   not_marked due content =
-      let w = (record_inv (mark_of b) f.start b (all_within f.layout.limit (form_counts f b)) (2 * f.runs) (read_kind t).start.body v).0 in
+      let w = (record_inv (mark_of b) f.start b (all_within f.layout.limit (form_counts f b)) (2 * f.runs) (kind_of t).start.body v).0 in
       unmarked (mark_of b) due content d h (λ e. n (e ∙ sym w.marked))
 
 pub mixed_marks : MixedMarks
 unfolding read_call form_refusals
-mixed_marks f (of_four is_set) b outs v z h n = rw v (first_item _ _ _ _ _ 8 _ _ _ _ _ _ _ z (not_marked f (of_four is_set) b v _ h n _ _))
-mixed_marks f (of_four is_map) b outs v z h n = rw v (first_item _ _ _ _ _ 8 _ _ _ _ _ _ _ z (not_marked f (of_four is_map) b v _ h n _ _))
-mixed_marks f (of_four is_bulletin) b outs v z h n = rw v (first_item _ _ _ _ _ 8 _ _ _ _ _ _ _ z (not_marked f (of_four is_bulletin) b v _ h n _ _))
-mixed_marks f (of_four is_signed) b outs v z h n = rw v (first_item _ _ _ _ _ 8 _ _ _ _ _ _ _ z (not_marked f (of_four is_signed) b v _ h n _ _))
-mixed_marks f of_undated_lem b outs v z h n = rw v (first_item _ _ _ _ _ 8 _ _ _ _ _ _ _ z (not_marked f of_undated_lem b v _ h n _ _))
+mixed_marks f is_set b outs v z h n = rw v (first_item _ _ _ _ _ 8 _ _ _ _ _ _ _ z (not_marked f is_set b v _ h n _ _))
+mixed_marks f is_map b outs v z h n = rw v (first_item _ _ _ _ _ 8 _ _ _ _ _ _ _ z (not_marked f is_map b v _ h n _ _))
+mixed_marks f is_bulletin b outs v z h n = rw v (first_item _ _ _ _ _ 8 _ _ _ _ _ _ _ z (not_marked f is_bulletin b v _ h n _ _))
+mixed_marks f is_signed b outs v z h n = rw v (first_item _ _ _ _ _ 8 _ _ _ _ _ _ _ z (not_marked f is_signed b v _ h n _ _))
 
 -- THE BYTES OF KEYS
 pub key_record : KeyRecord

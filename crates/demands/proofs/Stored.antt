@@ -24,10 +24,6 @@ use Rattle.bulletins.specs.Calls.{apply_refusals, apply_call, fold_refusals, fol
 use Rattle.runs.specs.Runs.{lengths}
 use Rattle.verdicts.specs.Forms.{form_entries, form_refusals, out_refusals}
 use Rattle.forms.specs.Calls.{stored_in, read_call, inputs, write_call}
-use Rattle.forms.specs.Calls.{taken_runs}
-use Rattle.verdicts.specs.Forms.{block_layout}
-use Rattle.maps.specs.Calls.{map_entries}
-use Rattle.maps.proofs.Looking.{width}
 use Rattle.demands.specs.Stored.{LaterAsked, LaterAskedTwo, LaterWindow, LaterFit, LaterLookUp, LaterSite, LaterEdit, LaterReserve, LaterTwo, LaterOne}
 use Rattle.demands.specs.Stored.{LaterApply, LaterFold, LaterWrite, OldWords, OneSet, OneMap, SameOutcome, both_refuse}
 use Rattle.demands.proofs.Words.{split}
@@ -118,8 +114,8 @@ old_words = (
   λ list released withdrawn o p n. rw (n) (turn_alike _ _ (apply_refusals list released withdrawn (length p)) _ _),
   λ r₁ w₁ r₂ w₂ outR outW outR' outW' n m. rw (n, m) (turn_alike _ _ (fold_refusals r₁ w₁ r₂ w₂ (length outR') (length outW')) _ _),
   λ f b outs outs' n.
-      rw (n, stored_same outs outs' (taken_runs f.undated (form_entries f b)) n)
-      (turn_alike outs outs' (form_refusals f b ++ out_refusals (block_layout f) (lengths outs') (lengths (form_entries f b))) _ _),
+      rw (n, stored_same outs outs' (form_entries f b) n)
+      (turn_alike outs outs' (form_refusals f b ++ out_refusals f.layout (lengths outs') (lengths (form_entries f b))) _ _),
   λ w v n. rw (n) (turn_alike _ _ (output 0 (length v) ∷ []) _ _),
 )
   where
@@ -141,5 +137,5 @@ one_set w v p q lw lv h =
 
 pub one_map : OneMap
 one_map w v p q lw lv h =
-    canonical (map_entries w) (map_entries v) (verdict_sound map_layout w p).sound (verdict_sound map_layout v q).sound
-    (λ x. split x (λ l. h x l) (λ l. bounded width w lw x l ∙ sym (bounded width v lv x l)))
+    canonical (entries_of 3 w) (entries_of 3 v) (verdict_sound map_layout w p).sound (verdict_sound map_layout v q).sound
+    (λ x. split x (λ l. h x l) (λ l. bounded 3 w lw x l ∙ sym (bounded 3 v lv x l)))

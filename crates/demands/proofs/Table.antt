@@ -99,7 +99,7 @@ H = 0xC5 ∷ 0x3A ∷ 0x01 ∷ 0x00 ∷ 0x01 ∷ 0x04 ∷ 0x02 ∷ 0xC5 ∷ 0x3A
 abbrev I : List ℕ
 I = 0xC5 ∷ 0x3A ∷ 0x01 ∷ 0x00 ∷ 0x00 ∷ 0x03 ∷ 0x01 ∷ []
 
--- the bytes of the map {0..9 is 1} without expiries, and of the bulletin that releases 1..4 and withdraws 9..9
+-- the bytes of the map {0..9 is 1}, and of the bulletin that releases 1..4 and withdraws 9..9
 abbrev one_entry : List ℕ
 one_entry =
     0xC5 ∷ 0x3A ∷ 2 ∷ 0 ∷ 1 ∷ 7 ∷ 3
@@ -182,29 +182,6 @@ one_entry_new =
     0xC5 ∷ 0x3B ∷ 2 ∷ 0 ∷ 1 ∷ 0xB2 ∷ 0xDD
     ∷ 0xC5 ∷ 0x3B ∷ 0x11 ∷ 0 ∷ 0 ∷ 0 ∷ 0 ∷ 0 ∷ 0 ∷ 0 ∷ 0 ∷ 0 ∷ 0 ∷ 0 ∷ 0 ∷ 0 ∷ 0 ∷ 0 ∷ 9 ∷ 0 ∷ 0 ∷ 0 ∷ 0 ∷ 0 ∷ 0 ∷ 0 ∷ 1 ∷ 0x0A ∷ 0x4C ∷ []
 
--- the map {0..9 is 1} with the expiry M, in the old form and the new, and with the expiry 20,000
-abbrev lasting_entry : List ℕ
-lasting_entry =
-    0xC5 ∷ 0x3A ∷ 5 ∷ 0 ∷ 1 ∷ 0x10 ∷ 6
-    ∷ 0xC5 ∷ 0x3A ∷ 0x15 ∷ 0 ∷ 0 ∷ 0 ∷ 0 ∷ 0 ∷ 0 ∷ 0 ∷ 0 ∷ 0 ∷ 0 ∷ 0 ∷ 0 ∷ 0 ∷ 0 ∷ 0 ∷ 9 ∷ 0 ∷ 0 ∷ 0 ∷ 0 ∷ 0 ∷ 0 ∷ 0 ∷ 1
-    ∷ 0xFF ∷ 0xFF ∷ 0xFF ∷ 0xFF ∷ 0xFF ∷ 0xFF ∷ 0xFF ∷ 0xFF ∷ 0x5A ∷ 0x1F ∷ []
-
-abbrev lasting_entry_new : List ℕ
-lasting_entry_new =
-    0xC5 ∷ 0x3B ∷ 5 ∷ 0 ∷ 1 ∷ 0x37 ∷ 0x4D
-    ∷ 0xC5 ∷ 0x3B ∷ 0x15 ∷ 0 ∷ 0 ∷ 0 ∷ 0 ∷ 0 ∷ 0 ∷ 0 ∷ 0 ∷ 0 ∷ 0 ∷ 0 ∷ 0 ∷ 0 ∷ 0 ∷ 0 ∷ 9 ∷ 0 ∷ 0 ∷ 0 ∷ 0 ∷ 0 ∷ 0 ∷ 0 ∷ 1
-    ∷ 0xFF ∷ 0xFF ∷ 0xFF ∷ 0xFF ∷ 0xFF ∷ 0xFF ∷ 0xFF ∷ 0xFF ∷ 0xAF ∷ 0x28 ∷ []
-
-abbrev dated_entry_new : List ℕ
-dated_entry_new =
-    0xC5 ∷ 0x3B ∷ 5 ∷ 0 ∷ 1 ∷ 0x37 ∷ 0x4D
-    ∷ 0xC5 ∷ 0x3B ∷ 0x15 ∷ 0 ∷ 0 ∷ 0 ∷ 0 ∷ 0 ∷ 0 ∷ 0 ∷ 0 ∷ 0 ∷ 0 ∷ 0 ∷ 0 ∷ 0 ∷ 0 ∷ 0 ∷ 9 ∷ 0 ∷ 0 ∷ 0 ∷ 0 ∷ 0 ∷ 0 ∷ 0 ∷ 1
-    ∷ 0 ∷ 0 ∷ 0 ∷ 0 ∷ 0 ∷ 0 ∷ 0x4E ∷ 0x20 ∷ 3 ∷ 0x68 ∷ []
-
--- a map block: 0..4 has the value 0 and 5..9 the value 1, with the expiry 0
-abbrev two : List ℕ
-two = 2 ∷ 0 ∷ 4 ∷ 0 ∷ 0 ∷ 5 ∷ 9 ∷ 1 ∷ 0 ∷ []
-
 abbrev one_each_new : List ℕ
 one_each_new =
     0xC5 ∷ 0x3B ∷ 3 ∷ 0 ∷ 1 ∷ 0 ∷ 1 ∷ 0xD8 ∷ 0xCF
@@ -242,14 +219,10 @@ whole_line_new =
     0xC5 ∷ 0x3B ∷ 1 ∷ 0 ∷ 1 ∷ 0xEB ∷ 0x8D
     ∷ 0xC5 ∷ 0x3B ∷ 0x10 ∷ 0 ∷ 0 ∷ 0 ∷ 0 ∷ 0 ∷ 0 ∷ 0 ∷ 0 ∷ 0xFF ∷ 0xFF ∷ 0xFF ∷ 0xFF ∷ 0xFF ∷ 0xFF ∷ 0xFF ∷ 0xFF ∷ 0x7F ∷ 0x0C ∷ []
 
--- what is left of a block that was read, written at the front of 28 bytes; of a map's, of 44
+-- what is left of a block that was read, written at the front of 28 bytes
 abbrev rewritten : Outcome → Outcome
 rewritten (outcome a []) = answer []
 rewritten (outcome a (w ∷ ws)) = write_set_call w (replicate 28 7) 0
-
-abbrev rewritten_map : Outcome → Outcome
-rewritten_map (outcome a []) = answer []
-rewritten_map (outcome a (w ∷ ws)) = write_map_call w (replicate 44 7) 0
 
 abbrev table : List Case
 table =
@@ -279,22 +252,9 @@ table =
     -- [F1, R17] the longest run that can be asked for, in a gap of 2^64 numbers; 4 comes before 6
     ∷ case (best_fit_call (0 ∷ []) 0 M M) (answer (0 ∷ []))
     ∷ case (first_fit_call (0 ∷ []) 5 4 0) (outcome (refused 4 0) [])
-    -- [N-G] {0..9 is 1}, all with the expiry 20: assign 2 to 3..5 gives three entries; then assign 1 to 3..5 gives {0..9 is 1}
-    ∷ case (assign_call (1 ∷ 0 ∷ 9 ∷ 1 ∷ 20 ∷ replicate 8 0) 3 5 2 20) (accepted (3 ∷ 0 ∷ 2 ∷ 1 ∷ 20 ∷ 3 ∷ 5 ∷ 2 ∷ 20 ∷ 6 ∷ 9 ∷ 1 ∷ 20 ∷ []))
-    ∷ case (assign_call (3 ∷ 0 ∷ 2 ∷ 1 ∷ 20 ∷ 3 ∷ 5 ∷ 2 ∷ 20 ∷ 6 ∷ 9 ∷ 1 ∷ 20 ∷ []) 3 5 1 20) (accepted (1 ∷ 0 ∷ 9 ∷ 1 ∷ 20 ∷ replicate 8 0))
-    -- [N-G, X1] the same value with another expiry leaves three entries, M too, which is an expiry as any other; both words as they are on both
-    -- sides, one; the value alone or the expiry alone as it is on a side does not join
-    ∷ case (assign_call (1 ∷ 0 ∷ 9 ∷ 1 ∷ 20 ∷ replicate 8 0) 3 5 1 21) (accepted (3 ∷ 0 ∷ 2 ∷ 1 ∷ 20 ∷ 3 ∷ 5 ∷ 1 ∷ 21 ∷ 6 ∷ 9 ∷ 1 ∷ 20 ∷ []))
-    ∷ case (assign_call (1 ∷ 0 ∷ 9 ∷ 1 ∷ 20 ∷ replicate 8 0) 3 5 1 M) (accepted (3 ∷ 0 ∷ 2 ∷ 1 ∷ 20 ∷ 3 ∷ 5 ∷ 1 ∷ M ∷ 6 ∷ 9 ∷ 1 ∷ 20 ∷ []))
-    ∷ case (assign_call (1 ∷ 0 ∷ 9 ∷ 1 ∷ 20 ∷ replicate 4 0) 3 5 1 21) (refusing 5 0 (1 ∷ 0 ∷ 9 ∷ 1 ∷ 20 ∷ replicate 4 0))
-    ∷ case (assign_call (2 ∷ 0 ∷ 2 ∷ 1 ∷ 20 ∷ 6 ∷ 9 ∷ 1 ∷ 20 ∷ []) 3 5 1 20) (accepted (1 ∷ 0 ∷ 9 ∷ 1 ∷ 20 ∷ replicate 4 0))
-    ∷ case (assign_call (2 ∷ 0 ∷ 2 ∷ 1 ∷ 20 ∷ 6 ∷ 9 ∷ 2 ∷ 21 ∷ replicate 4 7) 3 5 1 21)
-    (accepted (3 ∷ 0 ∷ 2 ∷ 1 ∷ 20 ∷ 3 ∷ 5 ∷ 1 ∷ 21 ∷ 6 ∷ 9 ∷ 2 ∷ 21 ∷ []))
-    -- [B3] four words have room for no entry, five for one
-    ∷ case (assign_call (0 ∷ 0 ∷ 0 ∷ 0 ∷ []) 3 5 1 20) (refusing 5 0 (0 ∷ 0 ∷ 0 ∷ 0 ∷ []))
-    ∷ case (assign_call (0 ∷ 0 ∷ 0 ∷ 0 ∷ 0 ∷ []) 3 5 1 20) (accepted (1 ∷ 3 ∷ 5 ∷ 1 ∷ 20 ∷ []))
-    ∷ case (look_up_call (1 ∷ 3 ∷ 5 ∷ 1 ∷ []) 4) (outcome (refused 2 0) [])
-    ∷ case (look_up_call (1 ∷ 3 ∷ 5 ∷ 1 ∷ 20 ∷ []) 4) (answer (1 ∷ 20 ∷ []))
+    -- [N-G] {0..9 is 1}: assign 2 to 3..5 gives three entries; then assign 1 to 3..5 gives {0..9 is 1}
+    ∷ case (assign_call (1 ∷ 0 ∷ 9 ∷ 1 ∷ 0 ∷ 0 ∷ 0 ∷ 0 ∷ 0 ∷ 0 ∷ []) 3 5 2) (accepted (3 ∷ 0 ∷ 2 ∷ 1 ∷ 3 ∷ 5 ∷ 2 ∷ 6 ∷ 9 ∷ 1 ∷ []))
+    ∷ case (assign_call (3 ∷ 0 ∷ 2 ∷ 1 ∷ 3 ∷ 5 ∷ 2 ∷ 6 ∷ 9 ∷ 1 ∷ []) 3 5 1) (accepted (1 ∷ 0 ∷ 9 ∷ 1 ∷ 0 ∷ 0 ∷ 0 ∷ 0 ∷ 0 ∷ 0 ∷ []))
     -- [N-H, R11, Y1, Y2, Y3, Y6, Y10, Y11, C6] {5..9} in the old form, read; with its last byte 1F refused 11 at 7
     ∷ case (read_set_call H (7 ∷ 7 ∷ 7 ∷ 7 ∷ 7 ∷ [])) (accepted (1 ∷ 5 ∷ 9 ∷ 0 ∷ 0 ∷ []))
     ∷ case (read_set_call (take 27 H ++ (0x1F ∷ [])) (7 ∷ 7 ∷ 7 ∷ [])) (refusing 11 7 (7 ∷ 7 ∷ 7 ∷ []))
@@ -323,36 +283,10 @@ table =
     ∷ case (write_set_call (1 ∷ 0 ∷ 0 ∷ []) (replicate 28 7) 0) (outcome (given (28 ∷ [])) (only_zero_new ∷ []))
     ∷ case (write_set_call (1 ∷ 0 ∷ M ∷ []) (replicate 28 7) 0) (outcome (given (28 ∷ [])) (whole_line_new ∷ []))
     ∷ case (answer (drop 26 only_zero_new ++ drop 26 whole_line_new)) (answer (0xD9 ∷ 0xED ∷ 0x7F ∷ 0x0C ∷ []))
-    -- [X2, Y10, C2, C6] the bytes of a map, old and new, read, and the new written
-    ∷ case (read_map_call lasting_entry (7 ∷ 7 ∷ 7 ∷ 7 ∷ 7 ∷ 7 ∷ [])) (accepted (1 ∷ 0 ∷ 9 ∷ 1 ∷ M ∷ 0 ∷ []))
-    ∷ case (read_map_call lasting_entry_new (7 ∷ 7 ∷ 7 ∷ 7 ∷ 7 ∷ 7 ∷ [])) (accepted (1 ∷ 0 ∷ 9 ∷ 1 ∷ M ∷ 0 ∷ []))
-    ∷ case (read_map_call dated_entry_new (7 ∷ 7 ∷ 7 ∷ 7 ∷ 7 ∷ [])) (accepted (1 ∷ 0 ∷ 9 ∷ 1 ∷ 20000 ∷ []))
-    ∷ case (write_map_call (1 ∷ 0 ∷ 9 ∷ 1 ∷ 20000 ∷ []) (replicate 44 7) 0) (outcome (given (44 ∷ [])) (dated_entry_new ∷ []))
-    ∷ case (write_map_call (1 ∷ 0 ∷ 9 ∷ 1 ∷ 20000 ∷ []) (replicate 43 7) 0) (refusing 15 0 (replicate 43 7))
-    -- [Y4, Y7, X3, X4, X5] the same map without expiries, old and new, read, and each of the four written: the new form with the expiry M
-    ∷ case (read_map_call one_entry (7 ∷ 7 ∷ 7 ∷ 7 ∷ 7 ∷ 7 ∷ [])) (accepted (1 ∷ 0 ∷ 9 ∷ 1 ∷ M ∷ 0 ∷ []))
-    ∷ case (read_map_call one_entry_new (7 ∷ 7 ∷ 7 ∷ 7 ∷ 7 ∷ 7 ∷ [])) (accepted (1 ∷ 0 ∷ 9 ∷ 1 ∷ M ∷ 0 ∷ []))
-    ∷ case (rewritten_map (read_map_call one_entry (replicate 5 7))) (outcome (given (44 ∷ [])) (lasting_entry_new ∷ []))
-    ∷ case (rewritten_map (read_map_call one_entry_new (replicate 5 7))) (outcome (given (44 ∷ [])) (lasting_entry_new ∷ []))
-    ∷ case (rewritten_map (read_map_call lasting_entry (replicate 5 7))) (outcome (given (44 ∷ [])) (lasting_entry_new ∷ []))
-    ∷ case (rewritten_map (read_map_call lasting_entry_new (replicate 5 7))) (outcome (given (44 ∷ [])) (lasting_entry_new ∷ []))
-    ∷ case (read_map_call one_entry_new (7 ∷ 7 ∷ 7 ∷ 7 ∷ [])) (refusing 5 0 (7 ∷ 7 ∷ 7 ∷ 7 ∷ []))
-    -- [X3, R10] a start of the one and an entry of the other, 10 at the entry; the kind of the one's start changed to the other's, 11 at 0; a
-    -- set's bytes, 10 at 0
-    ∷ case (read_map_call (take 7 one_entry_new ++ drop 7 lasting_entry_new) (7 ∷ [])) (refusing 10 7 (7 ∷ []))
-    ∷ case (read_map_call (take 7 lasting_entry_new ++ drop 7 one_entry_new) (7 ∷ [])) (refusing 10 7 (7 ∷ []))
-    ∷ case (read_map_call (take 7 one_entry ++ drop 7 lasting_entry) (7 ∷ [])) (refusing 10 7 (7 ∷ []))
-    ∷ case (read_map_call (0xC5 ∷ 0x3B ∷ 5 ∷ drop 3 one_entry_new) (7 ∷ [])) (refusing 11 0 (7 ∷ []))
-    ∷ case (read_map_call (0xC5 ∷ 0x3B ∷ 2 ∷ drop 3 lasting_entry_new) (7 ∷ [])) (refusing 11 0 (7 ∷ []))
-    ∷ case (read_map_call Hnew (7 ∷ [])) (refusing 10 0 (7 ∷ []))
-    ∷ case (read_map_call (take 2 one_entry_new) (7 ∷ [])) (refusing 8 0 (7 ∷ []))
-    -- [X2, X4, R12] a count of 2,048 under each start and each mark, 12 at 0; of 2,047, the first entry is due
-    ∷ case (read_map_call (0xC5 ∷ 0x3B ∷ 5 ∷ 8 ∷ 0 ∷ 0xAE ∷ 0xC5 ∷ []) (7 ∷ [])) (refusing 12 0 (7 ∷ []))
-    ∷ case (read_map_call (0xC5 ∷ 0x3B ∷ 2 ∷ 8 ∷ 0 ∷ 0x2B ∷ 0x55 ∷ []) (7 ∷ [])) (refusing 12 0 (7 ∷ []))
-    ∷ case (read_map_call (0xC5 ∷ 0x3A ∷ 5 ∷ 8 ∷ 0 ∷ 0x1F ∷ 0x0D ∷ []) (7 ∷ [])) (refusing 12 0 (7 ∷ []))
-    ∷ case (read_map_call (0xC5 ∷ 0x3A ∷ 2 ∷ 8 ∷ 0 ∷ 0x16 ∷ 0x0A ∷ []) (7 ∷ [])) (refusing 12 0 (7 ∷ []))
-    ∷ case (read_map_call (0xC5 ∷ 0x3B ∷ 5 ∷ 7 ∷ 0xFF ∷ 0xA0 ∷ 0x0B ∷ []) (7 ∷ [])) (refusing 8 7 (7 ∷ []))
-    ∷ case (read_map_call (0xC5 ∷ 0x3B ∷ 2 ∷ 7 ∷ 0xFF ∷ 0x25 ∷ 0x9B ∷ []) (7 ∷ [])) (refusing 8 7 (7 ∷ []))
+    -- [Y4, Y7, Y10, C2, C6] the bytes of a map, old and new, read, and the new written
+    ∷ case (read_map_call one_entry (7 ∷ 7 ∷ 7 ∷ 7 ∷ 7 ∷ [])) (accepted (1 ∷ 0 ∷ 9 ∷ 1 ∷ 0 ∷ []))
+    ∷ case (read_map_call one_entry_new (7 ∷ 7 ∷ 7 ∷ 7 ∷ 7 ∷ [])) (accepted (1 ∷ 0 ∷ 9 ∷ 1 ∷ 0 ∷ []))
+    ∷ case (write_map_call (1 ∷ 0 ∷ 9 ∷ 1 ∷ []) (replicate 36 7) 0) (outcome (given (36 ∷ [])) (one_entry_new ∷ []))
     -- [Y5, Y8, Y10, R15, C2, C6] the bytes of a bulletin, old and new, read, and the new written, also where there is one byte too few; a third
     -- record with the other mark
     ∷ case (read_bulletin_call one_each (7 ∷ 7 ∷ 7 ∷ []) (7 ∷ 7 ∷ 7 ∷ [])) (outcome (given []) ((1 ∷ 1 ∷ 4 ∷ []) ∷ (1 ∷ 9 ∷ 9 ∷ []) ∷ []))
@@ -362,10 +296,9 @@ table =
     ∷ case (write_bulletin_call (1 ∷ 1 ∷ 4 ∷ []) (1 ∷ 9 ∷ 9 ∷ []) (replicate 51 7) 1) (refusing 15 0 (replicate 51 7))
     -- [Y9, R10, Y12] kinds that there are not, and a map's bytes where a set is asked for: refused 10 at 0
     ∷ case (read_set_call (0xC5 ∷ 0x3A ∷ 0 ∷ drop 3 H) (7 ∷ [])) (refusing 10 0 (7 ∷ []))
-    ∷ case (read_set_call (0xC5 ∷ 0x3A ∷ 6 ∷ drop 3 H) (7 ∷ [])) (refusing 10 0 (7 ∷ []))
+    ∷ case (read_set_call (0xC5 ∷ 0x3A ∷ 5 ∷ drop 3 H) (7 ∷ [])) (refusing 10 0 (7 ∷ []))
     ∷ case (read_set_call (0xC5 ∷ 0x3A ∷ 0xFF ∷ drop 3 H) (7 ∷ [])) (refusing 10 0 (7 ∷ []))
     ∷ case (read_set_call one_entry (7 ∷ [])) (refusing 10 0 (7 ∷ []))
-    ∷ case (read_set_call lasting_entry (7 ∷ [])) (refusing 10 0 (7 ∷ []))
     -- [N-J] earlier releases 1..4; later releases 9..9 and withdraws 3..3
     ∷ case (fold_call (1 ∷ 1 ∷ 4 ∷ []) (0 ∷ []) (1 ∷ 9 ∷ 9 ∷ []) (1 ∷ 3 ∷ 3 ∷ []) (7 ∷ 7 ∷ 7 ∷ 7 ∷ 7 ∷ 7 ∷ 7 ∷ 7 ∷ []) (7 ∷ 7 ∷ 7 ∷ 7 ∷ []))
     (outcome (given []) ((3 ∷ 1 ∷ 2 ∷ 4 ∷ 4 ∷ 9 ∷ 9 ∷ 0 ∷ []) ∷ (1 ∷ 3 ∷ 3 ∷ 0 ∷ []) ∷ []))
@@ -396,14 +329,13 @@ table =
     -- [N-L, R5, R19] three words holding {5..9}
     ∷ case (insert_call (1 ∷ 5 ∷ 9 ∷ []) 11 11) (refusing 5 0 (1 ∷ 5 ∷ 9 ∷ []))
     ∷ case (insert_call (1 ∷ 5 ∷ 9 ∷ []) 10 10) (accepted (1 ∷ 5 ∷ 10 ∷ []))
-    -- [B4, B5, B6, X1] touching ranges are no sound set; touching entries with other values or other expiries are a sound map, with the same of
-    -- both not; the value 0 is a value, the expiry 0 an expiry, and a number in no entry has none
+    -- [B4, B5, B6] touching ranges are no sound set; touching entries with other values are a sound map, with the same value not; the value 0 is
+    -- a value, and a number in no entry has none
     ∷ case (member_call (2 ∷ 0 ∷ 4 ∷ 5 ∷ 9 ∷ []) 7) (outcome (refused 3 0) [])
-    ∷ case (look_up_call two 5) (answer (1 ∷ 0 ∷ []))
-    ∷ case (look_up_call (2 ∷ 0 ∷ 4 ∷ 1 ∷ 0 ∷ 5 ∷ 9 ∷ 1 ∷ 0 ∷ []) 5) (outcome (refused 3 0) [])
-    ∷ case (look_up_call (2 ∷ 0 ∷ 4 ∷ 1 ∷ 3 ∷ 5 ∷ 9 ∷ 1 ∷ 0 ∷ []) 4) (answer (1 ∷ 3 ∷ []))
-    ∷ case (look_up_call two 4) (answer (0 ∷ 0 ∷ []))
-    ∷ case (look_up_call two 10) (answer [])
+    ∷ case (look_up_call (2 ∷ 0 ∷ 4 ∷ 0 ∷ 5 ∷ 9 ∷ 1 ∷ []) 5) (answer (1 ∷ []))
+    ∷ case (look_up_call (2 ∷ 0 ∷ 4 ∷ 1 ∷ 5 ∷ 9 ∷ 1 ∷ []) 5) (outcome (refused 3 0) [])
+    ∷ case (look_up_call (2 ∷ 0 ∷ 4 ∷ 0 ∷ 5 ∷ 9 ∷ 1 ∷ []) 4) (answer (0 ∷ []))
+    ∷ case (look_up_call (2 ∷ 0 ∷ 4 ∷ 0 ∷ 5 ∷ 9 ∷ 1 ∷ []) 10) (answer [])
     -- [S1, W1, W3] where a number sits in {5..9, 20..29}: below the first range, at its ends, between the two, in the second, behind it; in the
     -- full set, at 0 and at M
     ∷ case (member_call W 4) (answer (0 ∷ 0 ∷ []))
@@ -454,25 +386,24 @@ table =
     ∷ case (insert_call (0 ∷ 0 ∷ 0 ∷ []) 5 4) (refusing 4 0 (0 ∷ 0 ∷ 0 ∷ []))
     ∷ case (first_fit_call (0 ∷ []) 4 5 0) (outcome (refused 6 0) [])
     -- [M3, M4, M5, M6] erase; overlay, with as many entries as there can be; restriction; the numbers that have a value
-    ∷ case (erase_call (1 ∷ 0 ∷ 9 ∷ 1 ∷ 20 ∷ 0 ∷ 0 ∷ 0 ∷ 0 ∷ []) 3 5) (accepted (2 ∷ 0 ∷ 2 ∷ 1 ∷ 20 ∷ 6 ∷ 9 ∷ 1 ∷ 20 ∷ []))
-    ∷ case (overlay_call (1 ∷ 3 ∷ 5 ∷ 1 ∷ 21 ∷ []) (1 ∷ 0 ∷ 9 ∷ 1 ∷ 20 ∷ []) (replicate 13 7))
-    (accepted (3 ∷ 0 ∷ 2 ∷ 1 ∷ 20 ∷ 3 ∷ 5 ∷ 1 ∷ 21 ∷ 6 ∷ 9 ∷ 1 ∷ 20 ∷ []))
-    ∷ case (restriction_call (1 ∷ 0 ∷ 9 ∷ 1 ∷ 20 ∷ []) (1 ∷ 4 ∷ 20 ∷ []) (7 ∷ 7 ∷ 7 ∷ 7 ∷ 7 ∷ [])) (accepted (1 ∷ 4 ∷ 9 ∷ 1 ∷ 20 ∷ []))
-    ∷ case (domain_call two (7 ∷ 7 ∷ 7 ∷ [])) (accepted (1 ∷ 0 ∷ 9 ∷ []))
+    ∷ case (erase_call (1 ∷ 0 ∷ 9 ∷ 1 ∷ 0 ∷ 0 ∷ 0 ∷ []) 3 5) (accepted (2 ∷ 0 ∷ 2 ∷ 1 ∷ 6 ∷ 9 ∷ 1 ∷ []))
+    ∷ case (overlay_call (1 ∷ 3 ∷ 5 ∷ 2 ∷ []) (1 ∷ 0 ∷ 9 ∷ 1 ∷ []) (7 ∷ 7 ∷ 7 ∷ 7 ∷ 7 ∷ 7 ∷ 7 ∷ 7 ∷ 7 ∷ 7 ∷ []))
+    (accepted (3 ∷ 0 ∷ 2 ∷ 1 ∷ 3 ∷ 5 ∷ 2 ∷ 6 ∷ 9 ∷ 1 ∷ []))
+    ∷ case (restriction_call (1 ∷ 0 ∷ 9 ∷ 1 ∷ []) (1 ∷ 4 ∷ 20 ∷ []) (7 ∷ 7 ∷ 7 ∷ 7 ∷ [])) (accepted (1 ∷ 4 ∷ 9 ∷ 1 ∷ []))
+    ∷ case (domain_call (2 ∷ 0 ∷ 4 ∷ 0 ∷ 5 ∷ 9 ∷ 1 ∷ []) (7 ∷ 7 ∷ 7 ∷ [])) (accepted (1 ∷ 0 ∷ 9 ∷ []))
     -- [M7, R20] a window of a map, and the companion of one whose block is refused
-    ∷ case (outcome (part_says (map_window_call two 6 6)) []) (answer (5 ∷ 4 ∷ []))
-    ∷ case (map_window_at_call two 6 6) (answer (5 ∷ 4 ∷ []))
-    ∷ case (map_window_at_call two 4 5) (answer (1 ∷ 8 ∷ []))
+    ∷ case (outcome (part_says (map_window_call (2 ∷ 0 ∷ 4 ∷ 0 ∷ 5 ∷ 9 ∷ 1 ∷ []) 6 6)) []) (answer (4 ∷ 3 ∷ []))
+    ∷ case (map_window_at_call (2 ∷ 0 ∷ 4 ∷ 0 ∷ 5 ∷ 9 ∷ 1 ∷ []) 6 6) (answer (4 ∷ 3 ∷ []))
     ∷ case (map_window_refusal_call (1 ∷ []) 1 2) (outcome (refused 2 0) [])
     -- [M8, R20] site over factory: the site map decides, the factory map does, neither; the factory map is refused at 1
-    ∷ case (outcome (deciding_says (site_over_factory_call (1 ∷ 3 ∷ 5 ∷ 2 ∷ 20 ∷ []) two 4)) []) (answer (1 ∷ 4 ∷ 0 ∷ []))
-    ∷ case (outcome (deciding_says (site_over_factory_call (1 ∷ 3 ∷ 5 ∷ 2 ∷ 20 ∷ []) two 7)) []) (answer (5 ∷ 4 ∷ 1 ∷ []))
-    ∷ case (site_over_factory_at_call (1 ∷ 3 ∷ 5 ∷ 2 ∷ 20 ∷ []) two 7) (answer (5 ∷ 4 ∷ 1 ∷ []))
-    ∷ case (site_over_factory_at_call (1 ∷ 3 ∷ 5 ∷ 2 ∷ 20 ∷ []) two 10) (answer [])
+    ∷ case (outcome (deciding_says (site_over_factory_call (1 ∷ 3 ∷ 5 ∷ 2 ∷ []) (2 ∷ 0 ∷ 4 ∷ 0 ∷ 5 ∷ 9 ∷ 1 ∷ []) 4)) []) (answer (1 ∷ 3 ∷ 0 ∷ []))
+    ∷ case (outcome (deciding_says (site_over_factory_call (1 ∷ 3 ∷ 5 ∷ 2 ∷ []) (2 ∷ 0 ∷ 4 ∷ 0 ∷ 5 ∷ 9 ∷ 1 ∷ []) 7)) []) (answer (4 ∷ 3 ∷ 1 ∷ []))
+    ∷ case (site_over_factory_at_call (1 ∷ 3 ∷ 5 ∷ 2 ∷ []) (2 ∷ 0 ∷ 4 ∷ 0 ∷ 5 ∷ 9 ∷ 1 ∷ []) 7) (answer (4 ∷ 3 ∷ 1 ∷ []))
+    ∷ case (site_over_factory_at_call (1 ∷ 3 ∷ 5 ∷ 2 ∷ []) (2 ∷ 0 ∷ 4 ∷ 0 ∷ 5 ∷ 9 ∷ 1 ∷ []) 10) (answer [])
     ∷ case (outcome (deciding_says (site_over_factory_call (0 ∷ []) (1 ∷ []) 7)) []) (answer [])
     ∷ case (site_over_factory_at_call (0 ∷ []) (1 ∷ []) 7) (outcome (refused 2 1) [])
     ∷ case (site_refusal_call (0 ∷ []) (1 ∷ []) 7) (outcome (refused 2 1) [])
-    ∷ case (site_refusal_call (1 ∷ 3 ∷ 5 ∷ 2 ∷ 20 ∷ []) two 7) (answer [])
+    ∷ case (site_refusal_call (1 ∷ 3 ∷ 5 ∷ 2 ∷ []) (2 ∷ 0 ∷ 4 ∷ 0 ∷ 5 ∷ 9 ∷ 1 ∷ []) 7) (answer [])
     -- [U4] bulletins neither of which releases what the other withdraws, folded in either order
     ∷ case (fold_call (1 ∷ 1 ∷ 2 ∷ []) (1 ∷ 5 ∷ 5 ∷ []) (1 ∷ 8 ∷ 9 ∷ []) (1 ∷ 12 ∷ 12 ∷ []) (7 ∷ 7 ∷ 7 ∷ 7 ∷ 7 ∷ []) (7 ∷ 7 ∷ 7 ∷ 7 ∷ 7 ∷ []))
     (outcome (given []) ((2 ∷ 1 ∷ 2 ∷ 8 ∷ 9 ∷ []) ∷ (2 ∷ 5 ∷ 5 ∷ 12 ∷ 12 ∷ []) ∷ []))

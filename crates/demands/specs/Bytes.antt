@@ -1,6 +1,6 @@
 -- BYTES: reading accepts exactly the byte forms, of either mark; writing gives the new form of what was read, which is the bytes read where
 -- they bear the new mark; the C host's question is reading and then membership.
-use Rattle.std.specs.Prelude.{◌≡◌, false, ◌⊎◌, List, [], ◌∷◌, ◌++◌, ℕ, ◌+◌, ◌*◌, ◌≤◌, ◌<◌, ltb, eqb, ℤ, length, get_or, take, drop}
+use Rattle.std.specs.Prelude.{◌≡◌, false, ◌⊎◌, List, [], ◌∷◌, ◌++◌, ℕ, ◌+◌, ◌*◌, ◌≤◌, ◌<◌, ltb, ℤ, length, get_or, take, drop}
 use Rattle.keys.specs.Keys.{IsKey, word_of, twos_of}
 use Rattle.entries.specs.Entries.{Entry, entry, Each}
 use Rattle.entries.specs.Build.{pick}
@@ -12,9 +12,7 @@ use Rattle.checks.specs.Check.{old_mark, new_mark}
 use Rattle.records.specs.Records.{record_of, item_record, start_verdict}
 use Rattle.runs.specs.Runs.{lengths, Fine}
 use Rattle.verdicts.specs.declared.Form.{Form}
-use Rattle.verdicts.specs.Forms.{of_set, of_map, of_undated, of_bulletin, of_signed, block_layout, mark_of, form_of, form_counts, sharing, start_size, out_refusals}
-use Rattle.verdicts.specs.Forms.{Formed}
-use Rattle.forms.specs.Calls.{taken_runs}
+use Rattle.verdicts.specs.Forms.{of_set, of_map, of_bulletin, of_signed, mark_of, form_of, form_counts, sharing, start_size, out_refusals, Formed}
 use Rattle.forms.specs.Calls.{stored_in, held_in, read_call, read_set_call, read_map_call, read_bulletin_call, read_signed_call, judge_set_call, member_of_form_call}
 use Rattle.forms.specs.Calls.{write_call, write_set_call, write_map_call, write_bulletin_call, write_signed_call}
 use Rattle.demands.specs.Plain.{Iff, SoundSet, SoundMap, In, ValueOf, leaves, Lacks}
@@ -27,42 +25,35 @@ pub data OfFour : Form → Type 0 where
   is_bulletin : OfFour of_bulletin
   is_signed : OfFour of_signed
 
--- a form that is read: one of the four, or that of a map without expiries
-pub data Readable : Form → Type 0 where
-  of_four : {f : Form} → OfFour f → Readable f
-  of_undated_lem : Readable of_undated
-
 -- what accepted reading has read: the bytes are the form of these runs (`Formed`: as many as the form has, each sound, within the limit, of
--- 64-bit words, a bulletin's two without a common number), every output has words and room, and each is left with the stored form of its run,
--- in which the entries of an undated form have the expiry M
+-- 64-bit words, a bulletin's two without a common number), every output has words and room, and each is left with the stored form of its run
 pub record Read (f : Form) (b : List ℕ) (outs ws : List (List ℕ)) : Type 0 where
   pub runs : List (List Entry)
   pub form : Formed f b runs
-  pub room : Clear (out_refusals (block_layout f) (lengths outs) (lengths runs))
-  pub left : ws ≡ stored_in outs (taken_runs f.undated runs)
+  pub room : Clear (out_refusals f.layout (lengths outs) (lengths runs))
+  pub left : ws ≡ stored_in outs runs
 
--- [D4, Y2, Y3, Y4, Y5, Y6, Y7, Y8, Y9, Y12, Y13, Y15, C3, X2, X3] READING is accepted exactly if the bytes are a byte form and the outputs have room
+-- [D4, Y2, Y3, Y4, Y5, Y6, Y7, Y8, Y9, Y12, Y13, Y15, C3] READING is accepted exactly if the bytes are a byte form and the outputs have room
 abbrev pub ReadExactly : Type 0
-ReadExactly = (f : Form) → Readable f → (b : List ℕ) → Bytes b → (outs ws : List (List ℕ)) → Iff (read_call f b outs ≡ outcome (given []) ws) (Read f b outs ws)
+ReadExactly = (f : Form) → OfFour f → (b : List ℕ) → Bytes b → (outs ws : List (List ℕ)) → Iff (read_call f b outs ≡ outcome (given []) ws) (Read f b outs ws)
 
 -- [C3, C6] OLD FORMS AND NEW: the form of fine runs under either mark is read, where the outputs have room, and as those runs
 abbrev pub BothRead : Type 0
-BothRead = (f : Form) → Readable f → (mark : ℕ) → (mark ≡ old_mark) ⊎ (mark ≡ new_mark) → (runs : List (List Entry)) → length runs ≡ f.runs
+BothRead = (f : Form) → OfFour f → (mark : ℕ) → (mark ≡ old_mark) ⊎ (mark ≡ new_mark) → (runs : List (List Entry)) → length runs ≡ f.runs
     → Each (Fine f.layout.width f.layout.limit) runs → sharing runs ≡ false → (outs : List (List ℕ))
-    → Clear (out_refusals (block_layout f) (lengths outs) (lengths runs))
-    → read_call f (form_of mark f runs) outs ≡ outcome (given []) (stored_in outs (taken_runs f.undated runs))
+    → Clear (out_refusals f.layout (lengths outs) (lengths runs))
+    → read_call f (form_of mark f runs) outs ≡ outcome (given []) (stored_in outs runs)
 
 -- [Y14, D9] and of the whole form: the bytes are, from the first record to the last, the form under their mark of what the blocks then say
 abbrev pub WholeForm : Type 0
 WholeForm = (f : Form) → OfFour f → (b : List ℕ) → Bytes b → (outs ws : List (List ℕ)) → length outs ≡ f.runs
     → read_call f b outs ≡ outcome (given []) ws → b ≡ form_of (mark_of b) f (held_in f.layout ws)
 
--- [Y10, D9, K6, X2] so no count and no length can be made up: there are 7+21n, 7+37n, 9+21(r+w) bytes, of word 0 of the blocks; 7+29n of a map
--- without expiries, 7+21n of a signed set
+-- [Y10, D9, K6] so no count and no length can be made up: there are 7+21n, 7+29n, 9+21(r+w) bytes, of word 0 of the blocks; 7+21n of a signed set
 abbrev pub ReadSizes : Type 0
 ReadSizes = (b : List ℕ) → Bytes b
     → ((out w : List ℕ) → read_set_call b out ≡ leaves w → length b ≡ 7 + 21 * get_or w 0 0)
-    × ((out w : List ℕ) → read_map_call b out ≡ leaves w → length b ≡ 7 + pick (eqb (get_or b 2 0) 0x02) 29 37 * get_or w 0 0)
+    × ((out w : List ℕ) → read_map_call b out ≡ leaves w → length b ≡ 7 + 29 * get_or w 0 0)
     × ((outR outW r w : List ℕ) → read_bulletin_call b outR outW ≡ outcome (given []) (r ∷ w ∷ []) → length b ≡ 9 + 21 * (get_or r 0 0 + get_or w 0 0))
     × ((out w : List ℕ) → read_signed_call b out ≡ leaves w → length b ≡ 7 + 21 * get_or w 0 0)
 
@@ -78,28 +69,28 @@ pub record IsForm (f : Form) (b : List ℕ) : Type 0 where
 -- [R8, R9, R10, R11, R12, R13, R14, R17, Y15] READING'S REFUSALS: bytes that are no form are refused with 8 to 13, a bulletin's also with
 -- 14; a form with 1 or 5, for its outputs
 abbrev pub ReadRefusals : Type 0
-ReadRefusals = (f : Form) → Readable f → (b : List ℕ) → Bytes b → (outs after : List (List ℕ)) (n p : ℕ) → read_call f b outs ≡ refuse n p after
+ReadRefusals = (f : Form) → OfFour f → (b : List ℕ) → Bytes b → (outs after : List (List ℕ)) (n p : ℕ) → read_call f b outs ≡ refuse n p after
     → ((8 ≤ n) × (n ≤ last_of_bytes f) × (IsForm f b → ⊥)) ⊎ (((n ≡ 1) ⊎ (n ≡ 5)) × IsForm f b)
 
 -- [R9, Y13, C3] THE MARK: bytes that begin with neither mark are refused with 9 at 0,
 abbrev pub OtherMark : Type 0
-OtherMark = (f : Form) → Readable f → (b : List ℕ) (outs : List (List ℕ)) → 3 ≤ length b → (num2 b 0 ≡ old_mark → ⊥) → (num2 b 0 ≡ new_mark → ⊥)
+OtherMark = (f : Form) → OfFour f → (b : List ℕ) (outs : List (List ℕ)) → 3 ≤ length b → (num2 b 0 ≡ old_mark → ⊥) → (num2 b 0 ≡ new_mark → ⊥)
     → read_call f b outs ≡ refuse 9 0 outs
 
 -- [R9, Y13, C3] and a good start with an item behind it that does not bear the start's mark with 9 at that item
 abbrev pub MixedMarks : Type 0
-MixedMarks = (f : Form) → Readable f → (b : List ℕ) (outs : List (List ℕ)) → start_verdict (mark_of b) f.start f.runs f.layout.limit b ≡ 0
+MixedMarks = (f : Form) → OfFour f → (b : List ℕ) (outs : List (List ℕ)) → start_verdict (mark_of b) f.start f.runs f.layout.limit b ≡ 0
     → 0 < get_or (form_counts f b) 0 0 → 3 ≤ length (drop (start_size f) b) → (num2 (drop (start_size f) b) 0 ≡ num2 b 0 → ⊥)
     → read_call f b outs ≡ refuse 9 (start_size f) outs
 
 -- [R10, Y13, K7] THE KIND: bytes that begin with a start of another form are refused with 10 at 0,
 abbrev pub OtherStart : Type 0
-OtherStart = (f : Form) → Readable f → (b : List ℕ) (outs : List (List ℕ)) → 3 ≤ length b → num2 b 0 ≡ mark_of b → (get_or b 2 0 ≡ f.start → ⊥)
+OtherStart = (f : Form) → OfFour f → (b : List ℕ) (outs : List (List ℕ)) → 3 ≤ length b → num2 b 0 ≡ mark_of b → (get_or b 2 0 ≡ f.start → ⊥)
     → read_call f b outs ≡ refuse 10 0 outs
 
 -- [R10, Y13, K7] and a good start with an item of another kind behind it with 10 at that item
 abbrev pub OtherItem : Type 0
-OtherItem = (f : Form) → Readable f → (b : List ℕ) (outs : List (List ℕ)) → start_verdict (mark_of b) f.start f.runs f.layout.limit b ≡ 0
+OtherItem = (f : Form) → OfFour f → (b : List ℕ) (outs : List (List ℕ)) → start_verdict (mark_of b) f.start f.runs f.layout.limit b ≡ 0
     → 0 < get_or (form_counts f b) 0 0 → 3 ≤ length (drop (start_size f) b) → num2 (drop (start_size f) b) 0 ≡ mark_of b
     → (get_or (drop (start_size f) b) 2 0 ≡ f.first → ⊥) → read_call f b outs ≡ refuse 10 (start_size f) outs
 
@@ -113,11 +104,11 @@ pub record NoRoomFor (f : Form) (b : List ℕ) (outs : List (List ℕ)) (i : ℕ
   pub runs : List (List Entry)
   pub form : Formed f b runs
   pub words : Each (λ (out : List ℕ). 0 < length out) outs
-  pub short : Lacks (block_layout f) (lengths outs) (lengths runs) i
+  pub short : Lacks f.layout (lengths outs) (lengths runs) i
 
 -- [R5, Y15] ROOM exactly: reading is refused with 5 for output i exactly there
 abbrev pub ReadRoom : Type 0
-ReadRoom = (f : Form) → Readable f → (b : List ℕ) → Bytes b → (outs : List (List ℕ)) → length outs ≡ f.runs → (i : ℕ)
+ReadRoom = (f : Form) → OfFour f → (b : List ℕ) → Bytes b → (outs : List (List ℕ)) → length outs ≡ f.runs → (i : ℕ)
     → Iff (read_call f b outs ≡ refuse 5 i outs) (NoRoomFor f b outs i)
 
 -- [C5] what was read, written into enough bytes, gives the new form of it, as long as the bytes read, whichever mark these bear
@@ -143,10 +134,9 @@ abbrev pub OneSetForm : Type 0
 OneSetForm = (b b' out out' w w' : List ℕ) → Bytes b → Bytes b' → mark_of b ≡ mark_of b' → read_set_call b out ≡ leaves w → read_set_call b' out' ≡ leaves w'
     → ((x : ℕ) → x ≤ M → In w x ≡ In w' x) → b ≡ b'
 
--- [D3, C5, X5] bytes with the same mark, and the same third byte, that are read as the same map are the same bytes
+-- [D3, C5] bytes with the same mark that are read as the same map are the same bytes
 abbrev pub OneMapForm : Type 0
-OneMapForm = (b b' out out' w w' : List ℕ) → Bytes b → Bytes b' → mark_of b ≡ mark_of b' → get_or b 2 0 ≡ get_or b' 2 0
-    → read_map_call b out ≡ leaves w → read_map_call b' out' ≡ leaves w'
+OneMapForm = (b b' out out' w w' : List ℕ) → Bytes b → Bytes b' → mark_of b ≡ mark_of b' → read_map_call b out ≡ leaves w → read_map_call b' out' ≡ leaves w'
     → ((x : ℕ) → x ≤ M → ValueOf w x ≡ ValueOf w' x) → b ≡ b'
 
 -- [D3, C5] bytes with the same mark that are read as the same bulletin, by its released and its withdrawn set, are the same bytes
@@ -181,13 +171,13 @@ abbrev pub OneBulletinWritten : Type 0
 OneBulletinWritten = (r w r' w' bytes : List ℕ) (p : ℕ) → SoundSet r → SoundSet w → SoundSet r' → SoundSet w' → Lent r → Lent w → Lent r' → Lent w'
     → ((x : ℕ) → x ≤ M → In r x ≡ In r' x) → ((x : ℕ) → x ≤ M → In w x ≡ In w' x) → write_bulletin_call r w bytes p ≡ write_bulletin_call r' w' bytes p
 
--- [Y10, Y16, K6, C2, X5] the length that writing answers is 7+21n, 7+37n, 9+21(r+w), 7+21n of word 0 of the blocks; every byte but those of the new
--- form stays; the form of a map is that with expiries
+-- [Y10, Y16, K6, C2] the length that writing answers is 7+21n, 7+29n, 9+21(r+w), 7+21n of word 0 of the blocks; every byte but those of the new form
+-- stays
 abbrev pub WriteSizes : Type 0
 WriteSizes = (p n : ℕ) (bytes bytes' : List ℕ)
     → ((w : List ℕ) → write_set_call w bytes p ≡ outcome (given (n ∷ [])) (bytes' ∷ []) → (n ≡ 7 + 21 * get_or w 0 0)
     × (bytes' ≡ patch p (form_of new_mark of_set (entries_of set_layout.width w ∷ [])) bytes))
-    × ((w : List ℕ) → write_map_call w bytes p ≡ outcome (given (n ∷ [])) (bytes' ∷ []) → (n ≡ 7 + 37 * get_or w 0 0)
+    × ((w : List ℕ) → write_map_call w bytes p ≡ outcome (given (n ∷ [])) (bytes' ∷ []) → (n ≡ 7 + 29 * get_or w 0 0)
     × (bytes' ≡ patch p (form_of new_mark of_map (entries_of map_layout.width w ∷ [])) bytes))
     × ((r w : List ℕ) → write_bulletin_call r w bytes p ≡ outcome (given (n ∷ [])) (bytes' ∷ []) → (n ≡ 9 + 21 * (get_or r 0 0 + get_or w 0 0))
     × (bytes' ≡ patch p (form_of new_mark of_bulletin (entries_of set_layout.width r ∷ entries_of set_layout.width w ∷ [])) bytes))

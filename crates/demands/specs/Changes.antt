@@ -54,22 +54,22 @@ abbrev pub Complement : Type 0
 Complement = (w o after : List ℕ) → complement_call w o ≡ leaves after
     → SetLeft (length o) (λ x. lessb (leb x M) (In w x)) after × (get_or after 0 0 ≤ get_or w 0 0 + 1)
 
--- [M2, X1, D2] assign: v, with the expiry t, on a..b, every other number as it was; at most n+2 entries
+-- [M2, D2] assign: v on a..b, every other number as it was; at most n+2 entries
 abbrev pub Assign : Type 0
-Assign = (w : List ℕ) (a b v t : ℕ) (after : List ℕ) → assign_call w a b v t ≡ leaves after
-    → Left map_layout (length w) (λ x. pick (between a b x) (some (v ∷ t ∷ [])) (ValueOf w x)) after × (get_or after 0 0 ≤ get_or w 0 0 + 2)
+Assign = (w : List ℕ) (a b v : ℕ) (after : List ℕ) → assign_call w a b v ≡ leaves after
+    → Left map_layout (length w) (λ x. pick (between a b x) (some (v ∷ [])) (ValueOf w x)) after × (get_or after 0 0 ≤ get_or w 0 0 + 2)
 
 -- [M3, D2] erase: no value on a..b, every other number as it was; at most n+1 entries
 abbrev pub Erase : Type 0
 Erase = (w : List ℕ) (a b : ℕ) (after : List ℕ) → erase_call w a b ≡ leaves after
     → Left map_layout (length w) (λ x. pick (between a b x) none (ValueOf w x)) after × (get_or after 0 0 ≤ get_or w 0 0 + 1)
 
--- [M4, X1, D2] overlay: the upper's value and expiry where it has them, else the lower's; at most twice the upper's count plus the lower's
+-- [M4, D2] overlay: the upper's value where it has one, else the lower's; at most twice the upper's count plus the lower's
 abbrev pub Overlay : Type 0
 Overlay = (upper lower o after : List ℕ) → overlay_call upper lower o ≡ leaves after
     → Left map_layout (length o) (λ x. or_else (ValueOf upper x) (ValueOf lower x)) after × (get_or after 0 0 ≤ 2 * get_or upper 0 0 + get_or lower 0 0)
 
--- [M5, X1, D2] restriction: the map's value and expiry where the set has the number
+-- [M5, D2] restriction: the map's value where the set has the number
 abbrev pub Restriction : Type 0
 Restriction = (map set o after : List ℕ) → restriction_call map set o ≡ leaves after
     → Left map_layout (length o) (λ x. pick (In set x) (ValueOf map x) none) after
@@ -118,10 +118,9 @@ OtherMember = (w : List ℕ) (a b : ℕ) (after : List ℕ) → (x : ℕ) → be
     → (insert_call w a b ≡ leaves after → truth_of (member_call after x) ≡ truth_of (member_call w x))
     × (remove_call w a b ≡ leaves after → truth_of (member_call after x) ≡ truth_of (member_call w x))
 
--- [M2, M1, X1, D2] A number that was assigned v with the expiry t, any word, has both,
+-- [M2, M1, D2] A number that was assigned v has the value v,
 abbrev pub AssignedValue : Type 0
-AssignedValue = (w : List ℕ) (a b v t : ℕ) (after : List ℕ) → assign_call w a b v t ≡ leaves after → (x : ℕ) → a ≤ x → x ≤ b
-    → look_up_call after x ≡ answers (v ∷ t ∷ [])
+AssignedValue = (w : List ℕ) (a b v : ℕ) (after : List ℕ) → assign_call w a b v ≡ leaves after → (x : ℕ) → a ≤ x → x ≤ b → look_up_call after x ≡ answers (v ∷ [])
 
 -- [M3, M1, D2] one that was erased has none,
 abbrev pub ErasedValue : Type 0
@@ -130,5 +129,5 @@ ErasedValue = (w : List ℕ) (a b : ℕ) (after : List ℕ) → erase_call w a b
 -- [M2, M3, M1, D2] and of every other number the answer is what it was
 abbrev pub OtherValue : Type 0
 OtherValue = (w : List ℕ) (a b : ℕ) (after : List ℕ) → (x : ℕ) → between a b x ≡ false
-    → ((v t : ℕ) → assign_call w a b v t ≡ leaves after → look_up_call after x ≡ look_up_call w x)
+    → ((v : ℕ) → assign_call w a b v ≡ leaves after → look_up_call after x ≡ look_up_call w x)
     × (erase_call w a b ≡ leaves after → look_up_call after x ≡ look_up_call w x)

@@ -10,5 +10,4 @@ pub mod Seats
 pub mod Prefixes
 pub mod Bytes
 pub mod Damage
-pub mod Expiry
 pub mod Bulletins

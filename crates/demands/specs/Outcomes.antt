@@ -132,7 +132,7 @@ WriteOverlapExactly = (released withdrawn bytes : List ℕ) (p : ℕ)
 abbrev pub NoSpaceExactly : Type 0
 NoSpaceExactly = (bytes : List ℕ) (p : ℕ)
     → ((w : List ℕ) → Iff (write_set_call w bytes p ≡ refuse 15 0 (bytes ∷ [])) (SoundSet w × (length bytes < p + (7 + 21 * get_or w 0 0))))
-    × ((w : List ℕ) → Iff (write_map_call w bytes p ≡ refuse 15 0 (bytes ∷ [])) (SoundMap w × (length bytes < p + (7 + 37 * get_or w 0 0))))
+    × ((w : List ℕ) → Iff (write_map_call w bytes p ≡ refuse 15 0 (bytes ∷ [])) (SoundMap w × (length bytes < p + (7 + 29 * get_or w 0 0))))
     × ((r w : List ℕ) → Iff (write_bulletin_call r w bytes p ≡ refuse 15 0 (bytes ∷ []))
     (Bulletin r w × (length bytes < p + (9 + 21 * (get_or r 0 0 + get_or w 0 0)))))
     × ((w : List ℕ) → Iff (write_signed_call w bytes p ≡ refuse 15 0 (bytes ∷ [])) (SoundSet w × (length bytes < p + (7 + 21 * get_or w 0 0))))
@@ -220,7 +220,7 @@ ReserveAccepted = (fit : ℕ → ℕ → ℕ → List Entry → Option ℕ) (w :
 abbrev pub WriteAccepted : Type 0
 WriteAccepted = (bytes : List ℕ) (p : ℕ)
     → ((w : List ℕ) → Iff (Accepts (write_set_call w bytes p)) (SoundSet w × (p + (7 + 21 * get_or w 0 0) ≤ length bytes)))
-    × ((w : List ℕ) → Iff (Accepts (write_map_call w bytes p)) (SoundMap w × (p + (7 + 37 * get_or w 0 0) ≤ length bytes)))
+    × ((w : List ℕ) → Iff (Accepts (write_map_call w bytes p)) (SoundMap w × (p + (7 + 29 * get_or w 0 0) ≤ length bytes)))
     × ((r w : List ℕ) → Iff (Accepts (write_bulletin_call r w bytes p))
     (Bulletin r w × (p + (9 + 21 * (get_or r 0 0 + get_or w 0 0)) ≤ length bytes)))
     × ((w : List ℕ) → Iff (Accepts (write_signed_call w bytes p)) (SoundSet w × (p + (7 + 21 * get_or w 0 0) ≤ length bytes)))

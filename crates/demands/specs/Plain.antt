@@ -28,15 +28,13 @@ pub record InRange (w : List ℕ) (x : ℕ) : Type 0 where
   pub low : get_or w (1 + 2 * index) 0 ≤ x
   pub high : x ≤ get_or w (2 + 2 * index) 0
 
--- [B1, B2, B6, X1] x is in an entry of the map block w, with the value v and the expiry t: some i below word 0 with word 1+4i ≤ x ≤ word 2+4i,
--- word 3+4i = v, word 4+4i = t
-pub record InEntry (w : List ℕ) (x v t : ℕ) : Type 0 where
+-- [B1, B2, B6] x is in an entry of the map block w, with the value v: some i below word 0 with word 1+3i ≤ x ≤ word 2+3i, word 3+3i = v
+pub record InEntry (w : List ℕ) (x v : ℕ) : Type 0 where
   pub index : ℕ
   pub below : index < get_or w 0 0
-  pub low : get_or w (1 + 4 * index) 0 ≤ x
-  pub high : x ≤ get_or w (2 + 4 * index) 0
-  pub value : get_or w (3 + 4 * index) 0 ≡ v
-  pub expiry : get_or w (4 + 4 * index) 0 ≡ t
+  pub low : get_or w (1 + 3 * index) 0 ≤ x
+  pub high : x ≤ get_or w (2 + 3 * index) 0
+  pub value : get_or w (3 + 3 * index) 0 ≡ v
 
 -- [D2] the plain set that a set block names (`InSet` of specs/Questions: exactly what its words say)
 abbrev pub In : List ℕ → ℕ → Bool

@@ -17,9 +17,9 @@ use Rattle.demands.specs.Plain.{Iff, SoundSet, SoundMap, InRange, InEntry, In, V
 abbrev pub InSet : Type 0
 InSet = (w : List ℕ) (x : ℕ) → SoundSet w → Iff (In w x ≡ true) (InRange w x)
 
--- [B1, B2, B6, X1] and the plain assignment, of a value and an expiry
+-- [B1, B2, B6] and the plain assignment
 abbrev pub InMap : Type 0
-InMap = (w : List ℕ) (x v t : ℕ) → SoundMap w → Iff (ValueOf w x ≡ some (v ∷ t ∷ [])) (InEntry w x v t)
+InMap = (w : List ℕ) (x v : ℕ) → SoundMap w → Iff (ValueOf w x ≡ some (v ∷ [])) (InEntry w x v)
 
 -- yes exactly if P holds, and no exactly if it does not
 abbrev pub Answers : Outcome → Type 0 → Type 0
@@ -63,10 +63,10 @@ Within = (w v : List ℕ) → SoundSet w → SoundSet v → Lent w → Answers (
 abbrev pub Disjoint : Type 0
 Disjoint = (w v : List ℕ) → SoundSet w → SoundSet v → Lent w → Answers (disjoint_call w v) ((x : ℕ) → x ≤ M → In w x ≡ true → In v x ≡ true → ⊥)
 
--- [M1, X1, D2] look up: v and t exactly if x stands in an entry with the value v and the expiry t; no value exactly if it stands in none
+-- [M1, D2] look up: v exactly if x stands in an entry with the value v; no value exactly if it stands in none
 abbrev pub LookUp : Type 0
 LookUp = (w : List ℕ) (x : ℕ) → SoundMap w
-    → ((v t : ℕ) → Iff (look_up_call w x ≡ answers (v ∷ t ∷ [])) (InEntry w x v t)) × Iff (look_up_call w x ≡ answers []) ((v t : ℕ) → InEntry w x v t → ⊥)
+    → ((v : ℕ) → Iff (look_up_call w x ≡ answers (v ∷ [])) (InEntry w x v)) × Iff (look_up_call w x ≡ answers []) ((v : ℕ) → InEntry w x v → ⊥)
 
 -- [S6, G2] a window's words: those of all ranges that share a number with a..b, in order
 abbrev pub SetWindow : Type 0
@@ -82,24 +82,23 @@ SiteOverFactory = (site factory : List ℕ) (x : ℕ) → SoundMap site → Soun
     → words_of_two site factory (site_over_factory_call site factory x)
     ≡ pick (has (ValueOf site x)) (words_at site (map_window_call site x x)) (words_at factory (map_window_call factory x x))
 
--- [M8, X1, D2] the words of the deciding entry: an entry's low, high, value and expiry, x among its numbers
-pub record EntryWords (x v t : ℕ) (words : List ℕ) : Type 0 where
+-- [M8, D2] the words of the deciding entry: an entry's low, high and value, x among its numbers
+pub record EntryWords (x v : ℕ) (words : List ℕ) : Type 0 where
   pub low : ℕ
   pub high : ℕ
-  pub four : words ≡ low ∷ high ∷ v ∷ t ∷ []
+  pub three : words ≡ low ∷ high ∷ v ∷ []
   pub from : low ≤ x
   pub upto : x ≤ high
 
--- [M8, X1, D2] where the site map gives x the value v and the expiry t, or gives it none and the factory map gives it these, they are those of
--- an entry with them; where neither gives it a value, there are none
+-- [M8, D2] where the site map gives x the value v, or gives it none and the factory map gives it v, they are those of an entry with that
+-- value; where neither gives it one, there are none
 abbrev pub DecidingEntry : Type 0
 DecidingEntry = (site factory : List ℕ) (x : ℕ) → SoundMap site → SoundMap factory
-    → ((v t : ℕ) → or_else (ValueOf site x) (ValueOf factory x) ≡ some (v ∷ t ∷ [])
-    → EntryWords x v t (words_of_two site factory (site_over_factory_call site factory x)))
+    → ((v : ℕ) → or_else (ValueOf site x) (ValueOf factory x) ≡ some (v ∷ []) → EntryWords x v (words_of_two site factory (site_over_factory_call site factory x)))
     × (or_else (ValueOf site x) (ValueOf factory x) ≡ none → words_of_two site factory (site_over_factory_call site factory x) ≡ [])
 
 -- [M8] these words lie in the site map exactly if x has a value there, and there are none exactly if x stands in no entry of either map
 abbrev pub WhichMap : Type 0
 WhichMap = (site factory : List ℕ) (x : ℕ) → SoundMap site → SoundMap factory
     → ((site_over_factory_call site factory x).position ≡ pick (has (ValueOf site x)) 0 1)
-    × Iff ((site_over_factory_call site factory x).length ≡ 0) ((v t : ℕ) → (InEntry site x v t → ⊥) × (InEntry factory x v t → ⊥))
+    × Iff ((site_over_factory_call site factory x).length ≡ 0) ((v : ℕ) → (InEntry site x v → ⊥) × (InEntry factory x v → ⊥))

@@ -1,5 +1,5 @@
 -- Entries and lists of entries: what they name, and when they are sound.
--- A value is a list of words: none in a set, two in a map, a record's word and its expiry.
+-- A value is a list of words: none in a set, one in a map.
 use Rattle.std.specs.Prelude.{◌≡◌, ◌≢◌, Bool, true, false, List, [], ◌∷◌, ℕ, suc, ◌≤◌, ◌<◌, leb}
 use Rattle.std.proofs.Math.Option.{Option, none, some}
 
@@ -8,7 +8,7 @@ abbrev pub Each : {A : Type 0} → (A → Type 0) → List A → Type 0
 Each P [] = Unit {0}
 Each P (x ∷ xs) = P x × Each P xs
 
--- [B6, X1] a value is any words: none in a set, two in a map
+-- [B6] a value is any words: none in a set, one in a map
 abbrev pub Value : Type 0
 Value = List ℕ
 

@@ -4,14 +4,14 @@ use mathlib.Core.List.{List, [], ◌∷◌, ◌++◌}
 use mathlib.Core.Path.{◌≡◌, refl}
 use lib.ListN.{take, drop, replicate}
 use Rattle.entries.specs.Entries.{Entry, entry}
-use Rattle.entries.specs.Sets.{M, intersection}
+use Rattle.entries.specs.Sets.{intersection}
 use Rattle.entries.specs.Bulletins.{shareb}
 use Rattle.answers.specs.Answers.{outcome, given, refused, refuse}
 use Rattle.blocks.specs.Blocks.{block_of}
 use Rattle.checks.specs.Check.{new_mark, fletcher, crc_bit, crc_byte, crc_from, check_of}
 use Rattle.records.specs.Records.{body_length, said, saying, record_verdict}
 use Rattle.runs.specs.Runs.{run_of, entries_in, run_refusals, runs_of, runs_in, runs_refusals}
-use Rattle.verdicts.specs.Forms.{of_set, of_map, of_undated, of_bulletin, mark_of, form_of, form_entries, form_refusals}
+use Rattle.verdicts.specs.Forms.{of_set, of_map, of_bulletin, mark_of, form_of, form_entries, form_refusals}
 use Rattle.forms.specs.Calls.{read_call, read_set_call, read_map_call, read_bulletin_call, judge_call, judge_set_call, member_of_form_call}
 
 abbrev set_form : List Entry → List ℕ
@@ -19,9 +19,6 @@ set_form es = form_of new_mark of_set (es ∷ [])
 
 abbrev map_form : List Entry → List ℕ
 map_form es = form_of new_mark of_map (es ∷ [])
-
-abbrev undated_form : List Entry → List ℕ
-undated_form es = form_of new_mark of_undated (es ∷ [])
 
 abbrev bulletin_form : List Entry → List Entry → List ℕ
 bulletin_form released withdrawn = form_of new_mark of_bulletin (released ∷ withdrawn ∷ [])
@@ -58,33 +55,16 @@ unfolding read_call form_refusals form_entries mark_of runs_refusals run_refusal
     crc_byte crc_bit block_of
 marks = refl
 
--- [R12, Y13, Y14, X1] 12 blames the later of two items: backwards, touching in a set, touching with the same value and expiry in a map; another
--- value or another expiry may touch
+-- [R12, Y13, Y14] 12 blames the later of two items: backwards, touching in a set, touching with the same value in a map; other values may touch
 contents :
     read_set_call (set_form (entry 9 5 [] ∷ [])) [] ∷ read_set_call (set_form (entry 1 4 [] ∷ entry 5 6 [] ∷ [])) []
-    ∷ read_map_call (map_form (entry 1 4 (2 ∷ 9 ∷ []) ∷ entry 5 6 (2 ∷ 9 ∷ []) ∷ [])) []
-    ∷ read_map_call (map_form (entry 1 4 (2 ∷ 9 ∷ []) ∷ entry 5 6 (3 ∷ 9 ∷ []) ∷ [])) (replicate 10 9)
-    ∷ read_map_call (map_form (entry 1 4 (2 ∷ 9 ∷ []) ∷ entry 5 6 (2 ∷ 8 ∷ []) ∷ [])) (replicate 9 9) ∷ []
+    ∷ read_map_call (map_form (entry 1 4 (2 ∷ []) ∷ entry 5 6 (2 ∷ []) ∷ [])) []
+    ∷ read_map_call (map_form (entry 1 4 (2 ∷ []) ∷ entry 5 6 (3 ∷ []) ∷ [])) (replicate 8 9) ∷ []
     ≡ refuse 12 7 ([] ∷ []) ∷ refuse 12 28 ([] ∷ [])
-    ∷ refuse 12 44 ([] ∷ []) ∷ outcome (given []) ((2 ∷ 1 ∷ 4 ∷ 2 ∷ 9 ∷ 5 ∷ 6 ∷ 3 ∷ 9 ∷ 0 ∷ []) ∷ [])
-    ∷ outcome (given []) ((2 ∷ 1 ∷ 4 ∷ 2 ∷ 9 ∷ 5 ∷ 6 ∷ 2 ∷ 8 ∷ []) ∷ []) ∷ []
+    ∷ refuse 12 36 ([] ∷ []) ∷ outcome (given []) ((2 ∷ 1 ∷ 4 ∷ 2 ∷ 5 ∷ 6 ∷ 3 ∷ 0 ∷ []) ∷ []) ∷ []
 unfolding mark_of form_of runs_of run_of saying read_call form_refusals form_entries runs_refusals run_refusals runs_in entries_in said record_verdict body_length check_of
     fletcher crc_from crc_byte crc_bit block_of
 contents = refl
-
--- [X3, X4, R10, R12, R5] forms without expiries: M behind the value; touching with the same value, 12; entries of the other kind behind either
--- start, 10 at the entry; four words have no room for one
-undated_forms :
-    read_map_call (undated_form (entry 1 4 (2 ∷ []) ∷ entry 5 6 (3 ∷ []) ∷ [])) (replicate 10 9)
-    ∷ read_map_call (undated_form (entry 1 4 (2 ∷ []) ∷ entry 5 6 (2 ∷ []) ∷ [])) []
-    ∷ read_map_call (take 7 (undated_form (entry 1 4 (2 ∷ []) ∷ [])) ++ drop 7 (map_form (entry 1 4 (2 ∷ 9 ∷ []) ∷ []))) []
-    ∷ read_map_call (take 7 (map_form (entry 1 4 (2 ∷ 9 ∷ []) ∷ [])) ++ drop 7 (undated_form (entry 1 4 (2 ∷ []) ∷ []))) []
-    ∷ read_map_call (set_form []) [] ∷ read_map_call (undated_form (entry 1 4 (2 ∷ []) ∷ [])) (7 ∷ 7 ∷ 7 ∷ 7 ∷ []) ∷ []
-    ≡ outcome (given []) ((2 ∷ 1 ∷ 4 ∷ 2 ∷ M ∷ 5 ∷ 6 ∷ 3 ∷ M ∷ 0 ∷ []) ∷ []) ∷ refuse 12 36 ([] ∷ []) ∷ refuse 10 7 ([] ∷ [])
-    ∷ refuse 10 7 ([] ∷ []) ∷ refuse 10 0 ([] ∷ []) ∷ refuse 5 0 ((7 ∷ 7 ∷ 7 ∷ 7 ∷ []) ∷ []) ∷ []
-unfolding mark_of form_of runs_of run_of saying read_call form_refusals form_entries runs_refusals run_refusals runs_in entries_in said record_verdict body_length check_of
-    fletcher crc_from crc_byte crc_bit block_of
-undated_forms = refl
 
 -- [R14, Y15] a bulletin that releases 1..4 and withdraws 9..9, and one whose sets overlap
 bulletins :

@@ -26,11 +26,7 @@ use Rattle.runs.specs.Runs.{lengths, Fine}
 use Rattle.runs.proofs.Several.{shapes}
 use Rattle.verdicts.specs.declared.Form.{Form}
 use Rattle.verdicts.specs.Forms.{mark_of, form_of, size_of, form_entries, sharing, overlap, form_refusals, no_blocks, no_rooms, out_refusals, Formed}
-use Rattle.verdicts.specs.Forms.{block_layout}
-use Rattle.verdicts.proofs.Blocks.{block_two}
 use Rattle.forms.specs.Calls.{stored_in, read_call, held_in, inputs, no_space, block_refusals, write_refusals, written_at, write_call}
-use Rattle.forms.specs.Calls.{taken_runs}
-use Rattle.forms.proofs.Taking.{runs_fine, runs_many, runs_lengths, runs_apart}
 use Rattle.verdicts.specs.Steps.{FormKind}
 use Rattle.verdicts.proofs.Whole.{mark_back, made, back, whole, size}
 
@@ -90,24 +86,6 @@ space_clear p size len e = go (ltb len p) refl (ltb (len - p) size) refl (applie
 pub space_there : (p size len : ℕ) → p ≤ len → size ≤ len - p → applies (no_space p size len) 15 ≡ 0
 space_there p size len h l = rw (le-ltb len p h, le-ltb (len - p) size l)
 
--- what is read from a form f is written in the form g: g is laid out as the blocks of f are
-pub record Writes (f g : Form) : Type 0 where
-  pub kind : FormKind g
-  pub laid : g.layout ≡ block_layout f
-  pub many : g.runs ≡ f.runs
-  pub dates : g.undated ≡ false
-
--- reading a form that is written in itself: its blocks are laid out as its runs, and hold them as they are
-pub plain_read : {f : Form} → Writes f f → (b : List ℕ) (outs : List (List ℕ))
-    → read_call f b outs
-    ≡ in_turn (form_refusals f b ++ out_refusals f.layout (lengths outs) (lengths (form_entries f b))) outs
-    (outcome (given []) (stored_in outs (form_entries f b)))
-unfolding read_call
-plain_read {f} q b outs =
-    ap₂ (λ (l : Layout) (rs : List (List Entry)).
-    in_turn (form_refusals f b ++ out_refusals l (lengths outs) (lengths (form_entries f b))) outs (outcome (given []) (stored_in outs rs)))
-    (sym q.laid) (ap (λ (u : Bool). taken_runs u (form_entries f b)) q.dates)
-
 module _ (f : Form) (k : FormKind f) where
   -- «acceptance exactly of byte forms»: only byte forms are accepted, those of the runs that are then read
   pub accepted_formed : (b : List ℕ) → Bytes b → Clear (form_refusals f b) → Formed f b (form_entries f b)
@@ -133,65 +111,40 @@ module _ (f : Form) (k : FormKind f) where
       → Each (Shaped f.layout.width) others → form_of mark f runs ≡ form_of mark f others → runs ≡ others
   one_form mark runs others n m h g e = sym (back f k mark runs n h) ∙ ap (form_entries f) e ∙ back f k mark others m g
 
-  -- the blocks of an accepted reading: their runs stand in them, as blocks take them, and they are judged good
-  pub record Kept (b : List ℕ) (ws : List (List ℕ)) : Type 0 where
-    pub formed : Formed f b (form_entries f b)
-    pub said : held_in (block_layout f) ws ≡ taken_runs f.undated (form_entries f b)
-    pub judged : Clear (inputs (block_layout f) 0 ws)
-    pub long : length b ≡ size_of f (lengths (held_in (block_layout f) ws))
-
-  pub read_kept : (b : List ℕ) (outs ws : List (List ℕ)) → Bytes b → length outs ≡ f.runs → read_call f b outs ≡ outcome (given []) ws → Kept b ws
-  unfolding read_call
-  read_kept b outs ws y n e =
-      let L = block_layout f in
+  -- what was read, written into enough bytes, gives the new form of the same runs, as long as the bytes read
+  pub read_written : (b : List ℕ) (outs ws : List (List ℕ)) (bytes : List ℕ) (p : ℕ) → Bytes b → length outs ≡ f.runs
+      → read_call f b outs ≡ outcome (given []) ws → p + length b ≤ length bytes
+      → write_call f ws bytes p ≡ outcome (given (length b ∷ [])) (patch p (form_of new_mark f (held_in f.layout ws)) bytes ∷ [])
+  unfolding read_call write_call
+  read_written b outs ws bytes p y n e h =
       let es = form_entries f b in
-      let ts = taken_runs f.undated es in
-      let t = turn_accepted (form_refusals f b ++ out_refusals L (lengths outs) (lengths es)) outs (outcome (given []) (stored_in outs ts)) [] ws e in
-      let c = clear_split (form_refusals f b) (out_refusals L (lengths outs) (lengths es)) t.0 in
-      let d = clear_split (no_blocks 0 (lengths outs)) (no_rooms L 0 (lengths outs) (lengths es)) c.1 in
+      let t = turn_accepted (form_refusals f b ++ out_refusals f.layout (lengths outs) (lengths es)) outs (outcome (given []) (stored_in outs es)) [] ws e in
+      let c = clear_split (form_refusals f b) (out_refusals f.layout (lengths outs) (lengths es)) t.0 in
+      let d = clear_split (no_blocks 0 (lengths outs)) (no_rooms f.layout 0 (lengths outs) (lengths es)) c.1 in
       let g = made f k b y c.0 in
-      let fine = runs_fine f.undated f.layout.width f.layout.limit es g.fine in
-      let w : stored_in outs ts ≡ ws = cc in
-      let l : length outs ≡ length ts = n ∙ sym (runs_many f.undated es ∙ g.many) in
-      let rooms = subst (λ (ns : List ℕ). Clear (no_rooms L 0 (lengths outs) ns)) (sym (runs_lengths f.undated es)) d.1 in
-      let i : held_in L ws ≡ ts = ap (held_in L) (sym w) ∙ held_stored L (block_two f k) outs ts l (shapes L.width L.limit ts fine) in
-      record {
-        formed = g;
-        said = i;
-        judged = subst (λ (x : List (List ℕ)). Clear (inputs L 0 x)) w (inputs_stored L (block_two f k) 0 0 0 outs ts d.0 rooms fine);
-        long = accepted_size b y c.0 ∙ ap (size_of f) (sym (ap lengths i ∙ runs_lengths f.undated es));
-      }
-
-  -- what was read, written into enough bytes in a form g that is laid out as the blocks are, gives the new form of what they hold
-  pub read_written : (g : Form) → Writes f g → (b : List ℕ) (outs ws : List (List ℕ)) (bytes : List ℕ) (p : ℕ) → Bytes b → length outs ≡ f.runs
-      → read_call f b outs ≡ outcome (given []) ws → p + size_of g (lengths (held_in g.layout ws)) ≤ length bytes
-      → write_call g ws bytes p
-      ≡ outcome (given (size_of g (lengths (held_in g.layout ws)) ∷ [])) (patch p (form_of new_mark g (held_in g.layout ws)) bytes ∷ [])
-  unfolding write_call
-  read_written g q b outs ws bytes p y n e h =
-      let r = read_kept b outs ws y n e in
-      let es = form_entries f b in
-      let L = g.layout in
-      let i : held_in L ws ≡ taken_runs f.undated es = ap (λ (l : Layout). held_in l ws) q.laid ∙ r.said in
-      let v : Clear (inputs L 0 ws) = subst (λ (l : Layout). Clear (inputs l 0 ws)) (sym q.laid) r.judged in
-      let x = form_of new_mark g (held_in L ws) in
-      let m : length (held_in L ws) ≡ g.runs = ap length i ∙ runs_many f.undated es ∙ r.formed.many ∙ sym q.many in
-      let long : length x ≡ size_of g (lengths (held_in L ws)) =
-      size g q.kind new_mark (held_in L ws) m (shapes L.width L.limit (held_in L ws) (held_fine L q.kind.first.two 0 ws v)) in
-      let o : applies (sharing (held_in L ws)) 14 ≡ 0 =
-      ap (λ (x : List (List Entry)). applies (sharing x) 14) i ∙ rw (runs_apart f k es r.formed.many r.formed.apart) in
+      let w : stored_in outs es ≡ ws = cc in
+      let l : length outs ≡ length es = n ∙ sym g.many in
+      let i : held_in f.layout ws ≡ es =
+      ap (held_in f.layout) (sym w) ∙ held_stored f.layout k.first.two outs es l (shapes f.layout.width f.layout.limit es g.fine) in
+      let v : Clear (inputs f.layout 0 ws) =
+      subst (λ (x : List (List ℕ)). Clear (inputs f.layout 0 x)) w (inputs_stored f.layout k.first.two 0 0 0 outs es d.0 d.1 g.fine) in
+      let x = form_of new_mark f (held_in f.layout ws) in
+      let long : length x ≡ length b =
+      ap (λ (r : List (List Entry)). length (form_of new_mark f r)) i
+      ∙ size f k new_mark es g.many (shapes f.layout.width f.layout.limit es g.fine) ∙ sym (accepted_size b y c.0) in
+      let o : applies (sharing (held_in f.layout ws)) 14 ≡ 0 = ap (λ (x : List (List Entry)). applies (sharing x) 14) i ∙ rw g.apart in
       let u = space_there p (length x) (length bytes) (omega arith) (omega arith) in
-      clear_turn (write_refusals g ws (length x) (length bytes) p) (bytes ∷ []) (written_at p x bytes)
-      (clear_both (block_refusals g ws) _ (clear_both (inputs L 0 ws) (overlap (held_in L ws) ∷ []) v (o, tt)) (u, tt))
+      clear_turn (write_refusals f ws (length x) (length bytes) p) (bytes ∷ []) (written_at p x bytes)
+      (clear_both (block_refusals f ws) _ (clear_both (inputs f.layout 0 ws) (overlap (held_in f.layout ws) ∷ []) v (o, tt)) (u, tt))
       ∙ ap (λ (n : ℕ). outcome (given (n ∷ [])) (patch p x bytes ∷ [])) long
 
   -- what was written, read into enough words, gives the same words, and 0 to the end
-  pub written_read : Writes f f → (ws : List (List ℕ)) (bytes bytes' : List ℕ) (outs : List (List ℕ)) (p n : ℕ) → length ws ≡ f.runs
+  pub written_read : (ws : List (List ℕ)) (bytes bytes' : List ℕ) (outs : List (List ℕ)) (p n : ℕ) → length ws ≡ f.runs
       → write_call f ws bytes p ≡ outcome (given (n ∷ [])) (bytes' ∷ [])
       → Clear (out_refusals f.layout (lengths outs) (lengths (held_in f.layout ws)))
       → read_call f (take n (drop p bytes')) outs ≡ outcome (given []) (stored_in outs (held_in f.layout ws))
-  unfolding write_call
-  written_read own ws bytes bytes' outs p n m e c =
+  unfolding read_call write_call
+  written_read ws bytes bytes' outs p n m e c =
       let es = held_in f.layout ws in
       let g = form_of new_mark f es in
       let t = turn_accepted (write_refusals f ws (length g) (length bytes) p) (bytes ∷ []) (written_at p g bytes) (n ∷ []) (bytes' ∷ []) e in
@@ -209,8 +162,7 @@ module _ (f : Form) (k : FormKind f) where
       let r = many_held f.layout ws ∙ m in
       let v = whole f k new_mark es r h (mark_back new_mark f es (inr refl)) d (applies_clear (sharing es) 13 i.1.0) in
       let q = back f k new_mark es r h in
-      plain_read own (take n (drop p bytes')) outs
-      ∙ ap (λ (y : List ℕ). in_turn (form_refusals f y ++ out_refusals f.layout (lengths outs) (lengths (form_entries f y))) outs
+      ap (λ (y : List ℕ). in_turn (form_refusals f y ++ out_refusals f.layout (lengths outs) (lengths (form_entries f y))) outs
       (outcome (given []) (stored_in outs (form_entries f y)))) part
       ∙ ap (λ (y : List (List Entry)). in_turn (form_refusals f g ++ out_refusals f.layout (lengths outs) (lengths y)) outs
       (outcome (given []) (stored_in outs y))) q

@@ -1,4 +1,3 @@
-pub mod Taking
 pub mod Forms
 pub mod Reading
 pub mod Writing

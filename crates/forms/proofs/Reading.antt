@@ -1,10 +1,9 @@
 -- The answers of reading, judging and asking, from the tests of the code.
 use Prim.Native.Nat.{ℕ, zero, suc, ◌+◌, ◌*◌, ◌<◌, ◌≤◌}
 use mathlib.Core.List.{List, [], ◌∷◌, ◌++◌}
-use mathlib.Core.Bool.{Bool, true, false}
+use mathlib.Core.Bool.{Bool}
 use mathlib.Core.Path.{◌≡◌, refl, sym, subst, ap, ap₂, ◌∙◌}
 use native.Mathlib.Omega.{arith}
-use native.Mathlib.Nat.{mul-le-mul_right}
 use lib.Dec.{ltb, eqb}
 use lib.ListN.{length, take, drop, length-drop}
 use Rattle.entries.specs.Entries.{Each, Entry}
@@ -26,12 +25,7 @@ use Rattle.records.proofs.Items.{counts_two}
 use Rattle.runs.specs.Runs.{Fine, entries_in, lengths}
 use Rattle.verdicts.specs.declared.Form.{Form}
 use Rattle.verdicts.specs.Forms.{of_set, start_size, size_of, form_counts, form_entries, form_refusals, out_refusals}
-use Rattle.verdicts.specs.Forms.{block_layout}
-use Rattle.runs.specs.Runs.{taken}
-use Rattle.runs.specs.Steps.{Undated}
-use Rattle.runs.proofs.Taking.{taken_least}
 use Rattle.forms.specs.Calls.{stored_in, read_call, judge_call, one_number, first_of, member_of_form_call}
-use Rattle.forms.specs.Calls.{taken_runs}
 use Rattle.forms.specs.Steps.{Stored, Stores}
 use Rattle.verdicts.specs.Steps.{Shape, lone, pair, FormKind, each_of, item_size, second_at, runs_here, OneRun}
 use Rattle.verdicts.proofs.Whole.{set_kind, counted}
@@ -66,14 +60,14 @@ each_roomy layout r i j n m pair c = (roomy layout i n c.0 c.1.1.0, λ nz. roomy
 
 -- the refusals of the outputs x and y of a reading
 abbrev outs_of : Form → List ℕ → List ℕ → List ℕ → List Finding
-outs_of f b x y = out_refusals (block_layout f) (lengths (each_of f x y)) (lengths (form_entries f b))
+outs_of f b x y = out_refusals f.layout (lengths (each_of f x y)) (lengths (form_entries f b))
 
 pub bytes_refused : (f : Form) (b x y : List ℕ) (v : Finding) → FirstOf (form_refusals f b) v → (v.number ≡ 0 → ⊥) → (r : Judged)
     → r ≡ judged_of v.number v.place → outcome (judged_says r) (each_of f x y) ≡ read_call f b (each_of f x y)
 unfolding read_call
 bytes_refused f b x y v fv nz r e =
     refused_by (form_refusals f b ++ outs_of f b x y) v (stops_in (form_refusals f b) (outs_of f b x y) v fv nz) (each_of f x y)
-    (outcome (given []) (stored_in (each_of f x y) (taken_runs f.undated (form_entries f b)))) r nz e
+    (outcome (given []) (stored_in (each_of f x y) (form_entries f b))) r nz e
 
 -- the bytes were judged good, n and m are their counts, and u is the first refusal of the outputs
 pub record Opened (f : Form) (b x y : List ℕ) (v : Finding) (n m : ℕ) (u : Finding) : Type 0 where
@@ -82,75 +76,66 @@ pub record Opened (f : Form) (b x y : List ℕ) (v : Finding) (n m : ℕ) (u : F
   pub clear : v.number ≡ 0
   pub count : n ≡ num2 b 3
   pub count_too : m ≡ second_count f.runs b
-  pub outs : FirstOf (out_refusals (block_layout f) (each_of f (length x) (length y)) (each_of f n m)) u
+  pub outs : FirstOf (out_refusals f.layout (each_of f (length x) (length y)) (each_of f n m)) u
 
 module _ {f : Form} {b x y : List ℕ} {v : Finding} {n m : ℕ} {u : Finding} (g : Opened f b x y v n m u) where
   abbrev lent : List (List ℕ)
   lent = each_of f x y
 
   abbrev next : Outcome
-  next = outcome (given []) (stored_in lent (taken_runs f.undated (form_entries f b)))
+  next = outcome (given []) (stored_in lent (form_entries f b))
 
   all_passed : FirstOf (form_refusals f b ++ outs_of f b x y) u
   all_passed =
       let c : each_of f n m ≡ lengths (form_entries f b) =
       ap₂ (each_of f) g.count g.count_too ∙ counts_two f.runs g.kind.start.one g.kind.start.two b ∙ sym (counted f g.kind b) in
       passes_in (form_refusals f b) (outs_of f b x y) v u g.bytes g.clear
-      (subst (λ (l : List Finding). FirstOf l u) (ap₂ (out_refusals (block_layout f)) (each_length f.runs f.layout x y g.kind.shape) c) g.outs)
+      (subst (λ (l : List Finding). FirstOf l u) (ap₂ (out_refusals f.layout) (each_length f.runs f.layout x y g.kind.shape) c) g.outs)
 
   pub outs_refused : (u.number ≡ 0 → ⊥) → (r : Judged) → r ≡ judged_of u.number u.place → outcome (judged_says r) lent ≡ read_call f b lent
   unfolding read_call
   outs_refused nz r e = refused_by (form_refusals f b ++ outs_of f b x y) u all_passed lent next r nz e
 
   module _ (zu : u.number ≡ 0) where
-    wide : (z : List ℕ) (i : ℕ) → Roomy (block_layout f) (length z) i → (block_layout f).width * i ≤ length (drop 1 z)
-    wide z i r = omega (arith, room_words (block_layout f) (length z) i r.some r.fits, length-drop 1 z)
-
-    stored : (kind : ℕ) → Undated f.undated kind f.layout.width → (z : List ℕ) (i p : ℕ) → Roomy (block_layout f) (length z) i → p ≤ length b
-        → item_size f * i ≤ length (drop p b) → Stored f.undated kind f.layout.width i p b z
-    stored kind d z i p r h l = record {
+    stored : (z : List ℕ) (i p : ℕ) → Roomy f.layout (length z) i → p ≤ length b → item_size f * i ≤ length (drop p b) → Stored f.layout.width i p b z
+    stored z i p r h l = record {
       there = h;
       some = r.some;
       fills = record {
         two = g.kind.first.two;
         four = g.kind.first.four;
         held = l;
-        room = omega (arith, mul-le-mul_right i (taken_least f.undated f.layout.width), wide z i r);
+        room = omega (arith, room_words f.layout (length z) i r.some r.fits, length-drop 1 z);
       };
-      room = wide z i r;
-      late = d;
     }
 
     pub to_store : Bytes b → Stores f n m b x y
     to_store w =
-        let r = each_roomy (block_layout f) f.runs (length x) (length y) n m g.kind.block (g.outs.clear zu) in
+        let r = each_roomy f.layout f.runs (length x) (length y) n m g.kind.shape (g.outs.clear zu) in
         let l : length b ≡ second_at f n + item_size f * m =
         accepted_size f g.kind b w (g.bytes.clear g.clear) ∙ ap (size_of f) (counted f g.kind b) ∙ size_here f g.kind b
         ∙ ap₂ (λ (i j : ℕ). second_at f i + item_size f * j) (sym g.count) (sym g.count_too) in
         record {
-          first = stored f.first g.kind.late.0 x n (start_size f) r.0 (omega arith) (omega (arith, length-drop (start_size f) b));
-          second = λ nz. stored f.second g.kind.late.1 y m (second_at f n) (r.1 nz) (omega arith) (omega (arith, length-drop (second_at f n) b));
+          first = stored x n (start_size f) r.0 (omega arith) (omega (arith, length-drop (start_size f) b));
+          second = λ nz. stored y m (second_at f n) (r.1 nz) (omega arith) (omega (arith, length-drop (second_at f n) b));
           shape = g.kind.shape;
         }
 
-    pub read_good : (x' y' : List ℕ) → each_of f x' y' ≡ stored_in lent (taken_runs f.undated (runs_here f n m b))
+    pub read_good : (x' y' : List ℕ) → each_of f x' y' ≡ stored_in lent (runs_here f n m b)
         → outcome (judged_says answer.Accepted) (each_of f x' y') ≡ read_call f b lent
     unfolding read_call
     read_good x' y' q =
         given_by (form_refusals f b ++ outs_of f b x y) u all_passed lent next (outcome (given []) (each_of f x' y')) zu
-        (ap (outcome (given [])) (q ∙ ap (λ (r : List (List Entry)). stored_in lent (taken_runs f.undated r))
-        (ap₂ (λ (i j : ℕ). runs_here f i j b) g.count g.count_too ∙ sym (entries_here f g.kind b))))
+        (ap (outcome (given [])) (q ∙ ap (stored_in lent) (ap₂ (λ (i j : ℕ). runs_here f i j b) g.count g.count_too ∙ sym (entries_here f g.kind b))))
 
 -- the outputs that were filled
-pub one_stored : (u : Bool) (r : ℕ) (x y x' y' : List ℕ) (es fs : List Entry) → r ≡ 1 → x' ≡ block_of (length x) (taken u es)
-    → take r (x' ∷ y' ∷ []) ≡ stored_in (take r (x ∷ y ∷ [])) (taken_runs u (take r (es ∷ fs ∷ [])))
-one_stored true r x y x' y' es fs e p = rw (e, p)
-one_stored false r x y x' y' es fs e p = rw (e, p)
+pub one_stored : (r : ℕ) (x y x' y' : List ℕ) (es fs : List Entry) → r ≡ 1 → x' ≡ block_of (length x) es
+    → take r (x' ∷ y' ∷ []) ≡ stored_in (take r (x ∷ y ∷ [])) (take r (es ∷ fs ∷ []))
+one_stored r x y x' y' es fs e p = rw (e, p)
 
-pub two_stored : (u : Bool) (r : ℕ) (x y x' y' : List ℕ) (es fs : List Entry) → r ≡ 2 → x' ≡ block_of (length x) (taken u es)
-    → y' ≡ block_of (length y) (taken u fs) → take r (x' ∷ y' ∷ []) ≡ stored_in (take r (x ∷ y ∷ [])) (taken_runs u (take r (es ∷ fs ∷ [])))
-two_stored true r x y x' y' es fs e p q = rw (e, p, q)
-two_stored false r x y x' y' es fs e p q = rw (e, p, q)
+pub two_stored : (r : ℕ) (x y x' y' : List ℕ) (es fs : List Entry) → r ≡ 2 → x' ≡ block_of (length x) es → y' ≡ block_of (length y) fs
+    → take r (x' ∷ y' ∷ []) ≡ stored_in (take r (x ∷ y ∷ [])) (take r (es ∷ fs ∷ []))
+two_stored r x y x' y' es fs e p q = rw (e, p, q)
 
 -- judging and asking, of a set
 module _ (b : List ℕ) (v : Finding) (fv : FirstOf (form_refusals of_set b) v) where

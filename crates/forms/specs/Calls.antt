@@ -1,5 +1,5 @@
 -- What the calls of this crate answer and leave.
-use Rattle.std.specs.Prelude.{ℕ, suc, ◌+◌, ◌-◌, Bool, true, false, List, [], ◌∷◌, ◌++◌, map, ltb, eqb, length, get_or}
+use Rattle.std.specs.Prelude.{ℕ, suc, ◌+◌, ◌-◌, Bool, true, List, [], ◌∷◌, ◌++◌, ltb, length, get_or}
 use Rattle.entries.specs.Entries.{Entry}
 use Rattle.entries.specs.Build.{pick}
 use Rattle.entries.specs.Sets.{member}
@@ -13,9 +13,8 @@ use Rattle.checks.specs.Check.{new_mark}
 use Rattle.verdicts.specs.declared.Form.{Form}
 use Rattle.forms.specs.declared.FormRead.{FormRead}
 use Rattle.forms.specs.declared.FormRead.TheVariants as read
-use Rattle.runs.specs.Runs.{dated, lengths}
-use Rattle.verdicts.specs.Forms.{of_set, of_map, of_undated, of_bulletin, of_signed, block_layout, form_of, form_counts, form_entries, overlap, form_refusals}
-use Rattle.verdicts.specs.Forms.{out_refusals}
+use Rattle.runs.specs.Runs.{lengths}
+use Rattle.verdicts.specs.Forms.{of_set, of_map, of_bulletin, of_signed, form_of, form_counts, form_entries, overlap, form_refusals, out_refusals}
 
 -- each output as it is when it holds its run
 abbrev pub stored_in : List (List ℕ) → List (List Entry) → List (List ℕ)
@@ -23,27 +22,17 @@ stored_in [] runs = []
 stored_in (w ∷ ws) [] = []
 stored_in (w ∷ ws) (es ∷ runs) = block_of (length w) es ∷ stored_in ws runs
 
--- [X4] the runs of a form as blocks take them: as they are, or, where the form is undated, each entry with the expiry M
-abbrev pub taken_runs : Bool → List (List Entry) → List (List Entry)
-taken_runs true runs = map (map dated) runs
-taken_runs false runs = runs
-
 -- [Y12, Y15] reading into blocks, one for each run: the refusals of the bytes, then those of the outputs
 unfoldable pub read_call : Form → List ℕ → List (List ℕ) → Outcome
 read_call f b outs =
-    in_turn (form_refusals f b ++ out_refusals (block_layout f) (lengths outs) (lengths (form_entries f b))) outs
-    (outcome (given []) (stored_in outs (taken_runs f.undated (form_entries f b))))
+    in_turn (form_refusals f b ++ out_refusals f.layout (lengths outs) (lengths (form_entries f b))) outs
+    (outcome (given []) (stored_in outs (form_entries f b)))
 
 abbrev pub read_set_call : List ℕ → List ℕ → Outcome
 read_set_call b out = read_call of_set b (out ∷ [])
 
--- [X3] the form that the bytes of a map have to be: that without expiries where their third byte is its start, else that with them
-abbrev pub map_form_of : List ℕ → Form
-map_form_of b = pick (eqb (get_or b 2 0) 0x02) of_undated of_map
-
--- [X3] a map is read from either form
 abbrev pub read_map_call : List ℕ → List ℕ → Outcome
-read_map_call b out = read_call (map_form_of b) b (out ∷ [])
+read_map_call b out = read_call of_map b (out ∷ [])
 
 -- [K6] a signed set is read into a set block, as the words of its keys
 abbrev pub read_signed_call : List ℕ → List ℕ → Outcome
@@ -86,7 +75,6 @@ write_call f ws bytes p =
 abbrev pub write_set_call : List ℕ → List ℕ → ℕ → Outcome
 write_set_call w bytes p = write_call of_set (w ∷ []) bytes p
 
--- [X5] a map is written with expiries
 abbrev pub write_map_call : List ℕ → List ℕ → ℕ → Outcome
 write_map_call w bytes p = write_call of_map (w ∷ []) bytes p
 

@@ -1,25 +1,22 @@
 -- What the steps of the code promise each other. No public promise names these.
-use Rattle.std.specs.Prelude.{ℕ, ◌+◌, ◌*◌, ◌<◌, ◌≤◌, ◌≡◌, Bool, List, ltb, length, get_or, drop}
+use Rattle.std.specs.Prelude.{ℕ, ◌+◌, ◌*◌, ◌<◌, ◌≤◌, ◌≡◌, List, ltb, length, get_or, drop}
 use Rattle.entries.specs.Build.{pick}
 use Rattle.numbers.specs.Numbers.{past2}
-use Rattle.runs.specs.Runs.{taken_width}
-use Rattle.runs.specs.Steps.{Fills, Undated}
+use Rattle.runs.specs.Steps.{Fills}
 use Rattle.verdicts.specs.declared.Form.{Form}
 use Rattle.verdicts.specs.Forms.{start_size}
 use Rattle.verdicts.specs.Steps.{Shape, FormKind, item_size, second_at}
 
--- a run of n records from place p on, undated or not, and a block with room for its items
-pub record Stored (u : Bool) (kind s n p : ℕ) (b out : List ℕ) : Type 0 where
+-- a run of n records from place p on, and a block with room for its items
+pub record Stored (s n p : ℕ) (b out : List ℕ) : Type 0 where
   pub there : p ≤ length b
   pub some : 1 ≤ length out
   pub fills : Fills s n (drop p b) (drop 1 out)
-  pub room : taken_width u s * n ≤ length (drop 1 out)
-  pub late : Undated u kind s
 
 -- the runs of a form, and a block for each
 pub record Stores (f : Form) (n m : ℕ) (b out out2 : List ℕ) : Type 0 where
-  pub first : Stored f.undated f.first f.layout.width n (start_size f) b out
-  pub second : (f.runs ≡ 1 → ⊥) → Stored f.undated f.second f.layout.width m (second_at f n) b out2
+  pub first : Stored f.layout.width n (start_size f) b out
+  pub second : (f.runs ≡ 1 → ⊥) → Stored f.layout.width m (second_at f n) b out2
   pub shape : Shape f.runs f.layout
 
 -- the count in the second block of a form, 0 where there is one run

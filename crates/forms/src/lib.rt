@@ -1,6 +1,5 @@
-// The byte form of sets, maps, bulletins and signed sets: a form is a value, and one code reads and writes them all, run by run. Maps
-// without expiries are read and no longer written.
-ghost use Rattle.std.specs.Prelude.{◌≡◌, [], ◌∷◌, ◌++◌, ◌+◌, ◌*◌, ◌≤◌, ◌<◌, eqb, length, get_or, drop};
+// The byte form of sets, maps, bulletins and signed sets: a form is a value, and one code reads and writes them all, run by run.
+ghost use Rattle.std.specs.Prelude.{◌≡◌, [], ◌∷◌, ◌++◌, ◌+◌, ◌*◌, ◌≤◌, ◌<◌, length, drop};
 ghost use Rattle.answers.specs.Answers.{outcome};
 ghost use Rattle.answers.specs.Says.{judged_says, written_says};
 ghost use Rattle.answers.specs.Steps.{FirstOf};
@@ -8,7 +7,7 @@ ghost use Rattle.blocks.specs.Blocks.{items_of};
 ghost use Rattle.numbers.specs.Numbers.{over};
 ghost use Rattle.checks.specs.Check.{new_mark};
 ghost use Rattle.verdicts.specs.Forms.{form_of};
-ghost use Rattle.forms.specs.Calls.{stored_in, taken_runs, read_call, read_set_call, read_map_call, read_bulletin_call};
+ghost use Rattle.forms.specs.Calls.{stored_in, read_call, read_set_call, read_map_call, read_bulletin_call};
 ghost use Rattle.forms.specs.Calls.{block_refusals, no_space, write_call, write_set_call, write_map_call, write_bulletin_call};
 ghost use Rattle.forms.specs.Calls.{read_signed_call, write_signed_call};
 ghost use Rattle.forms.specs.Calls.{judge_set_call, form_says, member_of_form_call};
@@ -29,16 +28,16 @@ pub enum FormRead {
 fn store_runs(bytes: &[u8], form: Form, n: usize, m: usize, first: &mut [u64], second: &mut [u64])
     requires { Stores form n m bytes.now first.old second.old }
     ensures { each_of form first.new second.new
-        ≡ stored_in (each_of form first.old second.old) (taken_runs form.undated (runs_here form n m bytes.now)) }
+        ≡ stored_in (each_of form first.old second.old) (runs_here form n m bytes.now) }
 {
     let s = form.layout.width;
     let from = 2 * form.runs + 5;
-    runs::store(bytes, from, form.first, form.undated, s, n, first);
+    runs::store(bytes, from, form.first, s, n, first);
     if form.runs == 1 {
         return;
     }
     let p = from + (8 * s + 5) * n;
-    runs::store(bytes, p, form.second, form.undated, s, m, second);
+    runs::store(bytes, p, form.second, s, m, second);
 }
 
 // Reads a form into a block for each run: judges all of it, then fills. The second block is not touched where the form has one run.
@@ -69,24 +68,11 @@ pub fn read_set(bytes: &[u8], out: &mut [u64]) -> Judged
     read_form(bytes, out, &mut none, verdicts::SET_FORM)
 }
 
-// Whether the bytes begin as the form of a map without expiries, which has to be judged by the start's kind alone.
-fn starts_undated(bytes: &[u8]) -> bool
-    ensures { result ≡ eqb (get_or bytes.now 2 0) 0x02 }
-{
-    if bytes.len() < 3 {
-        return false;
-    }
-    bytes[2] == 0x02
-}
-
-// Reads the byte form of a map into a block, with expiries or without; an entry without one gets M. A refused call changes nothing.
+// Reads the byte form of a map into a block. A refused call changes nothing.
 pub fn read_map(bytes: &[u8], out: &mut [u64]) -> Judged
     ensures { outcome (judged_says result) (out.new ∷ []) ≡ read_map_call bytes.now out.old }
 {
     let mut none = [0u64; 1];
-    if starts_undated(bytes) {
-        return read_form(bytes, out, &mut none, verdicts::UNDATED_FORM);
-    }
     read_form(bytes, out, &mut none, verdicts::MAP_FORM)
 }
 
@@ -214,7 +200,7 @@ pub fn write_set(block: &[u64], bytes: &mut [u8], p: usize) -> Written
     write_form(block, block, bytes, p, verdicts::SET_FORM)
 }
 
-// Writes the byte form of a map, with expiries, into the bytes from place p on, and answers its length. A refused call changes nothing.
+// Writes the byte form of a map into the bytes from place p on, and answers its length. A refused call changes nothing.
 pub fn write_map(block: &[u64], bytes: &mut [u8], p: usize) -> Written
     ensures { outcome (written_says result) (bytes.new ∷ []) ≡ write_map_call block.now bytes.old p }
 {

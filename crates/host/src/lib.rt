@@ -377,26 +377,20 @@ pub extern "C" fn wimblorque_word_of_key(key: i64) -> u64
     keys::word_of(key)
 }
 
-// The value of x and its expiry, any words at all, or no values.
+// The value of x, any word at all, or no value.
 #[unsafe(no_mangle)]
 pub extern "C" fn wimblorque_map_look_up(block: &[u64], x: u64) -> Told
     ensures { Tells result [] (look_up_call block.now x) }
 {
-    told::tell_valued(maps::look_up(block, x))
+    told::tell_found(maps::look_up(block, x))
 }
 
-// Gives every number of a..b the value v and the expiry, replacing what was there.
+// Gives every number of a..b the value v, replacing what was there.
 #[unsafe(no_mangle)]
-pub extern "C" fn wimblorque_map_assign(
-    block: &mut [u64],
-    a: u64,
-    b: u64,
-    v: u64,
-    expiry: u64,
-) -> Told
-    ensures { Tells result (block.new ∷ []) (assign_call block.old a b v expiry) }
+pub extern "C" fn wimblorque_map_assign(block: &mut [u64], a: u64, b: u64, v: u64) -> Told
+    ensures { Tells result (block.new ∷ []) (assign_call block.old a b v) }
 {
-    told::tell_judged(maps::assign(block, a, b, v, expiry))
+    told::tell_judged(maps::assign(block, a, b, v))
 }
 
 // Leaves no number of a..b a value.
@@ -424,7 +418,7 @@ pub extern "C" fn wimblorque_map_site_over_factory(site: &[u64], factory: &[u64]
     told::tell_decided(maps::site_over_factory_at(site, factory, x))
 }
 
-// The upper map's value and expiry where it has them, else the lower's, into out.
+// The upper map's value where it has one, else the lower's, into out.
 #[unsafe(no_mangle)]
 pub extern "C" fn wimblorque_map_overlay(upper: &[u64], lower: &[u64], out: &mut [u64]) -> Told
     ensures { Tells result (out.new ∷ []) (overlay_call upper.now lower.now out.old) }
@@ -432,7 +426,7 @@ pub extern "C" fn wimblorque_map_overlay(upper: &[u64], lower: &[u64], out: &mut
     told::tell_judged(maps::overlay(upper, lower, out))
 }
 
-// The map's values and expiries at the set's numbers, into out.
+// The map's values at the set's numbers, into out.
 #[unsafe(no_mangle)]
 pub extern "C" fn wimblorque_map_restriction(map: &[u64], set: &[u64], out: &mut [u64]) -> Told
     ensures { Tells result (out.new ∷ []) (restriction_call map.now set.now out.old) }
@@ -496,7 +490,7 @@ pub extern "C" fn wimblorque_signed_read(bytes: &[u8], out: &mut [u64]) -> Told
     told::tell_judged(forms::read_signed(bytes, out))
 }
 
-// Reads the byte form of a map into out, with expiries or without; an entry without one gets M.
+// Reads the byte form of a map into out.
 #[unsafe(no_mangle)]
 pub extern "C" fn wimblorque_map_read(bytes: &[u8], out: &mut [u64]) -> Told
     ensures { Tells result (out.new ∷ []) (read_map_call bytes.now out.old) }
@@ -544,7 +538,7 @@ pub extern "C" fn wimblorque_signed_write(block: &[u64], bytes: &mut [u8], p: us
     told::tell_written(forms::write_signed(block, bytes, p))
 }
 
-// Writes the byte form of a map, with expiries, from place p on, and answers its length.
+// Writes the byte form of a map from place p on, and answers its length.
 #[unsafe(no_mangle)]
 pub extern "C" fn wimblorque_map_write(block: &[u64], bytes: &mut [u8], p: usize) -> Told
     ensures { Tells result (bytes.new ∷ []) (write_map_call block.now bytes.old p) }

@@ -1,9 +1,9 @@
 -- What the code's tests make of the definition of looking up.
-use mathlib.Core.Path.{◌≡◌, sym, ◌∙◌, ap, ap₂}
+use mathlib.Core.Path.{◌≡◌, sym, ◌∙◌, ap}
 use mathlib.Core.List.{List, [], ◌∷◌}
-use Prim.Native.Nat.{ℕ, suc, ◌+◌, ◌≤◌}
+use Prim.Native.Nat.{ℕ, ◌+◌, ◌≤◌}
 use native.Mathlib.Omega.{arith}
-use lib.ListN.{length, get_or, take, drop}
+use lib.ListN.{length, get_or, take}
 use lib.Seq.{drop-cons}
 use Rattle.entries.specs.Entries.{value_at}
 use Rattle.answers.specs.declared.Refusal.{Refusal}
@@ -38,11 +38,8 @@ module _ {w : List ℕ} {x : ℕ} {r : Part} (g : EntryOf map_layout w x r) wher
     pub value_held : r.place + width ≤ length w
     value_held = omega (arith, g.held, (g.value n).1)
 
-    pub value_is : (v t : ℕ) → v ≡ get_or w (r.place + 2) 0 → t ≡ get_or w (r.place + 3) 0 → given (v ∷ t ∷ []) ≡ worth (value_at (map_entries w) x)
-    value_is v t q p =
-        let k : r.place + 3 ≡ suc (r.place + 2) = omega arith in
-        ap₂ (λ (y z : ℕ). given (y ∷ z ∷ [])) q p
-        ∙ ap (λ (l : List ℕ). given (take 2 (get_or w (r.place + 2) 0 ∷ l)))
-        (sym (drop-cons w (r.place + 3) 0 (omega (arith, value_held))) ∙ ap (λ (j : ℕ). drop j w) k)
-        ∙ ap (λ (l : List ℕ). given (take 2 l)) (sym (drop-cons w (r.place + 2) 0 (omega (arith, value_held))))
+    pub value_is : (v : ℕ) → v ≡ get_or w (r.place + 2) 0 → given (v ∷ []) ≡ worth (value_at (map_entries w) x)
+    value_is v q =
+        ap (λ (y : ℕ). given (y ∷ [])) q
+        ∙ ap (λ (l : List ℕ). given (take 1 l)) (sym (drop-cons w (r.place + 2) 0 (omega (arith, value_held))))
         ∙ sym (ap worth (g.value n).0)

@@ -25,13 +25,13 @@ abbrev pub worth : Option Value → Answer
 worth (some v) = given v
 worth none = given []
 
--- [M1, X1] look up x: its value and its expiry, or none
+-- [M1] look up x: its value, or none
 unfoldable pub look_up_call : List ℕ → ℕ → Outcome
 look_up_call w x = in_turn (input 0 map_layout w ∷ []) [] (outcome (worth (value_at (map_entries w) x)) [])
 
--- [M2, X1] assign v, with its expiry, to a..b, replacing what was there
-abbrev pub assign_call : List ℕ → ℕ → ℕ → ℕ → ℕ → Outcome
-assign_call w a b v expiry = edit_call map_layout w a b (some (v ∷ expiry ∷ []))
+-- [M2] assign v to a..b, replacing what was there
+abbrev pub assign_call : List ℕ → ℕ → ℕ → ℕ → Outcome
+assign_call w a b v = edit_call map_layout w a b (some (v ∷ []))
 
 -- [M3] erase a..b
 abbrev pub erase_call : List ℕ → ℕ → ℕ → Outcome
@@ -49,7 +49,7 @@ restriction_call map set o = from_two map_layout set_layout map_layout restricti
 unfoldable pub domain_call : List ℕ → List ℕ → Outcome
 domain_call map o = from_one map_layout set_layout domain map o
 
--- [M7] a window is answered as for sets, four words an entry
+-- [M7] a window is answered as for sets, three words an entry
 abbrev pub map_window_call : List ℕ → ℕ → ℕ → Part
 map_window_call w a b = window_call map_layout w a b
 
@@ -83,7 +83,7 @@ abbrev pub deciding : List ℕ → List ℕ → ℕ → Deciding
 deciding site factory x =
     pick (has (value_at (map_entries site) x)) (part_in 0 (window_part map_layout.width site x x)) (part_in 1 (window_part map_layout.width factory x x))
 
--- [M8, R20] the four words of the deciding entry, as a part of whichever map holds it; refused, the empty part at the site map's front
+-- [M8, R20] the three words of the deciding entry, as a part of whichever map holds it; refused, the empty part at the site map's front
 unfoldable pub site_over_factory_call : List ℕ → List ℕ → ℕ → Deciding
 site_over_factory_call site factory x =
     handed (in_turn (site_refusals site factory) [] (outcome (given []) [])) (deciding site factory x) (part_in 0 no_part)

@@ -1,9 +1,9 @@
-// Range maps: numbers from 0 to 2^64 - 1 to records, each a value and its expiry, in lent blocks of words laid out as `blocks::MAP` says.
+// Range maps: numbers from 0 to 2^64 - 1 to records, in lent blocks of words laid out as `blocks::MAP` says.
 // Every call takes any words at all. Its contract names the whole outcome by one definition of specs/Calls.
 ghost use Rattle.std.specs.Prelude.{◌≡◌, [], ◌∷◌};
 ghost use Rattle.entries.specs.Entries.{value_at};
 ghost use Rattle.answers.specs.Answers.{outcome};
-ghost use Rattle.answers.specs.Says.{judged_says, valued_says, parted_says, decided_says};
+ghost use Rattle.answers.specs.Says.{judged_says, found_says, parted_says, decided_says};
 ghost use Rattle.blocks.specs.Blocks.{SoundBlock, map_layout};
 ghost use Rattle.maps.specs.Calls.{map_entries, worth, look_up_call, assign_call, erase_call, overlay_call, restriction_call, domain_call};
 ghost use Rattle.maps.specs.Calls.{map_window_call, map_window_at_call, map_window_refusal_call, site_refusal_call, at_position};
@@ -11,39 +11,37 @@ ghost use Rattle.maps.specs.Calls.{site_over_factory_call, site_over_factory_at_
 ghost use Rattle.maps.specs.Steps.{DecidingOf};
 ghost use Rattle.searches.specs.Parts.{part, IsPart};
 
-use answers::{Decided, Judged, Parted, Valued};
+use answers::{Decided, Found, Judged, Parted};
 use operations::Layouts;
 
-// The value of x and its expiry in a sound map.
-fn value_in(block: &[u64], x: u64) -> Valued
+// The value of x in a sound map.
+fn value_in(block: &[u64], x: u64) -> Found
     requires { SoundBlock map_layout block.now }
-    ensures { valued_says result ≡ worth (value_at (map_entries block.now) x) }
+    ensures { found_says result ≡ worth (value_at (map_entries block.now) x) }
 {
     let entry = searches::entry_part(block, blocks::MAP, x);
     if entry.length == 0 {
-        return Valued::Nothing;
+        return Found::Nothing;
     }
-    let v = blocks::word(block, entry.place + 2);
-    let expiry = blocks::word(block, entry.place + 3);
-    Valued::Value(v, expiry)
+    Found::Number(blocks::word(block, entry.place + 2))
 }
 
-// The value of x and its expiry, or none. Both are any words, 0 included.
-pub fn look_up(block: &[u64], x: u64) -> Valued
-    ensures { outcome (valued_says result) [] ≡ look_up_call block.now x }
+// The value of x, or none. A value is any word, 0 included.
+pub fn look_up(block: &[u64], x: u64) -> Found
+    ensures { outcome (found_says result) [] ≡ look_up_call block.now x }
 {
     let v = blocks::judge(block, blocks::MAP);
     if v != 0 {
-        return Valued::Refused(answers::refusal_of(v, 0));
+        return Found::Refused(answers::refusal_of(v, 0));
     }
     value_in(block, x)
 }
 
-// Assigns v, with its expiry, to a..b: afterwards each of its numbers has both, whatever it had before, and all others are as they were.
-pub fn assign(block: &mut [u64], a: u64, b: u64, v: u64, expiry: u64) -> Judged
-    ensures { outcome (judged_says result) (block.new ∷ []) ≡ assign_call block.old a b v expiry }
+// Assigns v to a..b: afterwards each of its numbers has the value v, whatever it had before, and all others are as they were.
+pub fn assign(block: &mut [u64], a: u64, b: u64, v: u64) -> Judged
+    ensures { outcome (judged_says result) (block.new ∷ []) ≡ assign_call block.old a b v }
 {
-    let mut new = [a, b, v, expiry];
+    let mut new = [a, b, v];
     answers::judged_of(edits::edit_put(block, &mut new, blocks::MAP), 0)
 }
 
@@ -54,7 +52,7 @@ pub fn erase(block: &mut [u64], a: u64, b: u64) -> Judged
     answers::judged_of(edits::edit_out(block, blocks::MAP, a, b), 0)
 }
 
-// The upper map's value and expiry where it has them, else the lower's, into out.
+// The upper map's value where it has one, else the lower's, into out.
 pub fn overlay(upper: &[u64], lower: &[u64], out: &mut [u64]) -> Judged
     ensures { outcome (judged_says result) (out.new ∷ []) ≡ overlay_call
         upper.now lower.now out.old }
@@ -67,7 +65,7 @@ pub fn overlay(upper: &[u64], lower: &[u64], out: &mut [u64]) -> Judged
     operations::from_two(upper, lower, sweeps::IN_EITHER, layouts, 2, out)
 }
 
-// The map's values and expiries at the set's numbers, into out.
+// The map's values at the set's numbers, into out.
 pub fn restriction(map: &[u64], set: &[u64], out: &mut [u64]) -> Judged
     ensures { outcome (judged_says result) (out.new ∷ []) ≡ restriction_call
         map.now set.now out.old }
@@ -145,7 +143,7 @@ pub fn site_over_factory_refusal(site: &[u64], factory: &[u64], x: u64) -> Judge
     answers::judged_of(found.number, found.place)
 }
 
-// [G1] The four words of the entry that decides x: the site map's where it has a value, else the factory map's, else a part of no words.
+// [G1] The three words of the entry that decides x: the site map's where it has a value, else the factory map's, else a part of no words.
 pub fn site_over_factory<'a>(site: &'a [u64], factory: &'a [u64], x: u64) -> &'a [u64]
     ensures { IsPart (at_position (site_over_factory_call site.now factory.now x).position site.entry factory.entry) result
         (part (site_over_factory_call site.now factory.now x).place

@@ -4,8 +4,8 @@ use mathlib.Core.Path.{◌≡◌, refl, ap, ◌∙◌}
 use mathlib.Core.Bool.{Bool, true, false}
 use mathlib.Core.Option.{Option, none, some}
 use native.Mathlib.Omega.{arith}
-use lib.Dec.{eqb, ltb, lit≤}
-use borrow.Author.Tests.{eqb-true, eqb-false, ltb-true, ltb-false, ne_eqb}
+use lib.Dec.{eqb, lit≤}
+use borrow.Author.Tests.{eqb-true, eqb-false, ne_eqb}
 use Rattle.entries.specs.Build.{pick}
 use Rattle.records.specs.Records.{body_length}
 use Rattle.records.specs.Reads.{body_read}
@@ -22,21 +22,9 @@ pair_or k m l h e = go (eqb k m) refl
         lemma : (k ≡ m → ⊥) → k ≡ m + 1
         lemma n = omega arith
 
-kind_1_2 : (k : ℕ) → 1 ≤ k → k ≤ 2 → body_length k ≡ some 2
+pub kind_1_2 : (k : ℕ) → 1 ≤ k → k ≤ 2 → body_length k ≡ some 2
 unfolding body_length
 kind_1_2 k l h = pair_or k 1 l h refl
-
-kind_4_5 : (k : ℕ) → 4 ≤ k → k ≤ 5 → body_length k ≡ some 2
-unfolding body_length
-kind_4_5 k l h = pair_or k 4 l h refl
-
--- the starts of one count
-pub kind_one : (k : ℕ) → 1 ≤ k → k ≤ 5 → (k ≡ 3 → ⊥) → body_length k ≡ some 2
-kind_one k l h n = go (ltb k 3) refl
-  where
-    go : (t : Bool) → ltb k 3 ≡ t → body_length k ≡ some 2
-    go true q = let m = ltb-true k 3 q in kind_1_2 k l (omega arith)
-    go false q = let m = ltb-false k 3 q in kind_4_5 k (omega arith) h
 
 kind_18_19 : (k : ℕ) → 18 ≤ k → k ≤ 19 → body_length k ≡ some 16
 unfolding body_length
@@ -53,7 +41,6 @@ kind_18_20 k l h = go (eqb k 20) refl
 abbrev pub Outside : ℕ → Type 0
 Outside k =
     (k ≡ 1 → ⊥) × (k ≡ 2 → ⊥) × (k ≡ 3 → ⊥) × (k ≡ 4 → ⊥) × (k ≡ 16 → ⊥) × (k ≡ 17 → ⊥) × (k ≡ 18 → ⊥) × (k ≡ 19 → ⊥) × (k ≡ 20 → ⊥)
-    × (k ≡ 5 → ⊥) × (k ≡ 21 → ⊥)
 
 pub kind_none : (k : ℕ) → Outside k → body_length k ≡ none
 unfolding body_length
@@ -68,8 +55,6 @@ kind_none k o =
       ne_eqb _ _ o.6,
       ne_eqb _ _ o.7,
       ne_eqb _ _ o.8,
-      ne_eqb _ _ o.9,
-      ne_eqb _ _ o.10,
     )
 
 -- a body has at most 32 bytes
@@ -91,10 +76,9 @@ small k =
     (small_pick (eqb k 2) (known (lit≤ tt))
     (small_pick (eqb k 3) (known (lit≤ tt))
     (small_pick (eqb k 4) (known (lit≤ tt))
-    (small_pick (eqb k 5) (known (lit≤ tt))
     (small_pick (eqb k 16) (known (lit≤ tt))
     (small_pick (eqb k 17) (known (lit≤ tt)) (small_pick (eqb k 18) (known (lit≤ tt)) (small_pick (eqb k 19) (known (lit≤ tt))
-    (small_pick (eqb k 20) (known (lit≤ tt)) (small_pick (eqb k 21) (known (lit≤ tt)) unknown))))))))))
+    (small_pick (eqb k 20) (known (lit≤ tt)) unknown))))))))
 
 pub body_small : (k n : ℕ) → body_length k ≡ some n → n ≤ 32
 body_small k n e = small_inv (rw e at (small k))

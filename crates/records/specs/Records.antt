@@ -9,21 +9,18 @@ use Rattle.blocks.specs.Blocks.{item_of, afterb}
 use Rattle.numbers.specs.Numbers.{num2, be2, words_in, word_bytes, counts_in, count_bytes}
 use Rattle.checks.specs.Check.{check_of}
 
--- [Y3, Y4, Y5, Y6, Y7, Y8, Y9, K6, X2] «kind | body», the body's length; 0x00 and every other kind, from 0x06 to 0x0F and from 0x16 to 0xFF,
--- is unknown
+-- [Y3, Y4, Y5, Y6, Y7, Y8, Y9, K6] «kind | body», the body's length; 0x00 and every other kind, from 0x05 to 0x0F and from 0x15 to 0xFF, is unknown
 unfoldable pub body_length : ℕ → Option ℕ
 body_length kind =
     pick (eqb kind 0x01) (some 2)
     (pick (eqb kind 0x02) (some 2)
     (pick (eqb kind 0x03) (some 4)
     (pick (eqb kind 0x04) (some 2)
-    (pick (eqb kind 0x05) (some 2)
     (pick (eqb kind 0x10) (some 16)
     (pick (eqb kind 0x11) (some 24)
     (pick (eqb kind 0x12) (some 16)
     (pick (eqb kind 0x13) (some 16)
-    (pick (eqb kind 0x14) (some 16)
-    (pick (eqb kind 0x15) (some 32) none))))))))))
+    (pick (eqb kind 0x14) (some 16) none))))))))
 
 -- [Y2] «A record is the mark .., one kind byte, a body, two check bytes.»
 abbrev pub record_of : ℕ → ℕ → List ℕ → List ℕ
@@ -46,7 +43,7 @@ said kind item = entry (end_of kind item.low) (end_of kind item.high) item.value
 unfoldable pub saying : ℕ → Entry → Entry
 saying kind e = entry (end_of kind e.low) (end_of kind e.high) e.value
 
--- [Y6, Y7, Y8, K6, X2] «low, high, 8 bytes each»; «low, high, value, 8 bytes each»; low, high, value, expiry
+-- [Y6, Y7, Y8, K6] «low, high, 8 bytes each»; «low, high, value, 8 bytes each»
 abbrev pub entry_words : Entry → List ℕ
 entry_words e = e.low ∷ e.high ∷ e.value
 

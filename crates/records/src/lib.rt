@@ -50,12 +50,11 @@ pub fn body_length(kind: u8) -> Body
     ensures { result ≡ body_read (body_length kind) }
 {
     match kind {
-        0x01 | 0x02 | 0x04 | 0x05 => Body::Known(2),
+        0x01 | 0x02 | 0x04 => Body::Known(2),
         0x03 => Body::Known(4),
         0x10 | 0x12 | 0x13 | 0x14 => Body::Known(16),
         0x11 => Body::Known(24),
-        0x15 => Body::Known(32),
-        0x00 | 0x06..=0x0F | 0x16..=0xFF => Body::Unknown,
+        0x00 | 0x05..=0x0F | 0x15..=0xFF => Body::Unknown,
     }
 }
 

@@ -1,4 +1,3 @@
-pub mod Taking
 pub mod Turns
 pub mod Running
 pub mod Several

@@ -12,9 +12,7 @@ use Rattle.blocks.proofs.Words.{words_length}
 use Rattle.blocks.proofs.Moves.{part_eq, block_path}
 use Rattle.numbers.specs.Numbers.{over}
 use Rattle.numbers.proofs.Patch.{tail_part, mid_over, length_over}
-use mathlib.Core.Bool.{Bool}
-use Rattle.runs.specs.Runs.{entries_in, taken, taken_width}
-use Rattle.runs.proofs.Taking.{taken_many, taken_shaped}
+use Rattle.runs.specs.Runs.{entries_in}
 use Rattle.runs.proofs.Running.{length_entries, entries_shaped}
 
 -- words with zeros from f on
@@ -30,22 +28,20 @@ cleared ws ws' f h c =
     (zeros ws' f c.zero ∙ ap (λ (n : ℕ). replicate (n - f) 0) c.same)
 
 -- a block: its count, its items, and zeros
-pub store_written : (u : Bool) (kind s n m from : ℕ) (b out b1 y b3 : List ℕ) → 2 ≤ s → 1 + taken_width u s * n ≤ length out → m ≡ n → b1 ≡ over (m ∷ []) out
-    → y ≡ over (words_of (taken u (entries_in kind s n (take (length b - from) (drop from b))))) (take (length b1 - 1) (drop 1 b1))
-    → Cleared (put_mid 1 (length b1 - 1) b1 y) (1 + taken_width u s * n) b3
-    → b3 ≡ block_of (length out) (taken u (entries_in kind s n (drop from b)))
-store_written u kind s n m from b out b1 y b3 two h e p q c =
-    let es = taken u (entries_in kind s n (drop from b)) in
+pub store_written : (kind s n m from : ℕ) (b out b1 y b3 : List ℕ) → 2 ≤ s → 1 + s * n ≤ length out → m ≡ n → b1 ≡ over (m ∷ []) out
+    → y ≡ over (words_of (entries_in kind s n (take (length b - from) (drop from b)))) (take (length b1 - 1) (drop 1 b1))
+    → Cleared (put_mid 1 (length b1 - 1) b1 y) (1 + s * n) b3
+    → b3 ≡ block_of (length out) (entries_in kind s n (drop from b))
+store_written kind s n m from b out b1 y b3 two h e p q c =
+    let es = entries_in kind s n (drop from b) in
     let us = m ∷ words_of es in
     let b2 = put_mid 1 (length b1 - 1) b1 y in
-    let t = taken_width u s in
-    let f = 1 + t * n in
-    let le : length es ≡ n = taken_many u (entries_in kind s n (drop from b)) ∙ length_entries kind s n (drop from b) in
-    let lw : length (words_of es) ≡ t * n = words_length t es (taken_shaped u s _ (entries_shaped kind s n (drop from b) two)) ∙ ap (λ (k : ℕ). t * k) le in
+    let f = 1 + s * n in
+    let le = length_entries kind s n (drop from b) in
+    let lw : length (words_of es) ≡ s * n = words_length s es (entries_shaped kind s n (drop from b) two) ∙ ap (λ (k : ℕ). s * k) le in
     let lu : length us ≡ f = omega (arith, lw) in
     let w : b2 ≡ over us out =
-    mid_over (m ∷ []) (words_of es) out b1 y 1 refl p
-    (q ∙ ap (λ (l : List ℕ). over (words_of (taken u (entries_in kind s n l))) (take (length b1 - 1) (drop 1 b1)))
+    mid_over (m ∷ []) (words_of es) out b1 y 1 refl p (q ∙ ap (λ (l : List ℕ). over (words_of (entries_in kind s n l)) (take (length b1 - 1) (drop 1 b1)))
     (tail_part from b)) in
     let l2 : length b2 ≡ length out = ap length w ∙ length_over us out (omega arith) in
     cleared b2 b3 f (omega arith) c

@@ -27,9 +27,6 @@ use Rattle.records.proofs.Items.{here_entry}
 use Rattle.records.proofs.Ends.{said_length, saying_bytes}
 use Rattle.records.proofs.Accepted.{words_item}
 use Rattle.runs.specs.Runs.{run_of, entries_in, run_refusals}
-use Rattle.runs.specs.Runs.{taken, taken_width}
-use Rattle.runs.specs.Steps.{taken_of}
-use Rattle.runs.proofs.Taking.{taken_words, none_taken, taken_length}
 
 -- what a record's answer tells of its verdict
 told_good : (v : ℕ) (i j : Item) (r : ItemRead) → r ≡ item_read v j → r ≡ item.Good i → (v ≡ 0) × (i ≡ j)
@@ -89,32 +86,30 @@ judge_end mark kind s zero p before b l = record { turn = λ lent x. refl; clear
 judge_end mark kind s (suc n) p before b l = absurd (omega arith)
 
 -- filling
-module _ (kind s : ℕ) (b : List ℕ) (two : 2 ≤ s) (u : Bool) where
-  words_more : (q n : ℕ) → 0 < n → words_of (taken u (entries_in kind s n (drop q b)))
-      ≡ entry_words (taken_of u (entry_in kind s (drop q b))) ++ words_of (taken u (entries_in kind s (n - 1) (drop (q + (8 * s + 5)) b)))
+module _ (kind s : ℕ) (b : List ℕ) (two : 2 ≤ s) where
+  words_more : (q n : ℕ) → 0 < n → words_of (entries_in kind s n (drop q b))
+      ≡ entry_words (entry_in kind s (drop q b)) ++ words_of (entries_in kind s (n - 1) (drop (q + (8 * s + 5)) b))
   unfolding entries_in
   words_more q zero l = absurd (omega arith)
   words_more q (suc n) l =
       let m : suc n - 1 ≡ n = omega arith in
-      taken_words u (entry_in kind s (drop q b)) (entries_in kind s n (drop (8 * s + 5) (drop q b)))
-      ∙ ap (λ (l : List ℕ). entry_words (taken_of u (entry_in kind s (drop q b))) ++ l)
-      (ap₂ (λ (k : ℕ) (l : List ℕ). words_of (taken u (entries_in kind s k l))) (sym m) (drop-drop (8 * s + 5) q b))
+      ap (λ (l : List ℕ). entry_words (entry_in kind s (drop q b)) ++ l)
+      (ap₂ (λ (k : ℕ) (l : List ℕ). words_of (entries_in kind s k l)) (sym m) (drop-drop (8 * s + 5) q b))
 
   pub fill_turn : (out y whole : List ℕ) (w q n : ℕ) → 0 < n → w ≤ length out
-      → whole ≡ patch w (words_of (taken u (entries_in kind s n (drop q b)))) out
-      → y ≡ over (entry_words (taken_of u (entry_in kind s (take (length b - q) (drop q b))))) (take (length out - w) (drop w out))
-      → whole ≡ patch (w + taken_width u s) (words_of (taken u (entries_in kind s (n - 1) (drop (q + (8 * s + 5)) b)))) (put_mid w (length out - w) out y)
+      → whole ≡ patch w (words_of (entries_in kind s n (drop q b))) out
+      → y ≡ over (entry_words (entry_in kind s (take (length b - q) (drop q b)))) (take (length out - w) (drop w out))
+      → whole ≡ patch (w + s) (words_of (entries_in kind s (n - 1) (drop (q + (8 * s + 5)) b))) (put_mid w (length out - w) out y)
   fill_turn out y whole w q n l h e m =
-      lent_turn (entry_words (taken_of u (entry_in kind s (drop q b)))) (words_of (taken u (entries_in kind s (n - 1) (drop (q + (8 * s + 5)) b)))) out y whole w
-      (taken_width u s)
-      (taken_length u s (entry_in kind s (drop q b)) (said_length kind s (drop q b) two)) h
+      lent_turn (entry_words (entry_in kind s (drop q b))) (words_of (entries_in kind s (n - 1) (drop (q + (8 * s + 5)) b))) out y whole w s
+      (said_length kind s (drop q b) two) h
       (e ∙ ap (λ (v : List ℕ). patch w v out) (words_more q n l))
-      (m ∙ ap (λ (v : List ℕ). over (entry_words (taken_of u (entry_in kind s v))) (take (length out - w) (drop w out))) (tail_part q b))
+      (m ∙ ap (λ (v : List ℕ). over (entry_words (entry_in kind s v)) (take (length out - w) (drop w out))) (tail_part q b))
 
-pub fill_end : (kind s n w : ℕ) (b out : List ℕ) (u : Bool) → n ≤ 0 → patch w (words_of (taken u (entries_in kind s n b))) out ≡ out
+pub fill_end : (kind s n w : ℕ) (b out : List ℕ) → n ≤ 0 → patch w (words_of (entries_in kind s n b)) out ≡ out
 unfolding entries_in
-fill_end kind s zero w b out u l = ap (λ (es : List Entry). patch w (words_of es) out) (none_taken u) ∙ patch_none w out
-fill_end kind s (suc n) w b out u l = absurd (omega arith)
+fill_end kind s zero w b out l = patch_none w out
+fill_end kind s (suc n) w b out l = absurd (omega arith)
 
 -- writing
 pub length_record : (mark kind : ℕ) (body : List ℕ) → length (record_of mark kind body) ≡ length body + 5

@@ -1,10 +1,8 @@
 -- A run of item records of one kind, s words an item, and several runs one behind the other: their bytes, their entries, and the
 -- refusals of reading them.
-use Rattle.std.specs.Prelude.{ℕ, zero, suc, ◌+◌, ◌*◌, ◌≤◌, Bool, true, false, List, [], ◌∷◌, ◌++◌, map, length, drop}
+use Rattle.std.specs.Prelude.{ℕ, zero, suc, ◌+◌, ◌*◌, ◌≤◌, List, [], ◌∷◌, ◌++◌, length, drop}
 use Rattle.std.proofs.Math.Option.{Option, none, some}
-use Rattle.entries.specs.Entries.{Entry, entry, Sound}
-use Rattle.entries.specs.Sets.{M}
-use Rattle.entries.specs.Build.{pick}
+use Rattle.entries.specs.Entries.{Entry, Sound}
 use Rattle.answers.specs.Answers.{at}
 use Rattle.answers.specs.declared.Finding.{Finding}
 use Rattle.blocks.specs.Blocks.{Shaped}
@@ -25,18 +23,6 @@ run_of mark kind (e ∷ es) = item_record mark kind e ++ run_of mark kind es
 unfoldable pub entries_in : ℕ → ℕ → ℕ → List ℕ → List Entry
 entries_in kind s zero b = []
 entries_in kind s (suc n) b = entry_in kind s b ∷ entries_in kind s n (drop (8 * s + 5) b)
-
--- [X4] the entry that a block takes from a record without an expiry: M stands behind its value
-abbrev pub dated : Entry → Entry
-dated e = entry e.low e.high (e.value ++ (M ∷ []))
-
--- the entries that a block takes from records, each so dated where the records are undated; and the words of each, s in its record
-abbrev pub taken : Bool → List Entry → List Entry
-taken true es = map dated es
-taken false es = es
-
-abbrev pub taken_width : Bool → ℕ → ℕ
-taken_width undated s = pick undated (s + 1) s
 
 -- [Y13, Y14] n records are due at place p, where the bytes b are left: «For each record in turn», with its place
 unfoldable pub run_refusals : ℕ → ℕ → ℕ → ℕ → ℕ → Option Entry → List ℕ → List Finding

@@ -1,25 +1,15 @@
 -- What the steps of the code promise each other. No public promise names these.
-use Rattle.std.specs.Prelude.{ℕ, ◌+◌, ◌*◌, ◌≤◌, ◌≡◌, Bool, true, false, List, length, drop}
+use Rattle.std.specs.Prelude.{ℕ, ◌+◌, ◌*◌, ◌≤◌, ◌≡◌, List, length, drop}
 use Rattle.std.proofs.Math.Option.{none}
-use Rattle.entries.specs.Entries.{Entry}
 use Rattle.answers.specs.declared.Finding.{Finding}
 use Rattle.answers.specs.Steps.{FirstOf}
-use Rattle.runs.specs.Runs.{run_refusals, dated}
+use Rattle.runs.specs.Runs.{run_refusals}
 
 -- a run judged: its first refusal, or 0 and the place behind it
 pub record RunJudged (mark kind s n from : ℕ) (b : List ℕ) (r : Finding) : Type 0 where
   pub first : FirstOf (run_refusals mark kind s n from none (drop from b)) r
   pub behind : r.number ≡ 0 → r.place ≡ from + (8 * s + 5) * n
   pub within : r.number ≡ 0 → r.place ≤ length b
-
--- the entry that a block takes from a record
-abbrev pub taken_of : Bool → Entry → Entry
-taken_of true e = dated e
-taken_of false e = e
-
--- undated records have three words, as they are
-abbrev pub Undated : Bool → ℕ → ℕ → Type 0
-Undated undated kind s = undated ≡ true → (s ≡ 3) × (kind ≡ 0x14 → ⊥)
 
 -- n records and their n items have the room
 pub record Fills (s n : ℕ) (b out : List ℕ) : Type 0 where

@@ -3,10 +3,9 @@ ghost use Rattle.std.specs.Prelude.{◌≡◌, [], ◌∷◌, ◌+◌, ◌*◌, 
 ghost use Rattle.blocks.specs.Blocks.{items_of, words_of, block_of};
 ghost use Rattle.numbers.specs.Numbers.{over};
 ghost use Rattle.checks.specs.Check.{new_mark};
-ghost use Rattle.records.specs.Records.{entry_words, entry_in};
 ghost use Rattle.records.specs.Steps.{ItemKind, Turns};
-ghost use Rattle.runs.specs.Runs.{run_of, entries_in, taken, taken_width};
-ghost use Rattle.runs.specs.Steps.{RunJudged, Fills, Undated, taken_of};
+ghost use Rattle.runs.specs.Runs.{run_of, entries_in};
+ghost use Rattle.runs.specs.Steps.{RunJudged, Fills};
 
 use answers::Finding;
 use records::{Item, ItemRead};
@@ -44,56 +43,36 @@ pub fn judge_run(bytes: &[u8], from: usize, mark: u16, kind: u8, s: usize, n: us
     }
 }
 
-// Fills the front of out with the words that a block takes from the item record at the front of the bytes: those that it says, and M
-// behind them where it is undated. M is put where the last of them is to stand, and stays if the record has none for that place.
-fn take_item(bytes: &[u8], kind: u8, turns: bool, undated: bool, s: usize, out: &mut [u64])
-    requires { Turns kind turns × (2 ≤ s) × (8 * s + 3 ≤ length bytes.now) × (taken_width undated s ≤ length out.old) }
-    ensures { out.new ≡ over (entry_words (taken_of undated (entry_in kind s bytes.now))) out.old }
+// Fills the front of out with the words of the n item records at the front of the bytes.
+fn fill_records(bytes: &[u8], kind: u8, turns: bool, s: usize, n: usize, out: &mut [u64])
+    requires { Turns kind turns × Fills s n bytes.now out.old }
+    ensures { out.new ≡ over (words_of (entries_in kind s n bytes.now)) out.old }
 {
-    let last = blocks::chosen(undated, s, s - 1);
-    out[last] = blocks::M;
-    records::fill_item(bytes, kind, turns, s, out);
-}
-
-// Fills the front of out with the words that a block takes from the n item records at the front of the bytes.
-fn fill_records(
-    bytes: &[u8],
-    kind: u8,
-    turns: bool,
-    undated: bool,
-    s: usize,
-    n: usize,
-    out: &mut [u64],
-)
-    requires { Turns kind turns × Fills s n bytes.now out.old × (taken_width undated s * n ≤ length out.old) }
-    ensures { out.new ≡ over (words_of (taken undated (entries_in kind s n bytes.now))) out.old }
-{
-    let step = blocks::chosen(undated, s + 1, s);
     let mut left = n;
     let mut q: usize = 0;
     let mut w: usize = 0;
     while 0 < left {
-        take_item(&bytes[q..], kind, turns, undated, s, &mut out[w..]);
+        records::fill_item(&bytes[q..], kind, turns, s, &mut out[w..]);
         q += 8 * s + 5;
-        w += step;
+        w += s;
         left -= 1;
     }
 }
 
 // The same, with signed ranges and plain ones told apart, as in `write_run`.
-fn fill_run(bytes: &[u8], kind: u8, undated: bool, s: usize, n: usize, out: &mut [u64])
-    requires { Fills s n bytes.now out.old × (taken_width undated s * n ≤ length out.old) × Undated undated kind s }
-    ensures { out.new ≡ over (words_of (taken undated (entries_in kind s n bytes.now))) out.old }
+fn fill_run(bytes: &[u8], kind: u8, s: usize, n: usize, out: &mut [u64])
+    requires { Fills s n bytes.now out.old }
+    ensures { out.new ≡ over (words_of (entries_in kind s n bytes.now)) out.old }
 {
     if kind == records::SIGNED {
-        fill_records(bytes, kind, true, false, s, n, out);
+        fill_records(bytes, kind, true, s, n, out);
         return;
     }
     if s == 2 {
-        fill_records(bytes, kind, false, false, 2, n, out);
+        fill_records(bytes, kind, false, 2, n, out);
         return;
     }
-    fill_records(bytes, kind, false, undated, s, n, out);
+    fill_records(bytes, kind, false, s, n, out);
 }
 
 // [G4] Writes the n items whose words begin at the front of words as item records with the new mark, at the front of the bytes.
@@ -137,21 +116,12 @@ fn put_count(out: &mut [u64], n: u64)
     out[0] = n;
 }
 
-// Makes out the block of the n items whose records begin at place `from` and were judged good; undated ones get the expiry M.
-pub fn store(
-    bytes: &[u8],
-    from: usize,
-    kind: u8,
-    undated: bool,
-    s: usize,
-    n: usize,
-    out: &mut [u64],
-)
-    requires { (from ≤ length bytes.now) × (1 ≤ length out.old) × Fills s n (drop from bytes.now) (drop 1 out.old)
-        × (taken_width undated s * n ≤ length (drop 1 out.old)) × Undated undated kind s }
-    ensures { out.new ≡ block_of (length out.old) (taken undated (entries_in kind s n (drop from bytes.now))) }
+// Makes out the block of the n items whose records begin at place `from` and were judged good.
+pub fn store(bytes: &[u8], from: usize, kind: u8, s: usize, n: usize, out: &mut [u64])
+    requires { (from ≤ length bytes.now) × (1 ≤ length out.old) × Fills s n (drop from bytes.now) (drop 1 out.old) }
+    ensures { out.new ≡ block_of (length out.old) (entries_in kind s n (drop from bytes.now)) }
 {
     put_count(out, blocks::narrow(n));
-    fill_run(&bytes[from..], kind, undated, s, n, &mut out[1..]);
-    blocks::clear(out, 1 + blocks::chosen(undated, s + 1, s) * n);
+    fill_run(&bytes[from..], kind, s, n, &mut out[1..]);
+    blocks::clear(out, 1 + s * n);
 }

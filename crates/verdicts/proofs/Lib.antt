@@ -1,5 +1,4 @@
 pub mod Whole
-pub mod Blocks
 pub mod Two
 pub mod Rooms
 pub mod Walking

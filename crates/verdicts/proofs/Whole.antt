@@ -1,7 +1,7 @@
 -- Whole forms: what an accepted form is made of, and the form of fine runs that share no number is accepted.
 use Prim.Native.Nat.{ℕ, zero, suc, ◌+◌, ◌*◌, ◌≤◌, ◌<◌}
 use mathlib.Core.List.{List, [], ◌∷◌, ◌++◌, append-nil}
-use mathlib.Core.Bool.{Bool, true, false}
+use mathlib.Core.Bool.{true, false}
 use mathlib.Core.Option.{some}
 use mathlib.Core.Logic.{◌⊎◌, inl, inr}
 use mathlib.Core.Path.{◌≡◌, refl, sym, subst, ap, ap₂, ◌∙◌}
@@ -22,16 +22,12 @@ use Rattle.records.specs.Steps.{ItemKind}
 use Rattle.records.proofs.Heads.{Whole, record_inv, record_zero}
 use Rattle.records.proofs.Accepted.{start_bytes, record_whole, rest_laid, counts_back_in}
 use Rattle.runs.specs.Runs.{total, lengths, runs_of, runs_in, runs_refusals, Fine}
-use Rattle.runs.specs.Runs.{taken_width}
-use Rattle.runs.specs.Steps.{Undated}
-use Rattle.entries.proofs.Values.{true≢false}
 use Rattle.runs.proofs.Turns.{length_record}
 use Rattle.runs.proofs.Running.{bytes_drop}
 use Rattle.runs.proofs.Several.{many_lengths, all_within_lem, runs_inv, counts_in_lem, runs_fine, runs_lent, runs_back, runs_accept, length_runs}
 use Rattle.verdicts.specs.declared.Form.{Form}
 use Rattle.verdicts.specs.Forms.{of_set, of_map, of_bulletin, of_signed, kinds_of, form_of, start_size, size_of, form_counts, form_entries, sharing, trailing}
 use Rattle.verdicts.specs.Forms.{mark_of, overlap, form_refusals, Formed}
-use Rattle.verdicts.specs.Forms.{of_undated}
 use Rattle.verdicts.specs.Steps.{Shape, lone, pair, FormKind}
 
 -- the form of any runs under one of the two marks is to be read with that mark
@@ -40,43 +36,30 @@ unfolding mark_of form_of
 mark_back mark f runs (inl e) = rw e
 mark_back mark f runs (inr e) = rw e
 
--- where a form is not undated nothing is asked
-not_late : {kind s : ℕ} → Undated false kind s
-not_late e = absurd (true≢false (sym e))
-
 -- the kinds of a form of one run
 one_run : (start kind : ℕ) (l : Layout) → body_length start ≡ some 2 → body_length kind ≡ some (8 * l.width) → 2 ≤ l.width → l.width ≤ 4
-    → l.limit < past2 → (u : Bool) → taken_width u l.width ≤ 4 → Undated u kind l.width
-    → FormKind (record { start = start; first = kind; second = kind; runs = 1; layout = l; undated = u })
-one_run start kind l s i two four small u t d = record {
+    → l.limit < past2 → FormKind (record { start = start; first = kind; second = kind; runs = 1; layout = l })
+one_run start kind l s i two four small = record {
   start = record { one = lit≤ tt; two = lit≤ tt; body = s };
   first = record { two = two; four = four; body = i };
   second = record { two = two; four = four; body = i };
   shape = lone;
   small = small;
   plain = λ n. absurd (n refl);
-  block = lone;
-  four = t;
-  late = (d, d);
 }
 
 pub set_kind : FormKind of_set
 unfolding body_length
-set_kind = one_run _ _ _ refl refl (lit≤ tt) (lit≤ tt) (lit< tt) false (lit≤ tt) not_late
+set_kind = one_run _ _ _ refl refl (lit≤ tt) (lit≤ tt) (lit< tt)
 
 pub map_kind : FormKind of_map
 unfolding body_length
-map_kind = one_run _ _ _ refl refl (lit≤ tt) (lit≤ tt) (lit< tt) false (lit≤ tt) not_late
-
--- [X3] maps without expiries
-pub undated_kind : FormKind of_undated
-unfolding body_length
-undated_kind = one_run _ _ _ refl refl (lit≤ tt) (lit≤ tt) (lit< tt) true (lit≤ tt) (λ e. (refl, λ k. omega arith))
+map_kind = one_run _ _ _ refl refl (lit≤ tt) (lit≤ tt) (lit< tt)
 
 -- [K6] signed sets
 pub signed_kind : FormKind of_signed
 unfolding body_length
-signed_kind = one_run _ _ _ refl refl (lit≤ tt) (lit≤ tt) (lit< tt) false (lit≤ tt) not_late
+signed_kind = one_run _ _ _ refl refl (lit≤ tt) (lit≤ tt) (lit< tt)
 
 -- the kinds of a bulletin, which has two runs
 pub bulletin_kind : FormKind of_bulletin
@@ -88,9 +71,6 @@ bulletin_kind = record {
   shape = pair;
   small = lit< tt;
   plain = λ n. (λ x. refl, λ x. refl);
-  block = pair;
-  four = lit≤ tt;
-  late = (not_late, not_late);
 }
 
 kinds_are : (r : ℕ) (l : Layout) (a b : ℕ) → Shape r l → ItemKind a l.width → ItemKind b l.width
@@ -160,7 +140,7 @@ module _ (f : Form) (k : FormKind f) where
     counts_long : length (count_bytes (lengths runs)) ≡ 2 * f.runs
     counts_long = omega (arith, length_counts (lengths runs), many_lengths runs, n)
 
-    -- set 7+21n, map 7+37n, without expiries 7+29n, bulletin 9+21(r+w)
+    -- «Sizes: set 7+21n, map 7+29n, bulletin 9+21(r+w).»
     pub size : length b ≡ size_of f (lengths runs)
     unfolding form_of
     size =

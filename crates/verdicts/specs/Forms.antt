@@ -1,19 +1,19 @@
--- A form is a value: the kind of its start, the kind of the items of each run, the layout of a run, and whether its entries are undated. Here
--- are the five that there are, the bytes of a form under a mark, what bytes say that are one, and the refusals of reading them.
-use Rattle.std.specs.Prelude.{ℕ, suc, ◌+◌, ◌*◌, ◌≡◌, Bool, true, false, List, [], ◌∷◌, ◌++◌, ltb, eqb, length, take, drop}
+-- A form is a value: the kind of its start, the kind of the items of each run, and the layout of the blocks that hold a run. Here are the
+-- four that there are, the bytes of a form under a mark, what bytes say that are one, and the refusals of reading them.
+use Rattle.std.specs.Prelude.{ℕ, suc, ◌+◌, ◌*◌, ◌≡◌, Bool, false, List, [], ◌∷◌, ◌++◌, ltb, eqb, length, take, drop}
 use Rattle.entries.specs.Entries.{Each, Entry}
 use Rattle.entries.specs.Build.{pick}
 use Rattle.entries.specs.Bulletins.{shareb}
 use Rattle.answers.specs.Answers.{at, applies}
 use Rattle.answers.specs.declared.Finding.{Finding}
-use Rattle.blocks.specs.Blocks.{layout, set_layout, map_layout, capacity, words_of, Lent}
+use Rattle.blocks.specs.Blocks.{set_layout, map_layout, capacity, words_of, Lent}
 use Rattle.blocks.specs.Calls.{output}
 use Rattle.blocks.specs.declared.Layout.{Layout}
 use Rattle.numbers.specs.Numbers.{num2, counts_in}
 use Rattle.checks.specs.Check.{old_mark, new_mark}
 use Rattle.records.specs.Records.{start_record, start_verdict}
 use Rattle.verdicts.specs.declared.Form.{Form}
-use Rattle.runs.specs.Runs.{Fine, taken_width, total, lengths, runs_of, runs_in, runs_refusals}
+use Rattle.runs.specs.Runs.{Fine, total, lengths, runs_of, runs_in, runs_refusals}
 
 -- [C3] the mark that all records of these bytes have to bear: the old one where the first two bytes are that, else the new one
 unfoldable pub mark_of : List ℕ → ℕ
@@ -21,28 +21,19 @@ mark_of b = pick (eqb (num2 b 0) old_mark) old_mark new_mark
 
 -- [Y3, Y6] «0x01 | start of a set», «0x10 | range of a set»
 abbrev pub of_set : Form
-of_set = record { start = 0x01; first = 0x10; second = 0x10; runs = 1; layout = set_layout; undated = false }
+of_set = record { start = 0x01; first = 0x10; second = 0x10; runs = 1; layout = set_layout }
 
--- [X2] «start 0x05, entry 0x15 with a 32-byte body ..., count limit 2,047»
+-- [Y4, Y7] «0x02 | start of a map», «0x11 | entry of a map»
 abbrev pub of_map : Form
-of_map = record { start = 0x05; first = 0x15; second = 0x15; runs = 1; layout = map_layout; undated = false }
-
--- [Y4, Y7, X3, X4] «0x02 | start of a map», «0x11 | entry of a map»: the form of a map without expiries, which is only read, «refused with 12
--- above 2,047 entries»
-abbrev pub of_undated : Form
-of_undated = record { start = 0x02; first = 0x11; second = 0x11; runs = 1; layout = layout 3 map_layout.limit; undated = true }
+of_map = record { start = 0x02; first = 0x11; second = 0x11; runs = 1; layout = map_layout }
 
 -- [Y5, Y8] «0x03 | .. start of a bulletin», «0x12, 0x13 | released range, withdrawn range»
 abbrev pub of_bulletin : Form
-of_bulletin = record { start = 0x03; first = 0x12; second = 0x13; runs = 2; layout = set_layout; undated = false }
+of_bulletin = record { start = 0x03; first = 0x12; second = 0x13; runs = 2; layout = set_layout }
 
 -- [K6] the form of a signed set: start 0x04, ranges 0x14
 abbrev pub of_signed : Form
-of_signed = record { start = 0x04; first = 0x14; second = 0x14; runs = 1; layout = set_layout; undated = false }
-
--- [X4] the layout of the blocks that hold a run: that of the run, and one word more an entry where the form is undated
-abbrev pub block_layout : Form → Layout
-block_layout f = layout (taken_width f.undated f.layout.width) f.layout.limit
+of_signed = record { start = 0x04; first = 0x14; second = 0x14; runs = 1; layout = set_layout }
 
 -- the kinds of the items, a run each
 abbrev pub kinds_of : Form → List ℕ
@@ -53,7 +44,7 @@ kinds_of f = take f.runs (f.first ∷ f.second ∷ [])
 unfoldable pub form_of : ℕ → Form → List (List Entry) → List ℕ
 form_of mark f runs = start_record mark f.start (lengths runs) ++ runs_of mark (kinds_of f) runs
 
--- [Y10, X2] the length of a start record, and of a form with these counts: set 7+21n, map 7+37n, without expiries 7+29n, bulletin 9+21(r+w)
+-- [Y10] the length of a start record, and of a form with these counts: «Sizes: set 7+21n, map 7+29n, bulletin 9+21(r+w).»
 abbrev pub start_size : Form → ℕ
 start_size f = 2 * f.runs + 5
 

@@ -9,15 +9,14 @@ use Rattle.numbers.specs.Numbers.{past2, num8}
 use Rattle.records.specs.Steps.{StartKind, ItemKind, AsTheyAre}
 use Rattle.verdicts.specs.declared.Form.{Form}
 use Rattle.runs.specs.Runs.{entries_in, run_refusals}
-use Rattle.runs.specs.Steps.{Undated}
-use Rattle.verdicts.specs.Forms.{start_size, block_layout, trailing, overlap}
+use Rattle.verdicts.specs.Forms.{start_size, trailing, overlap}
 
 -- how many runs a form has, and the layout of their blocks: one run, or two of ranges
 pub data Shape : ℕ → Layout → Type 0 where
   lone : {l : Layout} → Shape 1 l
   pair : Shape 2 set_layout
 
--- the kinds of a form, its layout and that of its blocks; two runs are of kinds that hold words as they are
+-- the kinds of a form, and its layout; two runs are of kinds that hold words as they are
 pub record FormKind (f : Form) : Type 0 where
   pub start : StartKind f.start f.runs
   pub first : ItemKind f.first f.layout.width
@@ -25,9 +24,6 @@ pub record FormKind (f : Form) : Type 0 where
   pub shape : Shape f.runs f.layout
   pub small : f.layout.limit < past2
   pub plain : (f.runs ≡ 1 → ⊥) → AsTheyAre f.first × AsTheyAre f.second
-  pub block : Shape f.runs (block_layout f)
-  pub four : (block_layout f).width ≤ 4
-  pub late : Undated f.undated f.first f.layout.width × Undated f.undated f.second f.layout.width
 
 -- what stands or is lent for the first and the second run, the second not where there is one run
 abbrev pub each_of : {A : Type 0} → Form → A → A → List A

@@ -1,5 +1,5 @@
-// A form is a value: sets, maps, bulletins and signed sets are four of them, and maps without expiries, which are only read, the fifth.
-// Here are its verdicts: the bytes judged as a whole form, run by run, the outputs of a reading, and what can be asked of ranges in bytes.
+// A form is a value: sets, maps, bulletins and signed sets are four of them. Here are its verdicts: the bytes judged as a whole form, run by run, the
+// outputs of a reading, and what can be asked of ranges in bytes.
 ghost use Rattle.std.specs.Prelude.{◌≡◌, ◌+◌, ◌*◌, ◌≤◌, ◌<◌, ltb, length, drop};
 ghost use Rattle.entries.specs.Sets.{member};
 ghost use Rattle.entries.specs.Bulletins.{shareb};
@@ -8,7 +8,7 @@ ghost use Rattle.answers.specs.Steps.{FirstOf};
 ghost use Rattle.blocks.specs.Blocks.{capacity};
 ghost use Rattle.searches.specs.Steps.{Rises, First};
 ghost use Rattle.runs.specs.Runs.{entries_in};
-ghost use Rattle.verdicts.specs.Forms.{mark_of, start_size, block_layout, form_refusals, out_refusals};
+ghost use Rattle.verdicts.specs.Forms.{mark_of, start_size, form_refusals, out_refusals};
 ghost use Rattle.verdicts.specs.Steps.{FormKind, OneRun, high_in, each_of, behind_start};
 
 use answers::Finding;
@@ -16,8 +16,7 @@ use blocks::Layout;
 use records::StartRead;
 
 // A form: the kind of its start, the kind of the items of its first run and of its second, how many runs it has, one or two, and the
-// layout of a run: the words of an item record and the most items. A block that holds a run is laid out so too, but where the form is
-// undated: then an entry has an expiry in its block and none in its record. Its records bear either mark, all the same one.
+// layout of the block that holds a run. Its records bear either mark, all the same one.
 #[derive(Drop)]
 pub struct Form {
     pub start: u8,
@@ -25,7 +24,6 @@ pub struct Form {
     pub second: u8,
     pub runs: usize,
     pub layout: Layout,
-    pub undated: bool,
 }
 
 // A set, a map: one run. A bulletin: its released ranges, then its withdrawn ranges.
@@ -35,29 +33,14 @@ pub const SET_FORM: Form = Form {
     second: 0x10,
     runs: 1,
     layout: blocks::SET,
-    undated: false,
 };
 
 pub const MAP_FORM: Form = Form {
-    start: 0x05,
-    first: 0x15,
-    second: 0x15,
-    runs: 1,
-    layout: blocks::MAP,
-    undated: false,
-};
-
-// A map as it was written before entries had an expiry: low, high and value in a record. A block holds as many of them as of others.
-pub const UNDATED_FORM: Form = Form {
     start: 0x02,
     first: 0x11,
     second: 0x11,
     runs: 1,
-    layout: Layout {
-        width: 3,
-        limit: blocks::MAP.limit,
-    },
-    undated: true,
+    layout: blocks::MAP,
 };
 
 pub const BULLETIN_FORM: Form = Form {
@@ -66,7 +49,6 @@ pub const BULLETIN_FORM: Form = Form {
     second: 0x13,
     runs: 2,
     layout: blocks::SET,
-    undated: false,
 };
 
 // A signed set: one run of ranges whose ends stand in two's complement.
@@ -76,7 +58,6 @@ pub const SIGNED_FORM: Form = Form {
     second: 0x14,
     runs: 1,
     layout: blocks::SET,
-    undated: false,
 };
 
 // Whether the n ranges whose records begin at place p share a number with the m whose records begin at place q.
@@ -183,24 +164,12 @@ pub fn judge_form(bytes: &[u8], form: Form) -> Finding
     judge_runs(bytes, mark, form, n, m)
 }
 
-// The layout of a block that holds a run of the form: that of the run, and one word more, the expiry, where the form is undated.
-fn block_layout(form: Form) -> Layout
-    requires { FormKind form }
-    ensures { result ≡ block_layout form }
+// 5 where a block of len words has no room for n items, else 0.
+fn room_number(layout: Layout, len: usize, n: usize) -> u8
+    requires { (2 ≤ layout.width) × (0 < len) }
+    ensures { result ≡ applies (ltb (capacity layout len) n) 5 }
 {
-    let s = form.layout.width;
-    Layout {
-        width: blocks::chosen(form.undated, s + 1, s),
-        limit: form.layout.limit,
-    }
-}
-
-// 5 where a block of len words has no room for n items of the form, else 0.
-fn room_number(form: Form, len: usize, n: usize) -> u8
-    requires { FormKind form × (0 < len) }
-    ensures { result ≡ applies (ltb (capacity (block_layout form) len) n) 5 }
-{
-    if blocks::room_for(block_layout(form), len) < n {
+    if blocks::room_for(layout, len) < n {
         return 5;
     }
     0
@@ -209,7 +178,7 @@ fn room_number(form: Form, len: usize, n: usize) -> u8
 // The first refusal of outputs of these lengths for n and m items, or number 0: 1 for each, then 5 for each.
 pub fn out_refusal(form: Form, first: usize, n: usize, second: usize, m: usize) -> Finding
     requires { FormKind form }
-    ensures { FirstOf (out_refusals (block_layout form) (each_of form first second) (each_of form n m)) result }
+    ensures { FirstOf (out_refusals form.layout (each_of form first second) (each_of form n m)) result }
 {
     if first == 0 {
         return Finding {
@@ -219,7 +188,7 @@ pub fn out_refusal(form: Form, first: usize, n: usize, second: usize, m: usize) 
     }
     if form.runs == 1 {
         return Finding {
-            number: room_number(form, first, n),
+            number: room_number(form.layout, first, n),
             place: 0,
         };
     }
@@ -229,7 +198,7 @@ pub fn out_refusal(form: Form, first: usize, n: usize, second: usize, m: usize) 
             place: 1,
         };
     }
-    let v = room_number(form, first, n);
+    let v = room_number(form.layout, first, n);
     if v != 0 {
         return Finding {
             number: v,
@@ -237,7 +206,7 @@ pub fn out_refusal(form: Form, first: usize, n: usize, second: usize, m: usize) 
         };
     }
     Finding {
-        number: room_number(form, second, m),
+        number: room_number(form.layout, second, m),
         place: 1,
     }
 }

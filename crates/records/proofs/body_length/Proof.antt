@@ -1,32 +1,32 @@
 use mathlib.Core.Path.{sym, ap}
 use Rattle.records.specs.Records.{body_length}
 use Rattle.records.specs.Reads.{body_read}
-use Rattle.records.proofs.Table.{kind_one, kind_18_20, kind_none}
+use Rattle.records.proofs.Table.{kind_1_2, kind_18_20, kind_none}
 use native.Mathlib.Omega.{arith}
 use Rattle.records.proofs.body_length.Statement.{statement}
 use Rattle.records.proofs.body_length.Tie as tie
 
 returns : tie.Need-returns
 unfolding body_length
-returns c = rw c.match.keys1
+returns c = rw c.match.keys2
 
 returns_2 : tie.Need-returns-2
 unfolding body_length
-returns_2 c = rw c.match.keys3
+returns_2 c = rw c.match.keys4
 
 returns_3 : tie.Need-returns-3
 unfolding body_length
-returns_3 c = rw c.match.keys4
+returns_3 c = rw c.match.keys3
 
 returns_4 : tie.Need-returns-4
-returns_4 c = sym (ap body_read (kind_one _ (omega arith) (omega arith) (λ e. omega arith)))
+returns_4 c = sym (ap body_read (kind_18_20 _ (omega arith) (omega arith)))
 
 returns_5 : tie.Need-returns-5
 unfolding body_length
-returns_5 c = rw c.match.keys2
+returns_5 c = rw c.match.keys1
 
 returns_6 : tie.Need-returns-6
-returns_6 c = sym (ap body_read (kind_18_20 _ (omega arith) (omega arith)))
+returns_6 c = sym (ap body_read (kind_1_2 _ (omega arith) (omega arith)))
 
 returns_7 : tie.Need-returns-7
 returns_7 c = sym (ap body_read (kind_none _ (omega arith)))

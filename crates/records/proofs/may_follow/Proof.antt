@@ -18,13 +18,13 @@ returns_3 : tie.Need-returns-3
 returns_3 c =
     let c8 = c.before.before.before.before.before.before.before.before in
     let a = c8.args in touching (entry_of a.s a.before) (entry_of a.s a.item) (omega arith) (omega arith) true (sym
-    c.before.same_value.ensures ∙ c.if3.true)
+    c.before.same-value.ensures ∙ c.if3.true)
 
 returns_4 : tie.Need-returns-4
 returns_4 c =
     let c8 = c.before.before.before.before.before.before.before.before in
     let a = c8.args in touching (entry_of a.s a.before) (entry_of a.s a.item) (omega arith) (omega arith) false (sym
-    c.before.same_value.ensures ∙ c.if3.false)
+    c.before.same-value.ensures ∙ c.if3.false)
 
 pub may_follow_spec : {M : Type 1} → statement M
 may_follow_spec =

@@ -3,7 +3,7 @@ use Rattle.sweeps.proofs.joins.Statement.{statement}
 use Rattle.sweeps.proofs.joins.Tie as tie
 
 returns : tie.Need-returns
-returns c = rw (c.before.before.if1.true, c.before.if2.true) c.same_value.ensures
+returns c = rw (c.before.before.if1.true, c.before.if2.true) c.same-value.ensures
 
 pub joins_spec : {M : Type 1} → statement M
 joins_spec =

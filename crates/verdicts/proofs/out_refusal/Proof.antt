@@ -1,6 +1,5 @@
 use Rattle.verdicts.proofs.Rooms.{no_first, first_only, no_second, full_first, room_second}
 use Rattle.verdicts.proofs.Two.{not_one}
-use Rattle.verdicts.specs.Forms.{block_layout}
 use native.Mathlib.Omega.{arith}
 use Rattle.verdicts.proofs.out_refusal.Statement.{statement}
 use Rattle.verdicts.proofs.out_refusal.Tie as tie
@@ -9,16 +8,16 @@ returns : tie.Need-returns
 returns c =
     let k = c.before in
     let a = k.args in
-    no_first (block_layout a.form) a.form.runs a.first a.second a.n a.m k.requires.block c.if1.true
+    no_first a.form.layout a.form.runs a.first a.second a.n a.m k.requires.shape c.if1.true
 
 room_number_requires : tie.Need-room-number-requires
-room_number_requires c κs = (c.before.before.before.requires, omega arith)
+room_number_requires c κs = (c.before.before.before.requires.first.two, omega arith)
 
 returns_2 : tie.Need-returns-2
 returns_2 c =
     let k = c.before.before.before.before in
     let a = k.args in
-    first_only (block_layout a.form) a.form.runs a.first a.second a.n a.m k.requires.block c.before.before.before.if1.false
+    first_only a.form.layout a.form.runs a.first a.second a.n a.m k.requires.shape c.before.before.before.if1.false
     c.before.if2.true _
     c.room_number.ensures
 
@@ -26,29 +25,28 @@ returns_3 : tie.Need-returns-3
 returns_3 c =
     let k = c.before.before.before.before in
     let a = k.args in
-    no_second (block_layout a.form) a.form.runs a.first a.second a.n a.m k.requires.block c.before.before.before.if1.false
+    no_second a.form.layout a.form.runs a.first a.second a.n a.m k.requires.shape c.before.before.before.if1.false
     (not_one _ _ k.requires.shape c.before.if2.false).0 c.if3.true
 
 room_number_requires_2 : tie.Need-room-number-requires-2
-room_number_requires_2 c κs = (c.before.before.before.before.requires, omega arith)
+room_number_requires_2 c κs = (c.before.before.before.before.requires.first.two, omega arith)
 
 returns_4 : tie.Need-returns-4
 returns_4 c =
     let k = c.before.before.before.before.before.before in
     let a = k.args in
-    full_first (block_layout a.form) a.form.runs a.first a.second a.n a.m k.requires.block
-    c.before.before.before.before.before.if1.false
+    full_first a.form.layout a.form.runs a.first a.second a.n a.m k.requires.shape c.before.before.before.before.before.if1.false
     (not_one _ _ k.requires.shape c.before.before.before.if2.false).0 c.before.before.if3.false _ c.before.room-number2.ensures
     c.if4.true
 
 room_number_requires_3 : tie.Need-room-number-requires-3
-room_number_requires_3 c κs = (c.before.before.before.before.before.before.requires, omega arith)
+room_number_requires_3 c κs = (c.before.before.before.before.before.before.requires.first.two, omega arith)
 
 returns_5 : tie.Need-returns-5
 returns_5 c =
     let k = c.before.before.before.before.before.before.before in
     let a = k.args in
-    room_second (block_layout a.form) a.form.runs a.first a.second a.n a.m k.requires.block
+    room_second a.form.layout a.form.runs a.first a.second a.n a.m k.requires.shape
     c.before.before.before.before.before.before.if1.false
     (not_one _ _ k.requires.shape c.before.before.before.before.if2.false).0 c.before.before.before.if3.false _
     c.before.before.room-number2.ensures c.before.if4.false _ c.room-number3.ensures
