@@ -1,9 +1,10 @@
 // What a call can answer: the refusals of the table, and the answers of the questions and the changes.
+#![tactic(auto)]
 ghost use Rattle.std.specs.Prelude.{◌≡◌};
 ghost use Rattle.answers.specs.Says.{number_of, refusal_of, judged_of, found_says, ranged_says, placed_says, found_key_says, ranged_keys_says, placed_key_says};
 
 // Why a call was refused. The table's number of each is `number_of` in specs/Says.
-#[derive(Drop)]
+#[derive(Clone, Copy)]
 pub enum Reason {
     NoBlock,
     Count,
@@ -24,28 +25,28 @@ pub enum Reason {
 }
 
 // A refusal: the reason, and the place that the table gives for it.
-#[derive(Drop)]
+#[derive(Clone, Copy)]
 pub struct Refusal {
     pub reason: Reason,
     pub place: usize,
 }
 
 // A refusal that may apply, as code finds it: its number in the table, or 0 where it does not apply, and its place.
-#[derive(Drop)]
+#[derive(Clone, Copy)]
 pub struct Finding {
     pub number: u8,
     pub place: usize,
 }
 
 // Whether a call was accepted; the answer of a change, and of the companion of a question that hands back a part.
-#[derive(Drop)]
+#[derive(Clone, Copy)]
 pub enum Judged {
     Accepted,
     Refused(Refusal),
 }
 
 // The answer of a question that is true or not.
-#[derive(Drop)]
+#[derive(Clone, Copy)]
 pub enum Truth {
     Yes,
     No,
@@ -53,7 +54,7 @@ pub enum Truth {
 }
 
 // Whether a number is a member; and, either way, how many ranges lie wholly below it. A range that holds it does not.
-#[derive(Drop)]
+#[derive(Clone, Copy)]
 pub enum Seated {
     Yes(usize),
     No(usize),
@@ -61,7 +62,7 @@ pub enum Seated {
 }
 
 // The number that was asked for, or none.
-#[derive(Drop)]
+#[derive(Clone, Copy)]
 pub enum Found {
     Number(u64),
     Nothing,
@@ -69,7 +70,7 @@ pub enum Found {
 }
 
 // The low and the high of the range that was asked for, or none.
-#[derive(Drop)]
+#[derive(Clone, Copy)]
 pub enum Ranged {
     Range(u64, u64),
     Nothing,
@@ -77,7 +78,7 @@ pub enum Ranged {
 }
 
 // The key that was asked for, or none.
-#[derive(Drop)]
+#[derive(Clone, Copy)]
 pub enum FoundKey {
     Key(i64),
     Nothing,
@@ -85,7 +86,7 @@ pub enum FoundKey {
 }
 
 // The low and the high of the range of keys that was asked for, or none.
-#[derive(Drop)]
+#[derive(Clone, Copy)]
 pub enum RangedKeys {
     Range(i64, i64),
     Nothing,
@@ -93,7 +94,7 @@ pub enum RangedKeys {
 }
 
 // The size of a set: empty, or the size less one.
-#[derive(Drop)]
+#[derive(Clone, Copy)]
 pub enum Sized {
     Empty,
     LessOne(u64),
@@ -101,7 +102,7 @@ pub enum Sized {
 }
 
 // A part of the caller's own block: the place of its first word and the number of its words; or that there is none.
-#[derive(Drop)]
+#[derive(Clone, Copy)]
 pub enum Parted {
     Part(usize, usize),
     Nothing,
@@ -110,7 +111,7 @@ pub enum Parted {
 
 // The entry that decides a number, as a part of one of two blocks: the place of its first word, the number of its words, and the
 // position of the block that holds it; or that no entry decides.
-#[derive(Drop)]
+#[derive(Clone, Copy)]
 pub enum Decided {
     Entry(usize, usize, usize),
     Nothing,
@@ -118,21 +119,21 @@ pub enum Decided {
 }
 
 // The place that a fit chose.
-#[derive(Drop)]
+#[derive(Clone, Copy)]
 pub enum Placed {
     At(u64),
     Refused(Refusal),
 }
 
 // The key that a fit chose.
-#[derive(Drop)]
+#[derive(Clone, Copy)]
 pub enum PlacedKey {
     At(i64),
     Refused(Refusal),
 }
 
 // The length of the byte form that was written.
-#[derive(Drop)]
+#[derive(Clone, Copy)]
 pub enum Written {
     Length(usize),
     Refused(Refusal),

@@ -1,4 +1,5 @@
 // Blocks of words: judged, and moved within. A layout says how many words an item takes, two in a set and three in a map.
+#![tactic(auto)]
 ghost use Rattle.std.specs.Prelude.{◌≡◌, ◌+◌, ◌<◌, ◌≤◌, [], ◌∷◌, length, get_or, take, drop};
 ghost use Rattle.entries.specs.Build.{pick, same_words};
 ghost use Rattle.blocks.specs.Blocks.{items_of, capacity, fine, soundb, verdict};
@@ -12,7 +13,7 @@ use answers::Finding;
 pub const M: u64 = 18446744073709551615;
 
 // How a block is laid out: the words an item takes, and the most items that it holds.
-#[derive(Drop)]
+#[derive(Clone, Copy)]
 pub struct Layout {
     pub width: usize,
     pub limit: usize,

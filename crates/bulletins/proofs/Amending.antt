@@ -18,7 +18,7 @@ use Rattle.blocks.proofs.Judging.{verdict_sound, room_words}
 use Rattle.blocks.proofs.Refusing.{room_fits}
 use Rattle.searches.specs.Calls.{overlapping}
 use Rattle.blocks.proofs.Words.{items_length}
-use Rattle.sweeps.specs.Sweeps.{Input, Inputs, result, amending}
+use Rattle.sweeps.specs.Sweeps.{Input, Inputs, sweep_result, amending}
 use Rattle.sweeps.proofs.Tables.{amended_table, bounded, input as Input-of}
 use Rattle.bulletins.specs.Calls.{amended_with}
 use Rattle.bulletins.specs.Steps.{Writes}
@@ -54,13 +54,13 @@ module _ (r w : List Entry) (t : Bool) (e : t ≡ shareb r w) where
 
 -- 5, and the sweep's own result
 module _ (s r w : List ℕ) (i : Inputs 2 2 2 s r w) where
-  pub swept_is : result amending 2 (entries_of 2 s) (entries_of 2 r) (entries_of 2 w) ≡ amended_with s r w
+  pub swept_is : sweep_result amending 2 (entries_of 2 s) (entries_of 2 r) (entries_of 2 w) ≡ amended_with s r w
   swept_is =
       amended_table (entries_of 2 s) (entries_of 2 r) (entries_of 2 w) (bounded 2 s i.first.words) (bounded 2 r i.second.words)
       (bounded 2 w i.third.words)
 
   pub most : (n m k : ℕ) → n ≡ get_or s 0 0 → m ≡ get_or r 0 0 → k ≡ get_or w 0 0
-      → length (result amending 2 (entries_of 2 s) (entries_of 2 r) (entries_of 2 w)) ≤ n + m + k
+      → length (sweep_result amending 2 (entries_of 2 s) (entries_of 2 r) (entries_of 2 w)) ≤ n + m + k
   most n m k a b c = omega (
     arith,
     ap length swept_is,
@@ -71,7 +71,7 @@ module _ (s r w : List ℕ) (i : Inputs 2 2 2 s r w) where
   )
 
   module _ (words cap : ℕ) (e : cap ≡ capacity set_layout words) (t : Bool)
-      (f : t ≡ leb (length (result amending 2 (entries_of 2 s) (entries_of 2 r) (entries_of 2 w))) cap) where
+      (f : t ≡ leb (length (sweep_result amending 2 (entries_of 2 s) (entries_of 2 r) (entries_of 2 w))) cap) where
     tested : t ≡ leb (length (amended_with s r w)) (capacity set_layout words)
     tested = f ∙ ap (λ (l : List Entry). leb (length l) cap) swept_is ∙ ap (leb (length (amended_with s r w))) e
 
@@ -81,7 +81,7 @@ module _ (s r w : List ℕ) (i : Inputs 2 2 2 s r w) where
     pub room_no : t ≡ false → 5 ≡ no_room set_layout words (amended_with s r w)
     room_no z = rw (lt-ltb (capacity set_layout words) (length (amended_with s r w)) (leb-false _ _ (sym tested ∙ z)))
 
-pub write_fits : (s r w : List ℕ) (words : ℕ) → Writes s r w words → 1 + 2 * length (result amending 2 (entries_of 2 s) (entries_of 2 r) (entries_of 2 w)) ≤ words
+pub write_fits : (s r w : List ℕ) (words : ℕ) → Writes s r w words → 1 + 2 * length (sweep_result amending 2 (entries_of 2 s) (entries_of 2 r) (entries_of 2 w)) ≤ words
 write_fits s r w words g =
-    room_words set_layout words (length (result amending 2 (entries_of 2 s) (entries_of 2 r) (entries_of 2 w))) g.some
+    room_words set_layout words (length (sweep_result amending 2 (entries_of 2 s) (entries_of 2 r) (entries_of 2 w))) g.some
     (omega (arith, ap length (swept_is s r w g.inputs), room_fits set_layout words (amended_with s r w) g.room))

@@ -1,3 +1,4 @@
+#![tactic(auto)]
 // Runs the worked numbers that are not in the proved table, and published examples of both checks; writes what each gave.
 use answers::{Judged, Refusal, Seated, Written};
 

@@ -1,5 +1,6 @@
 // The two checks of a record: Fletcher's, for old forms, and the CRC, for new ones. Both are taken from the numbers that the bytes are,
 // with no table.
+#![tactic(auto)]
 ghost use Rattle.std.specs.Prelude.{◌≡◌, [], ◌∷◌, ◌≤◌, ◌<◌, length};
 ghost use Rattle.numbers.specs.Numbers.{past2, past4, be2, be8, word_bytes};
 ghost use Rattle.checks.specs.Check.{fletcher, crc_start, crc_byte, crc_from, crc, check_of};
@@ -14,7 +15,7 @@ pub const NEW_MARK: u16 = 0xC53B;
 const START: u64 = 0xFFFF;
 
 // The two sums of Fletcher's check, over the bytes so far, each up to multiples of 255.
-#[derive(Drop)]
+#[derive(Clone, Copy)]
 pub struct Sums {
     pub a: u64,
     pub b: u64,

@@ -1,4 +1,5 @@
 // One edit in place for sets and maps: an entry put into a block of any layout, or a range taken out of it.
+#![tactic(auto)]
 ghost use Rattle.std.specs.Prelude.{◌≡◌, suc, ◌+◌, ◌-◌, ◌*◌, ◌<◌, ◌≤◌, min, max, ◌++◌, [], ◌∷◌, ltb, length, get_or, take, drop};
 ghost use Rattle.std.proofs.Math.Option.{none, some};
 ghost use Rattle.entries.proofs.Put.{trim_end, trim_start, JoinsLeft, JoinsRight};
@@ -112,7 +113,7 @@ fn beyond(x: u64, y: u64) -> bool
 }
 
 // One side of an edit: how many items stay before the new entry, or the first that stays behind it; and the new entry's end there.
-#[derive(Drop)]
+#[derive(Clone, Copy)]
 pub struct Side {
     pub at: usize,
     pub end: u64,

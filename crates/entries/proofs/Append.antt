@@ -79,6 +79,7 @@ value_right a q b s x h = value_append a (q ∷ b) x ∙ ap (λ (o : Option Valu
 -- by index: the entry that holds x, and the gap before an entry
 pub value_index : (es : List Entry) (i : ℕ) (d : Entry) → Sound es → i < length es → (x : ℕ)
     → (get_or es i d).low ≤ x → x ≤ (get_or es i d).high → value_at es x ≡ some (get_or es i d).value
+value_index [] i d s h x p q = elim h [ ]
 value_index (e ∷ es) zero d s h x p q = val_in e es x p q
 value_index (e ∷ es) (suc i) d s h x p q = go (side e x) (value_index es i d s.2 (omega arith) x p q)
   where

@@ -1,1 +1,2 @@
+#![tactic(auto)]
 // The theory of entries: definitions in specs/, laws in proofs/. It has no code.

@@ -1,6 +1,7 @@
 // Fitting: a free run of k numbers in a window of a set, found by first fit or by best fit, and reserved. An aligned run starts at a
 // multiple of 2^j. One walk serves all: where any start will do, j is 0.
 // Every call takes any words at all. Its contract names the whole outcome by one definition of specs/Calls.
+#![tactic(auto)]
 ghost use Rattle.std.specs.Prelude.{◌≡◌, [], ◌∷◌, suc, ◌+◌, ◌-◌, ◌<◌, ◌≤◌, min, leb};
 ghost use Rattle.entries.specs.Entries.{entry};
 ghost use Rattle.entries.specs.Build.{pick, andb};
@@ -19,7 +20,7 @@ ghost use Rattle.fits.specs.Steps.{chooser, piece, Took, Trying, Asked, GapIs, P
 use answers::Placed;
 
 // The gap low..high that is held so far, if one was found. Low is at most high either way.
-#[derive(Drop)]
+#[derive(Clone, Copy)]
 pub struct Gap {
     pub found: bool,
     pub low: u64,

@@ -1,4 +1,5 @@
 // The byte form of sets, maps, bulletins and signed sets: a form is a value, and one code reads and writes them all, run by run.
+#![tactic(auto)]
 ghost use Rattle.std.specs.Prelude.{◌≡◌, [], ◌∷◌, ◌++◌, ◌+◌, ◌*◌, ◌≤◌, ◌<◌, length, drop};
 ghost use Rattle.answers.specs.Answers.{outcome};
 ghost use Rattle.answers.specs.Says.{judged_says, written_says};
@@ -18,7 +19,7 @@ use answers::{Finding, Judged, Written};
 use verdicts::Form;
 
 // What judging the form of a set answers: its count, or a refusal with its place.
-#[derive(Drop)]
+#[derive(Clone, Copy)]
 pub enum FormRead {
     Good(usize),
     Refused(u8, usize),

@@ -1,3 +1,4 @@
+#![tactic(auto)]
 // [H3] The program on each of the inputs that its arguments name: the input's name, and what the program writes for it.
 
 // Shows the input with this name, or says why it cannot.

@@ -111,7 +111,7 @@ module _ (x : ℕ) where
   lowered_fits h = rw (lowered h) (record { sfits = key_bound x (omega arith) })
 
   pub lowered_key : x < half → read (to_z w64 x +ℤ least) ≡ key_of x
-  lowered_key h = rw (lowered h) (to_z-of_z (record { sfits = key_bound x (omega arith) }))
+  lowered_key h = rw (lowered h) (to_z-of_z {w = w64} (record { sfits = key_bound x (omega arith) }))
 
   pub rest_key : half ≤ x → x < 2 ^ 64 → to_z w64 (x - half) ≡ key_of x
   rest_key h l = rw (le-ltb x half h) (to_z_pos w64 (omega arith))
@@ -127,7 +127,7 @@ module _ (a b : ℤ) (fa : SFits w64 a) (fb : SFits w64 b) where
     top_fits = rw (to_z-of_z fb) (record { sfits = n.top })
 
     top_read : read (most +ℤ read b) ≡ most +ℤ b
-    top_read = rw (to_z-of_z fb) (to_z-of_z (record { sfits = n.top }))
+    top_read = rw (to_z-of_z fb) (to_z-of_z {w = w64} (record { sfits = n.top }))
 
     pub over_top : lt_z (read (most +ℤ read b)) (read a) ≡ true → TooFar ≡ apart_of a b
     over_top e =
@@ -148,7 +148,7 @@ module _ (a b : ℤ) (fa : SFits w64 a) (fb : SFits w64 b) where
     bottom_fits = rw (to_z-of_z fb) (record { sfits = p.bottom })
 
     bottom_read : read (least +ℤ read b) ≡ least +ℤ b
-    bottom_read = rw (to_z-of_z fb) (to_z-of_z (record { sfits = p.bottom }))
+    bottom_read = rw (to_z-of_z fb) (to_z-of_z {w = w64} (record { sfits = p.bottom }))
 
     pub under_bottom : lt_z (read a) (read (least +ℤ read b)) ≡ true → TooFar ≡ apart_of a b
     under_bottom e =
@@ -164,7 +164,7 @@ module _ (a b : ℤ) (fa : SFits w64 a) (fb : SFits w64 b) where
   less_fits h = rw (to_z-of_z fa, to_z-of_z fb) (record { sfits = h })
 
   pub less_is : IsKey (a -ℤ b) → By (read (read a -ℤ read b)) ≡ apart_of a b
-  less_is h = rw (to_z-of_z fa, to_z-of_z fb) (ap By (to_z-of_z (record { sfits = h })) ∙ by_key a b h)
+  less_is h = rw (to_z-of_z fa, to_z-of_z fb) (ap By (to_z-of_z {w = w64} (record { sfits = h })) ∙ by_key a b h)
 
 -- a turn of a word
 pub turned_low : (x : ℕ) → x < half → x + 9223372036854775808 ≡ turned x

@@ -1,9 +1,10 @@
 // Signed keys, from -2^63 to 2^63 - 1: the words that stand for them in a block, their difference, and their two's complement.
+#![tactic(auto)]
 ghost use Rattle.std.specs.Prelude.{◌≡◌};
 ghost use Rattle.keys.specs.Keys.{word_of, key_of, apart_of, turned};
 
 // How far apart two keys are: the first less the second, or that it is no key.
-#[derive(Drop)]
+#[derive(Clone, Copy)]
 pub enum Apart {
     By(i64),
     TooFar,

@@ -1,5 +1,6 @@
 // Range maps: numbers from 0 to 2^64 - 1 to records, in lent blocks of words laid out as `blocks::MAP` says.
 // Every call takes any words at all. Its contract names the whole outcome by one definition of specs/Calls.
+#![tactic(auto)]
 ghost use Rattle.std.specs.Prelude.{◌≡◌, [], ◌∷◌};
 ghost use Rattle.entries.specs.Entries.{value_at};
 ghost use Rattle.answers.specs.Answers.{outcome};
@@ -107,7 +108,7 @@ pub fn window_refusal(block: &[u64], a: u64, b: u64) -> Judged
 }
 
 // A part of one of two maps: the map's position, the place of the part's first word, and the number of its words.
-#[derive(Drop)]
+#[derive(Clone, Copy)]
 pub struct Deciding {
     pub position: usize,
     pub place: usize,

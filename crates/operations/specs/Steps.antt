@@ -4,7 +4,7 @@ use Rattle.entries.specs.Entries.{Entry, Sound}
 use Rattle.entries.specs.Build.{pick}
 use Rattle.blocks.specs.declared.Layout.{Layout}
 use Rattle.blocks.specs.Blocks.{capacity, block_of, entries_of, Shaped}
-use Rattle.sweeps.specs.Sweeps.{result, Fit, Input, Bounded}
+use Rattle.sweeps.specs.Sweeps.{sweep_result, Fit, Input, Bounded}
 use Rattle.sweeps.specs.declared.Plan.{Plan}
 use Rattle.operations.specs.declared.Layouts.{Layouts}
 
@@ -19,7 +19,7 @@ pub record Wrote (l : Layout) (es : List Entry) (o : List ℕ) (r : Bool) (o' : 
 
 -- the result of a plan of two inputs
 abbrev pub result_two : Plan → List ℕ → List ℕ → List Entry
-result_two plan a b = result plan.table plan.out (entries_of plan.a a) (entries_of plan.b b) []
+result_two plan a b = sweep_result plan.table plan.out (entries_of plan.a a) (entries_of plan.b b) []
 
 -- two judged inputs
 pub record AnyOk (plan : Plan) (a b : List ℕ) : Type 0 where
@@ -52,11 +52,11 @@ pub record TwoFit (t : ℕ) (l : Layouts) (weight : ℕ) : Type 0 where
   pub few : l.out.limit < many
   pub small : weight ≤ 2
   pub bound : (es fs : List Entry) → Sound es → Sound fs → Bounded es → Bounded fs → Shaped l.first.width es → Shaped l.second.width fs
-      → length (result t l.out.width es fs []) ≤ weight * length es + length fs
+      → length (sweep_result t l.out.width es fs []) ≤ weight * length es + length fs
 
 -- a table on one sound list: at most one item more
 pub record OneFit (t : ℕ) (first out : Layout) : Type 0 where
   pub fit : Fit t out.width first.width 2 2
   pub from : Small first
   pub few : out.limit < many
-  pub bound : (es : List Entry) → Sound es → Bounded es → length (result t out.width es [] []) ≤ length es + 1
+  pub bound : (es : List Entry) → Sound es → Bounded es → length (sweep_result t out.width es [] []) ≤ length es + 1

@@ -1,9 +1,10 @@
 // Results made by the sweep into an output: inputs judged in turn, then the output, then its room.
+#![tactic(auto)]
 ghost use Rattle.std.specs.Prelude.{◌≡◌, [], ◌∷◌, ◌≤◌, ◌<◌, ltb, length};
 ghost use Rattle.blocks.specs.Blocks.{layout};
 ghost use Rattle.answers.specs.Answers.{outcome};
 ghost use Rattle.answers.specs.Says.{judged_says};
-ghost use Rattle.sweeps.specs.Sweeps.{Inputs, Fit, result, result_of};
+ghost use Rattle.sweeps.specs.Sweeps.{Inputs, Fit, sweep_result, result_of};
 ghost use Rattle.operations.specs.Calls.{from_two, from_one};
 ghost use Rattle.operations.specs.Steps.{many, result_two, StoreOk, AnyOk, Wrote, TwoFit, OneFit};
 
@@ -12,7 +13,7 @@ use blocks::Layout;
 use sweeps::Plan;
 
 // How the two inputs and the output of an operation are laid out.
-#[derive(Drop)]
+#[derive(Clone, Copy)]
 pub struct Layouts {
     pub first: Layout,
     pub second: Layout,
@@ -33,8 +34,8 @@ fn store(
     requires inputs { Inputs plan.a plan.b plan.c a.now b.now c.now }
     requires fit { Fit plan.table plan.out plan.a plan.b plan.c }
     requires c_len_bound { (length (result_of plan a.now b.now c.now) ≤ bound) × (limit < many) × (0 < length o.old) }
-    ensures* { λ r. ⌜ Wrote (layout plan.out limit) (result_of plan a.now b.now c.now)
-        o.old r o.new ⌝ }
+    ensures { Wrote (layout plan.out limit) (result_of plan a.now b.now c.now)
+        o.old result o.new }
 {
     let due = Layout {
         width: plan.out,
@@ -51,7 +52,7 @@ fn store(
 // The result of a plan of two inputs into o, if o has room for it; else o stays as it is.
 fn store_two(a: &[u64], b: &[u64], plan: Plan, bound: usize, limit: usize, o: &mut [u64]) -> bool
     requires { StoreOk plan limit bound a.now b.now (length o.old) }
-    ensures* { λ r. ⌜ Wrote (layout plan.out limit) (result_two plan a.now b.now) o.old r o.new ⌝ }
+    ensures { Wrote (layout plan.out limit) (result_two plan a.now b.now) o.old result o.new }
 {
     let none = [0u64; 1];
     store(a, b, &none, plan, bound, limit, o)
@@ -60,7 +61,7 @@ fn store_two(a: &[u64], b: &[u64], plan: Plan, bound: usize, limit: usize, o: &m
 // Whether the result of a plan of two judged inputs has any item.
 pub fn any_of_two(a: &[u64], b: &[u64], plan: Plan) -> bool
     requires { AnyOk plan a.now b.now }
-    ensures* { λ r. ⌜ r ≡ ltb 0 (length (result_two plan a.now b.now)) ⌝ }
+    ensures { result ≡ ltb 0 (length (result_two plan a.now b.now)) }
 {
     let none = [0u64; 1];
     sweeps::any(a, b, &none, plan)
@@ -76,8 +77,8 @@ pub fn from_two(
     o: &mut [u64],
 ) -> Judged
     requires { TwoFit table layouts weight }
-    ensures* { λ r. ⌜ outcome (judged_says r) (o.new ∷ []) ≡ from_two layouts.first layouts.second layouts.out
-        (λ es fs. result table layouts.out.width es fs []) a.now b.now o.old ⌝ }
+    ensures { outcome (judged_says result) (o.new ∷ []) ≡ from_two layouts.first layouts.second layouts.out
+        (λ es fs. result table layouts.out.width es fs []) a.now b.now o.old }
 {
     let v = blocks::judge(a, layouts.first);
     if v != 0 {
@@ -107,7 +108,7 @@ pub fn from_two(
 // The result of a plan of one input into o, if o has room for it; else o stays as it is.
 fn store_one(a: &[u64], plan: Plan, bound: usize, limit: usize, o: &mut [u64]) -> bool
     requires { StoreOk plan limit bound a.now (0 ∷ []) (length o.old) }
-    ensures* { λ r. ⌜ Wrote (layout plan.out limit) (result_two plan a.now (0 ∷ [])) o.old r o.new ⌝ }
+    ensures { Wrote (layout plan.out limit) (result_two plan a.now (0 ∷ [])) o.old result o.new }
 {
     let none = [0u64; 1];
     store_two(a, &none, plan, bound, limit, o)
@@ -116,8 +117,8 @@ fn store_one(a: &[u64], plan: Plan, bound: usize, limit: usize, o: &mut [u64]) -
 // What a table keeps of any words lent as a block, into o.
 pub fn from_one(a: &[u64], table: u8, first: Layout, out: Layout, o: &mut [u64]) -> Judged
     requires { OneFit table first out }
-    ensures* { λ r. ⌜ outcome (judged_says r) (o.new ∷ []) ≡ from_one first out
-        (λ es. result table out.width es [] []) a.now o.old ⌝ }
+    ensures { outcome (judged_says result) (o.new ∷ []) ≡ from_one first out
+        (λ es. result table out.width es [] []) a.now o.old }
 {
     let v = blocks::judge(a, first);
     if v != 0 {

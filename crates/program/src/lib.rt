@@ -1,3 +1,4 @@
+#![tactic(auto)]
 // The program: reads an input as the byte form of a set, and writes its ranges or the refusal to standard output. What it writes is
 // tested, not proved; all that it decides is decided by forms::read_set.
 use answers::{Judged, Refusal};

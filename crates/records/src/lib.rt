@@ -1,4 +1,5 @@
 // One record of the byte form: the kinds, a start and an item, read with either mark, written with the new one.
+#![tactic(auto)]
 ghost use Rattle.std.specs.Prelude.{◌≡◌, [], ◌∷◌, ◌++◌, ◌+◌, ◌*◌, ◌≤◌, ◌<◌, ltb, leb, eqb, length};
 ghost use Rattle.entries.specs.Build.{pick, andb, same_words};
 ghost use Rattle.blocks.specs.Blocks.{afterb, item_of};
@@ -13,14 +14,14 @@ ghost use Rattle.records.specs.Steps.{StartKind, ItemKind, Turns, item_bytes, Fr
 use checks::Sums;
 
 // The length of a kind's body.
-#[derive(Drop)]
+#[derive(Clone, Copy)]
 pub enum Body {
     Known(usize),
     Unknown,
 }
 
 // The words of an item record, 0 for those that its kind has not.
-#[derive(Drop)]
+#[derive(Clone, Copy)]
 pub struct Item {
     pub low: u64,
     pub high: u64,
@@ -29,14 +30,14 @@ pub struct Item {
 }
 
 // What reading a start record answers: its counts, the second 0 where it has one, or the number of the refusal.
-#[derive(Drop)]
+#[derive(Clone, Copy)]
 pub enum StartRead {
     Good(usize, usize),
     Bad(u8),
 }
 
 // What reading an item record answers: the item, or the number of the refusal.
-#[derive(Drop)]
+#[derive(Clone, Copy)]
 pub enum ItemRead {
     Good(Item),
     Bad(u8),

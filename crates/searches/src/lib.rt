@@ -1,4 +1,5 @@
 // Finding a place in a judged block: where a number sits, the items that meet a window, and whether two sets share a number.
+#![tactic(auto)]
 ghost use Rattle.std.specs.Prelude.{◌≡◌, [], ◌+◌, ◌≤◌, ◌<◌, length, get_or};
 ghost use Rattle.entries.specs.Bulletins.{shareb};
 ghost use Rattle.answers.specs.Answers.{outcome, at};
@@ -13,14 +14,14 @@ use answers::{Judged, Parted};
 use blocks::Layout;
 
 // A part of a block: where it begins, and its words.
-#[derive(Drop)]
+#[derive(Clone, Copy)]
 pub struct Part {
     pub place: usize,
     pub length: usize,
 }
 
 // Where a number sits in a block: how many items lie wholly below it, and whether the next one holds it.
-#[derive(Drop)]
+#[derive(Clone, Copy)]
 pub struct Spot {
     pub below: usize,
     pub inside: bool,

@@ -16,7 +16,7 @@ use Rattle.entries.specs.Questions.{is_empty}
 use Rattle.entries.proofs.Limits.{union_bound, difference_bound, symmetric_bound, intersection_bound, complement_bound}
 use Rattle.entries.proofs.Sets.{intersection_is}
 use Rattle.entries.proofs.Questions.{none_empty}
-use Rattle.sweeps.specs.Sweeps.{result, Bounded, in_either, in_both, first_alone, just_one, not_first}
+use Rattle.sweeps.specs.Sweeps.{sweep_result, Bounded, in_either, in_both, first_alone, just_one, not_first}
 use Rattle.sweeps.proofs.Tables.{union_table, intersection_table, difference_table, symmetric_table, complement_table, fit_set, bounded}
 use Rattle.operations.specs.Calls.{from_two}
 use Rattle.operations.proofs.Making.{set_small, two_as}
@@ -53,7 +53,7 @@ intersection_most (e ∷ es) [] s t = omega (arith, none_intersection (e ∷ es)
 intersection_most (e ∷ es) (f ∷ fs) s t = omega (arith, intersection_bound e f es fs s t)
 
 -- a table that makes an operation with at most n + m ranges
-fitting : (t : ℕ) (op : List Entry → List Entry → List Entry) → ((es fs : List Entry) → Bounded es → Bounded fs → result t 2 es fs [] ≡ op es fs)
+fitting : (t : ℕ) (op : List Entry → List Entry → List Entry) → ((es fs : List Entry) → Bounded es → Bounded fs → sweep_result t 2 es fs [] ≡ op es fs)
     → ((es fs : List Entry) → Sound es → Sound fs → length (op es fs) ≤ length es + length fs) → TwoFit t set_layouts 1
 fitting t op table most = record {
   fit = fit_set t 2 2 2 (omega arith) (omega arith) (omega arith);
@@ -106,14 +106,14 @@ module _ (w v : List ℕ) (answer : List Entry → List Entry → Answer) (k : �
     give_two a y q = given_as [] 0 _ _ k (verdict set_layout w) e z (given_as [] 1 _ _ l (verdict set_layout v) g y (ap (λ (b : Answer). outcome b []) q))
 
 -- what a table makes of two sets is what its operation makes: the call that stores it, and the question whether it is empty
-module _ (t : ℕ) {op : List Entry → List Entry → List Entry} (table : (es fs : List Entry) → Bounded es → Bounded fs → result t 2 es fs [] ≡ op es fs)
+module _ (t : ℕ) {op : List Entry → List Entry → List Entry} (table : (es fs : List Entry) → Bounded es → Bounded fs → sweep_result t 2 es fs [] ≡ op es fs)
     (w v : List ℕ) (lent : Lent w) (lent' : Lent v) where
-  pub made_as : (o : List ℕ) → from_two set_layout set_layout set_layout (λ es fs. result t 2 es fs []) w v o ≡ from_two set_layout set_layout set_layout op w v o
+  pub made_as : (o : List ℕ) → from_two set_layout set_layout set_layout (λ es fs. sweep_result t 2 es fs []) w v o ≡ from_two set_layout set_layout set_layout op w v o
   made_as o =
-      two_as set_layout set_layout set_layout (λ es fs. result t 2 es fs []) op w v o
+      two_as set_layout set_layout set_layout (λ es fs. sweep_result t 2 es fs []) op w v o
       (λ p q. table (entries_of 2 w) (entries_of 2 v) (bounded 2 w lent) (bounded 2 v lent'))
 
-  pub asked_as : asked_two w v (λ es fs. truth (is_empty (result t 2 es fs []))) ≡ asked_two w v (λ es fs. truth (is_empty (op es fs)))
+  pub asked_as : asked_two w v (λ es fs. truth (is_empty (sweep_result t 2 es fs []))) ≡ asked_two w v (λ es fs. truth (is_empty (op es fs)))
   asked_as =
       ap (λ (l : List Entry). judgedBy (verdict set_layout w) 0 [] (judgedBy (verdict set_layout v) 1 [] (outcome (truth (is_empty l)) [])))
       (table (entries_of 2 w) (entries_of 2 v) (bounded 2 w lent) (bounded 2 v lent'))

@@ -1,9 +1,10 @@
 // Sets of numbers from 0 to 2^64 - 1 in lent blocks of words: questions, and changes.
 // Every call takes any words at all. Its contract names the whole outcome by one definition of specs/Calls.
+#![tactic(auto)]
 ghost use Rattle.std.specs.Prelude.{◌≡◌, [], ◌∷◌, ◌+◌};
 ghost use Rattle.entries.specs.Sets.{member};
 ghost use Rattle.entries.specs.Questions.{range_at, size_of, least_member, is_empty};
-ghost use Rattle.sweeps.specs.Sweeps.{result};
+ghost use Rattle.sweeps.specs.Sweeps.{sweep_result};
 ghost use Rattle.blocks.specs.Blocks.{set_layout, SoundBlock, entries_of};
 ghost use Rattle.operations.specs.Calls.{from_two};
 ghost use Rattle.operations.specs.Steps.{TwoFit};
@@ -22,7 +23,7 @@ use sweeps::Plan;
 
 // Makes the block the empty set. Its old words are not judged.
 pub fn make_empty(block: &mut [u64]) -> Judged
-    ensures* { λ r. ⌜ outcome (judged_says r) (block.new ∷ []) ≡ make_empty_call block.old ⌝ }
+    ensures { outcome (judged_says result) (block.new ∷ []) ≡ make_empty_call block.old }
 {
     if block.len() == 0 {
         return answers::judged_of(1, 0);
@@ -33,7 +34,7 @@ pub fn make_empty(block: &mut [u64]) -> Judged
 
 // Whether x is a member, and how many ranges lie wholly below it. The range at that index holds x, or is the next one above it.
 pub fn member(block: &[u64], x: u64) -> Seated
-    ensures* { λ r. ⌜ outcome (seated_says r) [] ≡ member_call block.now x ⌝ }
+    ensures { outcome (seated_says result) [] ≡ member_call block.now x }
 {
     let v = blocks::judge(block, blocks::SET);
     if v != 0 {
@@ -49,7 +50,7 @@ pub fn member(block: &[u64], x: u64) -> Seated
 // The range at index i of a sound set.
 fn range_in(block: &[u64], i: u64) -> Ranged
     requires { SoundBlock set_layout block.now }
-    ensures* { λ r. ⌜ ranged_says r ≡ ends (range_at (entries_of 2 block.now) i) ⌝ }
+    ensures { ranged_says result ≡ ends (range_at (entries_of 2 block.now) i) }
 {
     let n = searches::count_of(block);
     let k = blocks::wide(i);
@@ -64,7 +65,7 @@ fn range_in(block: &[u64], i: u64) -> Ranged
 
 // The low and high of the range at index i, counted from 0, or none.
 pub fn range_at(block: &[u64], i: u64) -> Ranged
-    ensures* { λ r. ⌜ outcome (ranged_says r) [] ≡ range_at_call block.now i ⌝ }
+    ensures { outcome (ranged_says result) [] ≡ range_at_call block.now i }
 {
     let v = blocks::judge(block, blocks::SET);
     if v != 0 {
@@ -76,7 +77,7 @@ pub fn range_at(block: &[u64], i: u64) -> Ranged
 // The size less one of a sound set of n ranges, of which there is at least one.
 fn size_less_one(block: &[u64], n: usize) -> u64
     requires { Counted block.now n }
-    ensures* { λ r. ⌜ r + 1 ≡ size_of (entries_of 2 block.now) ⌝ }
+    ensures { result + 1 ≡ size_of (entries_of 2 block.now) }
 {
     let mut total = blocks::word(block, 2) - blocks::word(block, 1);
     let mut p: usize = 3;
@@ -91,7 +92,7 @@ fn size_less_one(block: &[u64], n: usize) -> u64
 
 // How many members: empty, or the number of them less one.
 pub fn size(block: &[u64]) -> Sized
-    ensures* { λ r. ⌜ outcome (sized_says r) [] ≡ size_call block.now ⌝ }
+    ensures { outcome (sized_says result) [] ≡ size_call block.now }
 {
     let v = blocks::judge(block, blocks::SET);
     if v != 0 {
@@ -107,7 +108,7 @@ pub fn size(block: &[u64]) -> Sized
 // The least member of a sound set at or above x.
 fn least_in(block: &[u64], x: u64) -> Found
     requires { SoundBlock set_layout block.now }
-    ensures* { λ r. ⌜ found_says r ≡ optional (least_member (entries_of 2 block.now) x) ⌝ }
+    ensures { found_says result ≡ optional (least_member (entries_of 2 block.now) x) }
 {
     let spot = searches::spot_of(block, blocks::SET, x);
     if spot.inside {
@@ -121,7 +122,7 @@ fn least_in(block: &[u64], x: u64) -> Found
 
 // The least member at or above x, or none.
 pub fn least_member(block: &[u64], x: u64) -> Found
-    ensures* { λ r. ⌜ outcome (found_says r) [] ≡ least_member_call block.now x ⌝ }
+    ensures { outcome (found_says result) [] ≡ least_member_call block.now x }
 {
     let v = blocks::judge(block, blocks::SET);
     if v != 0 {
@@ -133,7 +134,7 @@ pub fn least_member(block: &[u64], x: u64) -> Found
 // The least number at or above x that is not in a sound set.
 fn least_out(block: &[u64], x: u64) -> Found
     requires { SoundBlock set_layout block.now }
-    ensures* { λ r. ⌜ found_says r ≡ optional (non_member (entries_of 2 block.now) x) ⌝ }
+    ensures { found_says result ≡ optional (non_member (entries_of 2 block.now) x) }
 {
     let spot = searches::spot_of(block, blocks::SET, x);
     if spot.inside {
@@ -148,7 +149,7 @@ fn least_out(block: &[u64], x: u64) -> Found
 
 // The least number at or above x that is not a member, or none.
 pub fn least_non_member(block: &[u64], x: u64) -> Found
-    ensures* { λ r. ⌜ outcome (found_says r) [] ≡ least_non_member_call block.now x ⌝ }
+    ensures { outcome (found_says result) [] ≡ least_non_member_call block.now x }
 {
     let v = blocks::judge(block, blocks::SET);
     if v != 0 {
@@ -159,28 +160,28 @@ pub fn least_non_member(block: &[u64], x: u64) -> Found
 
 // [G2] The part of the block that holds the ranges which share a number with a..b; refused, a part of no words.
 pub fn window(block: &[u64], a: u64, b: u64) -> &[u64]
-    ensures* { λ r. ⌜ IsPart block.entry r (set_window_call block.now a b) ⌝ }
+    ensures { IsPart block.entry result (set_window_call block.now a b) }
 {
     searches::window(block, blocks::SET, a, b)
 }
 
 // The same part, as the place of its first word and the number of its words; or that no range shares a number with a..b.
 pub fn window_at(block: &[u64], a: u64, b: u64) -> Parted
-    ensures* { λ r. ⌜ outcome (parted_says r) [] ≡ set_window_at_call block.now a b ⌝ }
+    ensures { outcome (parted_says result) [] ≡ set_window_at_call block.now a b }
 {
     searches::window_at(block, blocks::SET, a, b)
 }
 
 // The refusal of the window a..b, or that there is none.
 pub fn window_refusal(block: &[u64], a: u64, b: u64) -> Judged
-    ensures* { λ r. ⌜ outcome (judged_says r) [] ≡ set_window_refusal_call block.now a b ⌝ }
+    ensures { outcome (judged_says result) [] ≡ set_window_refusal_call block.now a b }
 {
     searches::window_refusal(block, blocks::SET, a, b)
 }
 
 // Inserts a..b: afterwards all of its numbers are members, and all others are as they were.
 pub fn insert(block: &mut [u64], a: u64, b: u64) -> Judged
-    ensures* { λ r. ⌜ outcome (judged_says r) (block.new ∷ []) ≡ insert_call block.old a b ⌝ }
+    ensures { outcome (judged_says result) (block.new ∷ []) ≡ insert_call block.old a b }
 {
     let mut new = [a, b];
     answers::judged_of(edits::edit_put(block, &mut new, blocks::SET), 0)
@@ -188,15 +189,15 @@ pub fn insert(block: &mut [u64], a: u64, b: u64) -> Judged
 
 // Removes a..b: afterwards none of its numbers is a member, and all others are as they were.
 pub fn remove(block: &mut [u64], a: u64, b: u64) -> Judged
-    ensures* { λ r. ⌜ outcome (judged_says r) (block.new ∷ []) ≡ remove_call block.old a b ⌝ }
+    ensures { outcome (judged_says result) (block.new ∷ []) ≡ remove_call block.old a b }
 {
     answers::judged_of(edits::edit_out(block, blocks::SET, a, b), 0)
 }
 
 // Yes where the table keeps no number of the two sets.
 fn keeps_none(a: &[u64], b: &[u64], table: u8) -> Truth
-    ensures* { λ r. ⌜ outcome (truth_says r) [] ≡ asked_two a.now b.now
-        (λ es fs. truth (is_empty (result table 2 es fs []))) ⌝ }
+    ensures { outcome (truth_says result) [] ≡ asked_two a.now b.now
+        (λ es fs. truth (is_empty (sweep_result table 2 es fs []))) }
 {
     let v = blocks::judge(a, blocks::SET);
     if v != 0 {
@@ -221,21 +222,21 @@ fn keeps_none(a: &[u64], b: &[u64], table: u8) -> Truth
 
 // Whether the two sets have the same members.
 pub fn equal(a: &[u64], b: &[u64]) -> Truth
-    ensures* { λ r. ⌜ outcome (truth_says r) [] ≡ equal_call a.now b.now ⌝ }
+    ensures { outcome (truth_says result) [] ≡ equal_call a.now b.now }
 {
     keeps_none(a, b, sweeps::JUST_ONE)
 }
 
 // Whether every member of the first is a member of the second.
 pub fn within(a: &[u64], b: &[u64]) -> Truth
-    ensures* { λ r. ⌜ outcome (truth_says r) [] ≡ within_call a.now b.now ⌝ }
+    ensures { outcome (truth_says result) [] ≡ within_call a.now b.now }
 {
     keeps_none(a, b, sweeps::FIRST_ALONE)
 }
 
 // Whether no number is a member of both.
 pub fn disjoint(a: &[u64], b: &[u64]) -> Truth
-    ensures* { λ r. ⌜ outcome (truth_says r) [] ≡ disjoint_call a.now b.now ⌝ }
+    ensures { outcome (truth_says result) [] ≡ disjoint_call a.now b.now }
 {
     keeps_none(a, b, sweeps::IN_BOTH)
 }
@@ -243,8 +244,8 @@ pub fn disjoint(a: &[u64], b: &[u64]) -> Truth
 // The numbers that a table keeps of two sets, into out.
 fn two_sets(a: &[u64], b: &[u64], table: u8, out: &mut [u64]) -> Judged
     requires { TwoFit table set_layouts 1 }
-    ensures* { λ r. ⌜ outcome (judged_says r) (out.new ∷ []) ≡ from_two set_layout set_layout set_layout (λ es fs. result table 2 es fs [])
-        a.now b.now out.old ⌝ }
+    ensures { outcome (judged_says result) (out.new ∷ []) ≡ from_two set_layout set_layout set_layout (λ es fs. sweep_result table 2 es fs [])
+        a.now b.now out.old }
 {
     let layouts = Layouts {
         first: blocks::SET,
@@ -256,39 +257,39 @@ fn two_sets(a: &[u64], b: &[u64], table: u8, out: &mut [u64]) -> Judged
 
 // The numbers of either set, into out.
 pub fn union(a: &[u64], b: &[u64], out: &mut [u64]) -> Judged
-    ensures* { λ r. ⌜ outcome (judged_says r) (out.new ∷ []) ≡ union_call
-        a.now b.now out.old ⌝ }
+    ensures { outcome (judged_says result) (out.new ∷ []) ≡ union_call
+        a.now b.now out.old }
 {
     two_sets(a, b, sweeps::IN_EITHER, out)
 }
 
 // The numbers of both sets, into out.
 pub fn intersection(a: &[u64], b: &[u64], out: &mut [u64]) -> Judged
-    ensures* { λ r. ⌜ outcome (judged_says r) (out.new ∷ []) ≡ intersection_call
-        a.now b.now out.old ⌝ }
+    ensures { outcome (judged_says result) (out.new ∷ []) ≡ intersection_call
+        a.now b.now out.old }
 {
     two_sets(a, b, sweeps::IN_BOTH, out)
 }
 
 // The numbers of the first set that are not in the second, into out.
 pub fn difference(a: &[u64], b: &[u64], out: &mut [u64]) -> Judged
-    ensures* { λ r. ⌜ outcome (judged_says r) (out.new ∷ []) ≡ difference_call
-        a.now b.now out.old ⌝ }
+    ensures { outcome (judged_says result) (out.new ∷ []) ≡ difference_call
+        a.now b.now out.old }
 {
     two_sets(a, b, sweeps::FIRST_ALONE, out)
 }
 
 // The numbers of exactly one of the sets, into out.
 pub fn symmetric_difference(a: &[u64], b: &[u64], out: &mut [u64]) -> Judged
-    ensures* { λ r. ⌜ outcome (judged_says r) (out.new ∷ []) ≡ symmetric_difference_call
-        a.now b.now out.old ⌝ }
+    ensures { outcome (judged_says result) (out.new ∷ []) ≡ symmetric_difference_call
+        a.now b.now out.old }
 {
     two_sets(a, b, sweeps::JUST_ONE, out)
 }
 
 // The numbers from 0 to 2^64 - 1 that are not in the set, into out.
 pub fn complement(set: &[u64], out: &mut [u64]) -> Judged
-    ensures* { λ r. ⌜ outcome (judged_says r) (out.new ∷ []) ≡ complement_call set.now out.old ⌝ }
+    ensures { outcome (judged_says result) (out.new ∷ []) ≡ complement_call set.now out.old }
 {
     operations::from_one(set, sweeps::NOT_FIRST, blocks::SET, blocks::SET, out)
 }

@@ -28,7 +28,7 @@ use Rattle.entries.proofs.Sets.{difference_is, complement_lists}
 use Rattle.blocks.specs.Blocks.{item_of, items_of, entries_of, SoundBlock, Lent, Shaped}
 use Rattle.blocks.specs.declared.Layout.{Layout}
 use Rattle.blocks.proofs.Judging.{room_words}
-use Rattle.sweeps.specs.Sweeps.{accepts, first_of, mixed, swept, result, Input, Bounded, width_of, Fit, in_either, in_both, first_alone}
+use Rattle.sweeps.specs.Sweeps.{accepts, first_of, mixed, swept, sweep_result, Input, Bounded, width_of, Fit, in_either, in_both, first_alone}
 use Rattle.sweeps.specs.Sweeps.{just_one, not_first, in_first, amending}
 
 -- the sweep's function, and its list
@@ -37,8 +37,8 @@ module _ (t s : ℕ) (es fs gs : List Entry) where
   unfolding swept
   swept_above y h = rw (le-ltb y past_m h)
 
-  pub result_is : ListOf (swept t s es fs gs) (result t s es fs gs)
-  unfolding swept result
+  pub result_is : ListOf (swept t s es fs gs) (sweep_result t s es fs gs)
+  unfolding swept sweep_result
   result_is = built (swept t s es fs gs) past_m (past_m ∷ cuts_of es ++ (cuts_of fs ++ cuts_of gs)) swept_above changes
     where
       side : (y : ℕ) → suc y ≢ past_m → Dec (suc y < past_m) → ltb (suc y) past_m ≡ ltb y past_m
@@ -52,7 +52,7 @@ module _ (t s : ℕ) (es fs gs : List Entry) where
           rw (side y n.0 (dec_lt (suc y) past_m), value_changes es y m.0, value_changes fs y k.0, value_changes gs y k.1)
 
   -- any list of the same function is the result
-  pub result_of_lem : (F : ℕ → Option Value) (hs : List Entry) → ListOf F hs → ((x : ℕ) → swept t s es fs gs x ≡ F x) → result t s es fs gs ≡ hs
+  pub result_of_lem : (F : ℕ → Option Value) (hs : List Entry) → ListOf F hs → ((x : ℕ) → swept t s es fs gs x ≡ F x) → sweep_result t s es fs gs ≡ hs
   result_of_lem F hs l h = unique (swept t s es fs gs) _ hs result_is (record { sound = l.sound; names = λ x. l.names x ∙ sym (h x) })
 
   -- where nothing is named above M, the sweep's function is `mixed`
@@ -69,7 +69,7 @@ module _ (t s : ℕ) (es fs gs : List Entry) where
 -- an operation on two lists
 two_lists : (t s : ℕ) (f : Option Value → Option Value → Option Value) (es fs : List Entry) → Bounded es → Bounded fs → f none none ≡ none
     → mixed t s none none none ≡ none
-    → ((x : ℕ) → mixed t s (value_at es x) (value_at fs x) none ≡ f (value_at es x) (value_at fs x)) → result t s es fs [] ≡ combine f es fs
+    → ((x : ℕ) → mixed t s (value_at es x) (value_at fs x) none ≡ f (value_at es x) (value_at fs x)) → sweep_result t s es fs [] ≡ combine f es fs
 two_lists t s f es fs p q z y h =
     result_of_lem t s es fs [] (λ x. f (value_at es x) (value_at fs x)) (combine f es fs) (combined f z es fs)
     (λ x. swept_mixed t s es fs [] p q (λ x h. refl) y x ∙ h x)
@@ -85,29 +85,29 @@ mixed_set t o p q = go (accepts t (has o) (has p) (has q))
 
 set_table : (t : ℕ) (g : Bool → Bool → Bool) → ((a b : Bool) → accepts t a b false ≡ g a b) → g false false ≡ false → (es fs : List Entry)
     → Bounded es → Bounded fs
-    → result t 2 es fs [] ≡ set_op g es fs
+    → sweep_result t 2 es fs [] ≡ set_op g es fs
 set_table t g h z es fs p q =
     two_lists t 2 (λ o r. mark (g (has o) (has r))) es fs p q (ap mark z) (mixed_set t none none none ∙ ap mark (h false false ∙ z))
     (λ x. mixed_set t (value_at es x) (value_at fs x) none ∙ ap mark (h (member es x) (member fs x)))
 
-pub union_table : (es fs : List Entry) → Bounded es → Bounded fs → result in_either 2 es fs [] ≡ union es fs
+pub union_table : (es fs : List Entry) → Bounded es → Bounded fs → sweep_result in_either 2 es fs [] ≡ union es fs
 unfolding union accepts
 union_table = set_table in_either orb (taut2 (λ a b. accepts in_either a b false) orb tt) refl
 
-pub intersection_table : (es fs : List Entry) → Bounded es → Bounded fs → result in_both 2 es fs [] ≡ intersection es fs
+pub intersection_table : (es fs : List Entry) → Bounded es → Bounded fs → sweep_result in_both 2 es fs [] ≡ intersection es fs
 unfolding intersection accepts
 intersection_table = set_table in_both andb (taut2 (λ a b. accepts in_both a b false) andb tt) refl
 
-pub difference_table : (es fs : List Entry) → Bounded es → Bounded fs → result first_alone 2 es fs [] ≡ difference es fs
+pub difference_table : (es fs : List Entry) → Bounded es → Bounded fs → sweep_result first_alone 2 es fs [] ≡ difference es fs
 unfolding difference accepts
 difference_table = set_table first_alone lessb (taut2 (λ a b. accepts first_alone a b false) lessb tt) refl
 
-pub symmetric_table : (es fs : List Entry) → Bounded es → Bounded fs → result just_one 2 es fs [] ≡ symmetric_difference es fs
+pub symmetric_table : (es fs : List Entry) → Bounded es → Bounded fs → sweep_result just_one 2 es fs [] ≡ symmetric_difference es fs
 unfolding symmetric_difference accepts
 symmetric_table = set_table just_one xorb (taut2 (λ a b. accepts just_one a b false) xorb tt) refl
 
 -- `domain` keeps the numbers that have a value
-pub domain_table : (es : List Entry) → Bounded es → result in_first 2 es [] [] ≡ domain es
+pub domain_table : (es : List Entry) → Bounded es → sweep_result in_first 2 es [] [] ≡ domain es
 unfolding domain accepts
 domain_table es p =
     result_of_lem in_first 2 es [] [] (λ x. mark (member es x)) (domain es)
@@ -120,7 +120,7 @@ domain_table es p =
     kept true = refl
     kept false = refl
 
-pub complement_table : (es : List Entry) → result not_first 2 es [] [] ≡ complement es
+pub complement_table : (es : List Entry) → sweep_result not_first 2 es [] [] ≡ complement es
 unfolding swept accepts
 complement_table es =
     result_of_lem not_first 2 es [] [] (λ x. mark (lessb (leb x M) (member es x))) (complement es) (complement_lists es)
@@ -137,7 +137,7 @@ complement_table es =
     left false a = refl
 
 -- a bulletin on a list: the list first, then what is released, then what is withdrawn
-pub amended_table : (s r w : List Entry) → Bounded s → Bounded r → Bounded w → result amending 2 s r w ≡ amended s r w
+pub amended_table : (s r w : List Entry) → Bounded s → Bounded r → Bounded w → sweep_result amending 2 s r w ≡ amended s r w
 unfolding union accepts
 amended_table s r w p q n =
     result_of_lem amending 2 s r w (λ x. mark (orb (member (difference s w) x) (member r x))) (amended s r w)
@@ -176,7 +176,7 @@ shaped_at s (e ∷ es) x h = go (leb e.low x) (leb x e.high) (value_at es x) (sh
 whole : (s : ℕ) (v : Value) → 2 + length v ≡ s → take (s - 2) v ≡ v
 whole s v h = take_all (s - 2) v (omega arith)
 
-pub overlay_table : (s : ℕ) (es fs : List Entry) → Bounded es → Bounded fs → Shaped s es → Shaped s fs → result in_either s es fs [] ≡ overlay es fs
+pub overlay_table : (s : ℕ) (es fs : List Entry) → Bounded es → Bounded fs → Shaped s es → Shaped s fs → sweep_result in_either s es fs [] ≡ overlay es fs
 unfolding overlay mixed accepts
 overlay_table s es fs p q h k =
     two_lists in_either s or_else es fs p q refl refl (λ x. go (value_at es x) (value_at fs x) (shaped_at s es x h) (shaped_at s fs x k))
@@ -187,7 +187,7 @@ overlay_table s es fs p q h k =
     go (some u) none a b = ap some (whole s u a)
     go (some u) (some v) a b = ap some (whole s u a)
 
-pub restriction_table : (s : ℕ) (es fs : List Entry) → Bounded es → Bounded fs → Shaped s es → result in_both s es fs [] ≡ restriction es fs
+pub restriction_table : (s : ℕ) (es fs : List Entry) → Bounded es → Bounded fs → Shaped s es → sweep_result in_both s es fs [] ≡ restriction es fs
 unfolding restriction mixed accepts
 restriction_table s es fs p q h = two_lists in_both s keep_if es fs p q refl refl (λ x. go (value_at es x) (value_at fs x) (shaped_at s es x h))
   where

@@ -74,12 +74,12 @@ unfoldable pub swept : ℕ → ℕ → List Entry → List Entry → List Entry 
 swept t s es fs gs x = pick (ltb x past_m) (mixed t s (value_at es x) (value_at fs x) (value_at gs x)) none
 
 -- the one sound list of that function
-unfoldable pub result : ℕ → ℕ → List Entry → List Entry → List Entry → List Entry
-result t s es fs gs = build (swept t s es fs gs) (past_m ∷ cuts_of es ++ (cuts_of fs ++ cuts_of gs))
+unfoldable pub sweep_result : ℕ → ℕ → List Entry → List Entry → List Entry → List Entry
+sweep_result t s es fs gs = build (swept t s es fs gs) (past_m ∷ cuts_of es ++ (cuts_of fs ++ cuts_of gs))
 
 -- the same of the entries that three blocks say
 abbrev pub result_of : Plan → List ℕ → List ℕ → List ℕ → List Entry
-result_of plan a b c = result plan.table plan.out (entries_of plan.a a) (entries_of plan.b b) (entries_of plan.c c)
+result_of plan a b c = sweep_result plan.table plan.out (entries_of plan.a a) (entries_of plan.b b) (entries_of plan.c c)
 
 -- a judged block of s words an item, at most two of them its value
 pub record Input (s : ℕ) (w : List ℕ) : Type 0 where

@@ -1,5 +1,6 @@
 // One linear sweep over three sound blocks, for any table of their memberships. Every operation on sets, maps and bulletins that
 // makes a list from lists is a table of it.
+#![tactic(auto)]
 ghost use Rattle.std.specs.Prelude.{◌≡◌, true, false, ◌+◌, ◌*◌, ◌-◌, ◌≤◌, ◌<◌, min, leb, ltb, length, get_or, take};
 ghost use Rattle.entries.specs.Build.{pick, andb, same_words};
 ghost use Rattle.entries.specs.Sets.{M};
@@ -25,7 +26,7 @@ pub const IN_FIRST: u8 = 0b1010_1010;
 pub const WITHOUT_THIRD_JOINED_WITH_SECOND: u8 = 0b1100_1110;
 
 // How the three inputs and the output are laid out, in words an item, and the table of the memberships.
-#[derive(Drop)]
+#[derive(Clone, Copy)]
 pub struct Plan {
     pub table: u8,
     pub a: usize,
@@ -35,14 +36,14 @@ pub struct Plan {
 }
 
 // The words of a value: as many of them as an item of the output has.
-#[derive(Drop)]
+#[derive(Clone, Copy)]
 pub struct Words {
     pub first: u64,
     pub second: u64,
 }
 
 // A place in each input.
-#[derive(Drop)]
+#[derive(Clone, Copy)]
 pub struct Places {
     pub a: usize,
     pub b: usize,
@@ -50,7 +51,7 @@ pub struct Places {
 }
 
 // For each input, whether the sweep stands inside an item of it.
-#[derive(Drop)]
+#[derive(Clone, Copy)]
 pub struct Sides {
     pub a: bool,
     pub b: bool,
@@ -58,7 +59,7 @@ pub struct Sides {
 }
 
 // Where a sweep stands in an input: outside at the low word of the next item or at the end of the items, inside at the item's high word.
-#[derive(Drop)]
+#[derive(Clone, Copy)]
 pub struct Cursor {
     pub place: usize,
     pub inside: bool,
@@ -66,7 +67,7 @@ pub struct Cursor {
 }
 
 // The three cursors.
-#[derive(Drop)]
+#[derive(Clone, Copy)]
 pub struct Starts {
     pub at: Places,
     pub sides: Sides,
@@ -74,7 +75,7 @@ pub struct Starts {
 }
 
 // The last number of a run, and the place and the side of the cursor behind it.
-#[derive(Drop)]
+#[derive(Clone, Copy)]
 pub struct Run {
     pub last: u64,
     pub next: usize,
@@ -82,7 +83,7 @@ pub struct Run {
 }
 
 // The last number of a segment, whether it has a value, the value, and the cursors behind it.
-#[derive(Drop)]
+#[derive(Clone, Copy)]
 pub struct Segment {
     pub last: u64,
     pub inside: bool,

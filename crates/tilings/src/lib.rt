@@ -1,1 +1,2 @@
+#![tactic(auto)]
 // The theory of prefix blocks: see specs/. No code.

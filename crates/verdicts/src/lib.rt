@@ -1,5 +1,6 @@
 // A form is a value: sets, maps, bulletins and signed sets are four of them. Here are its verdicts: the bytes judged as a whole form, run by run, the
 // outputs of a reading, and what can be asked of ranges in bytes.
+#![tactic(auto)]
 ghost use Rattle.std.specs.Prelude.{◌≡◌, ◌+◌, ◌*◌, ◌≤◌, ◌<◌, ltb, length, drop};
 ghost use Rattle.entries.specs.Sets.{member};
 ghost use Rattle.entries.specs.Bulletins.{shareb};
@@ -17,7 +18,7 @@ use records::StartRead;
 
 // A form: the kind of its start, the kind of the items of its first run and of its second, how many runs it has, one or two, and the
 // layout of the block that holds a run. Its records bear either mark, all the same one.
-#[derive(Drop)]
+#[derive(Clone, Copy)]
 pub struct Form {
     pub start: u8,
     pub first: u8,

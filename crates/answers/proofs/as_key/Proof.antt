@@ -8,12 +8,12 @@ use borrow.Author.Rules.{rules}
 use Rattle.answers.proofs.as_key.Statement.{statement}
 use Rattle.answers.proofs.as_key.Tie as tie
 
-returns : tie.Need-returns
+returns : tie.Need-returns-in-Number
 returns c =
-    let a = c.before.before.a.given in
-    ap (λ (x : ℕ). given (x ∷ [])) (key_says _ c.before.known-told.given.0.1 _ c.key_of.ensures) ∙ sym (ap found_says a.1)
+    let a = c.before.before.a-1.given in
+    ap (λ (x : ℕ). given (x ∷ [])) (key_says _ c.before.known_told-1.given.0.1 _ c.key_of.ensures) ∙ sym (ap found_says a.1)
 
 pub as_key_spec : {M : Type 1} → statement M
 as_key_spec =
     tie.close (tie.spec (λ c. search rules) (λ c κs. search rules) (λ c. search rules) (λ c. search rules) returns (λ c. search rules)
-    (λ c. sym (ap found_says c.before.a2.given.1)))
+    (λ c. sym (ap found_says c.before.a-in-Refused-1.given.1)))

@@ -5,15 +5,15 @@ use Rattle.keys.proofs.difference.Tie as tie
 pub difference_spec : {M : Type 1} → statement M
 difference_spec =
     tie.close
-    (tie.spec (λ c. let s = c.before in top_fits s.args.a s.args.b s.ranges.a s.ranges.b c.if1.true)
-    (λ c. let s = c.before.before in over_top s.args.a s.args.b s.ranges.a s.ranges.b c.before.if1.true c.if2.true)
+    (tie.spec (λ c. let s = c.before in top_fits s.args.a s.args.b s.ranges.a s.ranges.b c.if-b-lt0.true)
+    (λ c. let s = c.before.before in over_top s.args.a s.args.b s.ranges.a s.ranges.b c.before.if-b-lt0.true c.if-b-a.true)
     (λ c. let s = c.before.before in less_fits s.args.a s.args.b s.ranges.a s.ranges.b
-    (under_top s.args.a s.args.b s.ranges.a s.ranges.b c.before.if1.true c.if2.false))
+    (under_top s.args.a s.args.b s.ranges.a s.ranges.b c.before.if-b-lt0.true c.if-b-a.false))
     (λ c. let s = c.before.before in less_is s.args.a s.args.b s.ranges.a s.ranges.b
-    (under_top s.args.a s.args.b s.ranges.a s.ranges.b c.before.if1.true c.if2.false))
-    (λ c. let s = c.before in bottom_fits s.args.a s.args.b s.ranges.a s.ranges.b c.if1.false)
-    (λ c. let s = c.before.before in under_bottom s.args.a s.args.b s.ranges.a s.ranges.b c.before.if1.false c.if3.true)
+    (under_top s.args.a s.args.b s.ranges.a s.ranges.b c.before.if-b-lt0.true c.if-b-a.false))
+    (λ c. let s = c.before in bottom_fits s.args.a s.args.b s.ranges.a s.ranges.b c.if-b-lt0.false)
+    (λ c. let s = c.before.before in under_bottom s.args.a s.args.b s.ranges.a s.ranges.b c.before.if-b-lt0.false c.if-a-b.true)
     (λ c. let s = c.before.before in less_fits s.args.a s.args.b s.ranges.a s.ranges.b
-    (over_bottom s.args.a s.args.b s.ranges.a s.ranges.b c.before.if1.false c.if3.false))
+    (over_bottom s.args.a s.args.b s.ranges.a s.ranges.b c.before.if-b-lt0.false c.if-a-b.false))
     (λ c. let s = c.before.before in less_is s.args.a s.args.b s.ranges.a s.ranges.b
-    (over_bottom s.args.a s.args.b s.ranges.a s.ranges.b c.before.if1.false c.if3.false)))
+    (over_bottom s.args.a s.args.b s.ranges.a s.ranges.b c.before.if-b-lt0.false c.if-a-b.false)))

@@ -6,5 +6,5 @@ use Rattle.keys.proofs.key_of.Tie as tie
 pub key_of_spec : {M : Type 1} → statement M
 key_of_spec =
     tie.close
-    (tie.spec (λ c. search rules) (λ c. lowered_fits c.before.args.word c.if1.true) (λ c. lowered_key c.before.args.word c.if1.true)
-    (λ c. search rules) (λ c. rest_key c.before.args.word c.if1.false c.before.ranges.word.fits))
+    (tie.spec (λ c. search rules) (λ c. lowered_fits c.before.args.word c.if-word-lt-HALF.true) (λ c. lowered_key c.before.args.word c.if-word-lt-HALF.true)
+    (λ c. search rules) (λ c. rest_key c.before.args.word c.if-word-lt-HALF.false c.before.ranges.word.fits))

@@ -3,7 +3,7 @@ use mathlib.Core.List.{List, []}
 use Rattle.maps.proofs.Looking.{width}
 use Rattle.entries.specs.Entries.{Entry}
 use Rattle.blocks.specs.Blocks.{set_layout, map_layout}
-use Rattle.sweeps.specs.Sweeps.{result, in_first}
+use Rattle.sweeps.specs.Sweeps.{sweep_result, in_first}
 use Rattle.entries.specs.Maps.{domain}
 use Rattle.sweeps.proofs.Tables.{domain_table, bounded}
 use Rattle.operations.proofs.Making.{one_as}
@@ -23,7 +23,7 @@ returns c =
     let at_from_one = c.before.before in
     let at_shared_slice_known = at_from_one.before.before.before in
     let start = at_shared_slice_known.before in
-    at_from_one.from_one.ensures ∙ one_as map_layout set_layout (λ (es : List Entry). result in_first 2 es [] []) domain start.args.map.now
+    at_from_one.from_one.ensures ∙ one_as map_layout set_layout (λ (es : List Entry). sweep_result in_first 2 es [] []) domain start.args.map.now
     start.args.out.now
     (domain_table (map_entries start.args.map.now)
     (bounded width start.args.map.now (λ j. omega (arith, at_shared_slice_known.shared-slice-known.given j))))

@@ -3,7 +3,7 @@ use mathlib.Core.List.{List, []}
 use Rattle.maps.proofs.Looking.{width}
 use Rattle.entries.specs.Entries.{Entry}
 use Rattle.blocks.specs.Blocks.{map_layout}
-use Rattle.sweeps.specs.Sweeps.{result, in_either}
+use Rattle.sweeps.specs.Sweeps.{sweep_result, in_either}
 use Rattle.entries.specs.Maps.{overlay}
 use Rattle.sweeps.proofs.Tables.{overlay_table, bounded}
 use Rattle.operations.proofs.Making.{two_as, entries_shaped}
@@ -24,7 +24,7 @@ returns c =
     let at_shared_slice_known2 = at_from_two.before.before.before in
     let at_shared_slice_known = at_shared_slice_known2.before in
     let start = at_shared_slice_known.before in
-    at_from_two.from-two.ensures ∙ two_as map_layout map_layout map_layout (λ (es fs : List Entry). result in_either width es fs []) overlay
+    at_from_two.from-two.ensures ∙ two_as map_layout map_layout map_layout (λ (es fs : List Entry). sweep_result in_either width es fs []) overlay
     start.args.upper.now start.args.lower.now start.args.out.now
     (λ p q. overlay_table width (map_entries start.args.upper.now) (map_entries start.args.lower.now)
     (bounded width start.args.upper.now (λ j. omega (arith, at_shared_slice_known.shared-slice-known.given j)))

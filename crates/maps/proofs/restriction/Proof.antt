@@ -3,7 +3,7 @@ use mathlib.Core.List.{List, []}
 use Rattle.maps.proofs.Looking.{width}
 use Rattle.entries.specs.Entries.{Entry}
 use Rattle.blocks.specs.Blocks.{entries_of, set_layout, map_layout}
-use Rattle.sweeps.specs.Sweeps.{result, in_both}
+use Rattle.sweeps.specs.Sweeps.{sweep_result, in_both}
 use Rattle.entries.specs.Maps.{restriction}
 use Rattle.sweeps.proofs.Tables.{restriction_table, bounded}
 use Rattle.operations.proofs.Making.{two_as, entries_shaped}
@@ -24,7 +24,7 @@ returns c =
     let at_shared_slice_known2 = at_from_two.before.before.before in
     let at_shared_slice_known = at_shared_slice_known2.before in
     let start = at_shared_slice_known.before in
-    at_from_two.from-two.ensures ∙ two_as map_layout set_layout map_layout (λ (es fs : List Entry). result in_both width es fs []) restriction
+    at_from_two.from-two.ensures ∙ two_as map_layout set_layout map_layout (λ (es fs : List Entry). sweep_result in_both width es fs []) restriction
     start.args.map.now start.args.set.now start.args.out.now
     (λ p q. restriction_table width (map_entries start.args.map.now) (entries_of 2 start.args.set.now)
     (bounded width start.args.map.now (λ j. omega (arith, at_shared_slice_known.shared-slice-known.given j)))

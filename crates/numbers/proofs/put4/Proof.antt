@@ -9,7 +9,7 @@ use Rattle.numbers.proofs.put4.Tie as tie
 returns : tie.Need-returns
 returns c = let k = c.before.before.before.before.before.before in
     let a = k.before.before.before.args in
-    mid_over (be2 (a.v / 65536)) (be2 (a.v % 65536)) a.bytes.now _ _ 2 refl k.put2.ensures c.before.before.put22.ensures
+    mid_over (be2 (a.v / 65536)) (be2 (a.v % 65536)) a.bytes.now _ _ 2 refl k.put2.ensures c.before.before.put2-2.ensures
 
 pub put4_spec : {M : Type 1} → statement M
 put4_spec =

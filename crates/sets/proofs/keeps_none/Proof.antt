@@ -6,7 +6,7 @@ use Rattle.entries.specs.Questions.{is_empty}
 use Rattle.answers.specs.Answers.{Answer, truth}
 use Rattle.blocks.specs.Blocks.{entries_of, set_layout}
 use Rattle.blocks.proofs.Judging.{verdict_sound}
-use Rattle.sweeps.specs.Sweeps.{result}
+use Rattle.sweeps.specs.Sweeps.{sweep_result}
 use Rattle.sweeps.proofs.Tables.{input, fit_set}
 use Rattle.sets.proofs.Operating.{refuse_first, refuse_second, give_two, empty_no, empty_yes}
 use native.Mathlib.Omega.{arith}
@@ -16,7 +16,7 @@ use Rattle.sets.proofs.keeps_none.Tie as tie
 
 -- the answer: whether the table keeps nothing
 abbrev none_kept : ℕ → List Entry → List Entry → Answer
-none_kept t es fs = truth (is_empty (result t 2 es fs []))
+none_kept t es fs = truth (is_empty (sweep_result t 2 es fs []))
 
 returns : tie.Need-returns
 returns c =
@@ -52,7 +52,7 @@ returns_3 c =
     let at_if1 = at_if2.before.before in
     let a = at_if1.before.before.before.before.args in
     give_two a.a.now a.b.now (none_kept a.table) _ at_if1.before.judge.ensures at_if1.if1.false _ at_if2.before.judge2.ensures _
-    at_if2.if2.false (empty_no (result a.table 2 (entries_of 2 a.a.now) (entries_of 2 a.b.now) []) _ c.before.any-of-two.ensures
+    at_if2.if2.false (empty_no (sweep_result a.table 2 (entries_of 2 a.a.now) (entries_of 2 a.b.now) []) _ c.before.any-of-two.ensures
     c.if3.true)
 
 returns_4 : tie.Need-returns-4
@@ -61,7 +61,7 @@ returns_4 c =
     let at_if1 = at_if2.before.before in
     let a = at_if1.before.before.before.before.args in
     give_two a.a.now a.b.now (none_kept a.table) _ at_if1.before.judge.ensures at_if1.if1.false _ at_if2.before.judge2.ensures _
-    at_if2.if2.false (empty_yes (result a.table 2 (entries_of 2 a.a.now) (entries_of 2 a.b.now) []) _ c.before.any-of-two.ensures
+    at_if2.if2.false (empty_yes (sweep_result a.table 2 (entries_of 2 a.a.now) (entries_of 2 a.b.now) []) _ c.before.any-of-two.ensures
     c.if3.false)
 
 pub keeps_none_spec : {M : Type 1} → statement M
