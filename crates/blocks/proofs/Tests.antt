@@ -99,8 +99,8 @@ pub item_in : (s i n : ℕ) → i < n → s * i + s ≤ s * n
 item_in s i n h = omega (arith, mul-le-mul_left s h, mul-suc s i)
 
 -- the items left to judge
-pub item_from : (s p : ℕ) (w : List ℕ) → item_of s (drop p w) ≡ item_from s w p
-item_from s p w = item_drop s p p (p + 1) (p + 2) w refl (omega arith) refl
+pub item_from_lem : (s p : ℕ) (w : List ℕ) → item_of s (drop p w) ≡ item_from s w p
+item_from_lem s p w = item_drop s p p (p + 1) (p + 2) w refl (omega arith) refl
 
 module _ (s : ℕ) (w : List ℕ) where
   abbrev pub rest : ℕ → ℕ → Bool
@@ -110,7 +110,7 @@ module _ (s : ℕ) (w : List ℕ) where
   two p n m e =
       ap (rest p) e
       ∙ ap (λ (l : List ℕ). andb (fine (item_of s (drop p w)) (item_of s l ∷ [])) (soundb (items_of s (suc m) l))) (drop-drop s p w)
-      ∙ ap₂ (λ (x y : Entry). andb (fine x (y ∷ [])) (rest (p + s) (suc m))) (item_from s p w) (item_from s (p + s) w)
+      ∙ ap₂ (λ (x y : Entry). andb (fine x (y ∷ [])) (rest (p + s) (suc m))) (item_from_lem s p w) (item_from_lem s (p + s) w)
 
   pub rest_more : (p n : ℕ) (t : Bool) → 1 < n → t ≡ fine (item_from s w p) (item_from s w (p + s) ∷ []) → t ≡ true → rest (p + s) (n - 1) ≡ rest p n
   rest_more p n t h e f =
@@ -128,7 +128,7 @@ module _ (s : ℕ) (w : List ℕ) where
 
   pub rest_one : (p n : ℕ) → n ≡ 1 → leb (get_or w p 0) (get_or w (p + 1) 0) ≡ rest p n
   rest_one p n e =
-      sym (ap (rest p) e ∙ ap (λ (x : Entry). andb (andb (leb x.low x.high) true) true) (item_from s p w)
+      sym (ap (rest p) e ∙ ap (λ (x : Entry). andb (andb (leb x.low x.high) true) true) (item_from_lem s p w)
       ∙ unit (leb (get_or w p 0) (get_or w (p + 1) 0)))
     where
       unit : (t : Bool) → andb (andb t true) true ≡ t
