@@ -7,15 +7,15 @@ use borrow.Author.Rules.{rules}
 use Rattle.blocks.proofs.all_sound.Statement.{statement}
 use Rattle.blocks.proofs.all_sound.Tie as tie
 
-items_sound_requires : tie.Need-items-sound-requires
+items_sound_requires : tie.Need-items_sound-requires
 items_sound_requires c κs =
     let start = c.before.before in
-    subst (λ (s : ℕ). Held s start.args.n start.args.block.now) c.if1.true start.requires
+    subst (λ (s : ℕ). Held s start.args.n start.args.block.now) c.if-s-eq2.true start.requires
 
-returns : tie.Need-returns
+returns : tie.Need-returns-then-s-eq2
 returns c =
     let start = c.before.before.before in
-    c.items-sound.ensures ∙ ap (λ (s : ℕ). soundb (items_of s start.args.n (drop 1 start.args.block.now))) (sym c.before.if1.true)
+    c.items_sound.ensures ∙ ap (λ (s : ℕ). soundb (items_of s start.args.n (drop 1 start.args.block.now))) (sym c.before.if-s-eq2.true)
 
 pub all_sound_spec : {M : Type 1} → statement M
 all_sound_spec =

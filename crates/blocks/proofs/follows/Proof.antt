@@ -8,7 +8,7 @@ use borrow.Author.Rules.{rules}
 use Rattle.blocks.proofs.follows.Statement.{statement}
 use Rattle.blocks.proofs.follows.Tie as tie
 
-returns : tie.Need-returns
+returns : tie.Need-returns-then-high-low
 returns c =
     let start = c.before.before.before.before in
     let w = start.args.block.now in
@@ -16,7 +16,7 @@ returns c =
     let f = item_from start.args.s w (start.args.p + start.args.s) in
     backwards e f (omega arith)
 
-returns_2 : tie.Need-returns-2
+returns_2 : tie.Need-returns-then-next-high
 returns_2 c =
     let start = c.before.before.before.before.before.before in
     let w = start.args.block.now in
@@ -24,7 +24,7 @@ returns_2 c =
     let f = item_from start.args.s w (start.args.p + start.args.s) in
     overlaps e f (omega arith) (omega arith)
 
-returns_3 : tie.Need-returns-3
+returns_3 : tie.Need-returns-then-next-high-gt1
 returns_3 c =
     let start = c.before.before.before.before.before.before.before in
     let w = start.args.block.now in
@@ -32,23 +32,23 @@ returns_3 c =
     let f = item_from start.args.s w (start.args.p + start.args.s) in
     apart e f (omega arith) (omega arith) (omega arith)
 
-returns_4 : tie.Need-returns-4
+returns_4 : tie.Need-returns-then-same_words
 returns_4 c =
     let at_same_words = c.before in
     let start = at_same_words.before.before.before.before.before.before.before.before in
     let w = start.args.block.now in
     let e = item_from start.args.s w start.args.p in
     let f = item_from start.args.s w (start.args.p + start.args.s) in
-    touching e f (omega arith) (omega arith) (omega arith) true (sym at_same_words.same-words.ensures ∙ c.if4.true)
+    touching e f (omega arith) (omega arith) (omega arith) true (sym at_same_words.same_words.ensures ∙ c.if-same_words.true)
 
-returns_5 : tie.Need-returns-5
+returns_5 : tie.Need-returns
 returns_5 c =
     let at_same_words = c.before in
     let start = at_same_words.before.before.before.before.before.before.before.before in
     let w = start.args.block.now in
     let e = item_from start.args.s w start.args.p in
     let f = item_from start.args.s w (start.args.p + start.args.s) in
-    touching e f (omega arith) (omega arith) (omega arith) false (sym at_same_words.same-words.ensures ∙ c.if4.false)
+    touching e f (omega arith) (omega arith) (omega arith) false (sym at_same_words.same_words.ensures ∙ c.if-same_words.false)
 
 pub follows_spec : {M : Type 1} → statement M
 follows_spec =

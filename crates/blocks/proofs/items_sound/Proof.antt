@@ -9,81 +9,81 @@ use native.Mathlib.Omega.{arith}
 use Rattle.blocks.proofs.items_sound.Statement.{statement}
 use Rattle.blocks.proofs.items_sound.Tie as tie
 
-abbrev invariant-loop : tie.invariant-loop
+abbrev invariant-loop : tie.invariant-loop-left
 invariant-loop block s n p₀ left₀ p left = (0 < p) × (p + s * left ≤ length block) × (rest s block p left ≡ rest s block 1 n)
 
-abbrev decreases-loop : tie.decreases-loop
+abbrev decreases-loop : tie.decreases-loop-left
 decreases-loop block s n p₀ left₀ p left = left
 
-loop_holds : tie.Need-loop-init invariant-loop decreases-loop
+loop_holds : tie.Need-loop-left-init invariant-loop decreases-loop
 loop_holds c = (search rules, c.before.requires.held, refl)
 
 follows_requires : tie.Need-follows-requires invariant-loop decreases-loop
 follows_requires c κs =
     let at_loop = c.before in
     let start = at_loop.before.before in
-    let l = at_loop.loop in (search rules, omega (arith, some_left start.args.s l.left 2 (omega arith)))
+    let l = at_loop.loop-left in (search rules, omega (arith, some_left start.args.s l.left 2 (omega arith)))
 
-add_p : tie.Need-overflow-add-p invariant-loop decreases-loop
+add_p : tie.Need-overflow_add-p invariant-loop decreases-loop
 add_p c =
     let at_loop = c.before.before.before in
     let start = at_loop.before.before in
-    let l = at_loop.loop in omega (arith, some_left start.args.s l.left 1 (omega arith))
+    let l = at_loop.loop-left in omega (arith, some_left start.args.s l.left 1 (omega arith))
 
-loop_again : tie.Need-loop-preserved invariant-loop decreases-loop
+loop_again : tie.Need-loop-left-preserved invariant-loop decreases-loop
 loop_again c =
     let at_follows = c.before in
     let at_loop_test = at_follows.before in
     let at_loop = at_loop_test.before in
     let start = at_loop.before.before in
-    let l = at_loop.loop in (
+    let l = at_loop.loop-left in (
       omega arith,
       omega (arith, less_one_lem start.args.s l.left (omega arith)),
       rest_more start.args.s start.args.block.now l.p
-          l.left _ at_loop_test.loop-test.true at_follows.follows.ensures c.if1.true ∙ l.invariant.2,
+          l.left _ at_loop_test.loop-left-test.true at_follows.follows.ensures c.if-follows.true ∙ l.invariant.2,
     )
 
-returns : tie.Need-returns invariant-loop decreases-loop
+returns : tie.Need-returns-else-follows invariant-loop decreases-loop
 returns c =
     let at_follows = c.before in
     let at_loop_test = at_follows.before in
     let at_loop = at_loop_test.before in
     let start = at_loop.before.before in
-    let l = at_loop.loop in
-    rest_bad start.args.s start.args.block.now l.p l.left _ at_loop_test.loop-test.true at_follows.follows.ensures
-    c.if1.false ∙ l.invariant.2
+    let l = at_loop.loop-left in
+    rest_bad start.args.s start.args.block.now l.p l.left _ at_loop_test.loop-left-test.true at_follows.follows.ensures
+    c.if-follows.false ∙ l.invariant.2
 
-returns_2 : tie.Need-returns-2 invariant-loop decreases-loop
+returns_2 : tie.Need-returns-then-left-eq0 invariant-loop decreases-loop
 returns_2 c =
     let at_loop = c.before.before in
     let start = at_loop.before.before in
-    let l = at_loop.loop in rest_none start.args.s start.args.block.now l.p l.left c.if2.true ∙ l.invariant.2
+    let l = at_loop.loop-left in rest_none start.args.s start.args.block.now l.p l.left c.if-left-eq0.true ∙ l.invariant.2
 
-word_requires : tie.Need-word-requires invariant-loop decreases-loop
+word_requires : tie.Need-word-low-requires invariant-loop decreases-loop
 word_requires c κs =
     let at_loop = c.before.before in
     let start = at_loop.before.before in
-    let l = at_loop.loop in omega (arith, some_left start.args.s l.left 1 (omega arith))
+    let l = at_loop.loop-left in omega (arith, some_left start.args.s l.left 1 (omega arith))
 
-add_word : tie.Need-overflow-add-word invariant-loop decreases-loop
+add_word : tie.Need-overflow_add-p-2 invariant-loop decreases-loop
 add_word c =
     let at_loop = c.before.before.before in
     let start = at_loop.before.before in
-    let l = at_loop.loop in omega (arith, some_left start.args.s l.left 1 (omega arith))
+    let l = at_loop.loop-left in omega (arith, some_left start.args.s l.left 1 (omega arith))
 
-word_requires_2 : tie.Need-word-requires-2 invariant-loop decreases-loop
+word_requires_2 : tie.Need-word-requires invariant-loop decreases-loop
 word_requires_2 c κs =
     let at_loop = c.before.before.before in
     let start = at_loop.before.before in
-    let l = at_loop.loop in omega (arith, some_left start.args.s l.left 1 (omega arith))
+    let l = at_loop.loop-left in omega (arith, some_left start.args.s l.left 1 (omega arith))
 
-returns_3 : tie.Need-returns-3 invariant-loop decreases-loop
+returns_3 : tie.Need-returns invariant-loop decreases-loop
 returns_3 c =
     let at_word = c.before in
     let at_loop = at_word.before.before.before in
     let start = at_loop.before.before in
-    let l = at_loop.loop in
-    ap₂ leb at_word.word.ensures c.word2.ensures ∙ rest_one start.args.s start.args.block.now l.p l.left (omega arith)
+    let l = at_loop.loop-left in
+    ap₂ leb at_word.word-low.ensures c.word.ensures ∙ rest_one start.args.s start.args.block.now l.p l.left (omega arith)
     ∙ l.invariant.2
 
 pub items_sound_spec : {M : Type 1} → statement M

@@ -10,28 +10,28 @@ use borrow.Author.Rules.{rules}
 use Rattle.blocks.proofs.paste.Statement.{statement}
 use Rattle.blocks.proofs.paste.Tie as tie
 
-abbrev invariant-loop : tie.invariant-loop
+abbrev invariant-loop : tie.invariant-loop-k
 invariant-loop block₀ to new k₀ block k = (k ≤ length new) × Copied new block₀ 0 to 0 k block
 
-abbrev decreases-loop : tie.decreases-loop
+abbrev decreases-loop : tie.decreases-loop-k
 decreases-loop block₀ to new k₀ block k = length new - k
 
-loop_holds : tie.Need-loop-init invariant-loop decreases-loop
+loop_holds : tie.Need-loop-k-init invariant-loop decreases-loop
 loop_holds c = (search rules, copied_none _ _ _ _ 0)
 
-loop_again : tie.Need-loop-preserved invariant-loop decreases-loop
+loop_again : tie.Need-loop-k-preserved invariant-loop decreases-loop
 loop_again c =
     let at_loop = c.before.before in (
       omega arith,
-      copied_more _ _ _ _ _ _ 0 _ _ _ _ at_loop.loop.invariant.1 (simp zero-add) (omega arith) (omega arith) (omega arith) (omega arith)
+      copied_more _ _ _ _ _ _ 0 _ _ _ _ at_loop.loop-k.invariant.1 (simp zero-add) (omega arith) (omega arith) (omega arith) (omega arith)
           (omega arith) (omega arith),
     )
 
-same_length : tie.Need-same-length invariant-loop decreases-loop
-same_length c = c.before.loop.invariant.1.same
+same_length : tie.Need-shape_of-block invariant-loop decreases-loop
+same_length c = c.before.loop-k.invariant.1.same
 
 returns : tie.Need-returns invariant-loop decreases-loop
-returns c = let e : c.before.loop.k ≡ length c.before.before.args.new.now = omega arith in rw e at c.before.loop.invariant.1
+returns c = let e : c.before.loop-k.k ≡ length c.before.before.args.new.now = omega arith in rw e at c.before.loop-k.invariant.1
 
 pub paste_spec : {M : Type 1} → statement M
 paste_spec =

@@ -8,28 +8,28 @@ use borrow.Author.Rules.{rules}
 use Rattle.blocks.proofs.shift_up.Statement.{statement}
 use Rattle.blocks.proofs.shift_up.Tie as tie
 
-abbrev invariant-loop : tie.invariant-loop
+abbrev invariant-loop : tie.invariant-loop-k
 invariant-loop block₀ from to len k₀ block k = (k ≤ len) × Copied block₀ block₀ from to k len block
 
-abbrev decreases-loop : tie.decreases-loop
+abbrev decreases-loop : tie.decreases-loop-k
 decreases-loop block₀ from to len k₀ block k = k
 
-loop_holds : tie.Need-loop-init invariant-loop decreases-loop
+loop_holds : tie.Need-loop-k-init invariant-loop decreases-loop
 loop_holds c = (search rules, copied_none _ _ _ _ _)
 
-loop_again : tie.Need-loop-preserved invariant-loop decreases-loop
+loop_again : tie.Need-loop-k-preserved invariant-loop decreases-loop
 loop_again c =
     let at_loop = c.before.before in (
       omega arith,
-      copied_more _ _ _ _ _ _ _ _ _ _ _ at_loop.loop.invariant.1 (at_loop.loop.invariant.1.before _ (omega arith)) (omega arith)
+      copied_more _ _ _ _ _ _ _ _ _ _ _ at_loop.loop-k.invariant.1 (at_loop.loop-k.invariant.1.before _ (omega arith)) (omega arith)
           (omega arith) (omega arith) (omega arith) (omega arith) (omega arith),
     )
 
-same_length : tie.Need-same-length invariant-loop decreases-loop
-same_length c = c.before.loop.invariant.1.same
+same_length : tie.Need-shape_of-block invariant-loop decreases-loop
+same_length c = c.before.loop-k.invariant.1.same
 
 returns : tie.Need-returns invariant-loop decreases-loop
-returns c = let e : c.before.loop.k ≡ 0 = omega arith in rw e at c.before.loop.invariant.1
+returns c = let e : c.before.loop-k.k ≡ 0 = omega arith in rw e at c.before.loop-k.invariant.1
 
 pub shift_up_spec : {M : Type 1} → statement M
 shift_up_spec =

@@ -13,7 +13,7 @@ returns c =
     spliced _ _ _ _ _ _ _ _ _ _ _ refl refl (omega arith) (omega arith) (omega arith) (omega arith) at_shift.shift.ensures
     at_paste.paste.ensures at_clear.clear.ensures
 
-same_length : tie.Need-same-length
+same_length : tie.Need-shape_of-block
 same_length c = (returns c).0
 
 pub splice_spec : {M : Type 1} → statement M
