@@ -4,7 +4,7 @@ use borrow.Author.Rules.{rules}
 use Rattle.checks.proofs.crc_byte.Statement.{statement}
 use Rattle.checks.proofs.crc_byte.Tie as tie
 
-mul_result_3 : tie.Need-overflow-mul-result-3
+mul_result_3 : tie.Need-overflow_mul-result-3
 mul_result_3 c = record { fits = omega (arith, turned_lt c.args.s c.args.x c.requires.0 c.requires.1) }
 
 returns : tie.Need-returns

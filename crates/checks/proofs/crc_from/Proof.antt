@@ -5,7 +5,7 @@ use Rattle.checks.proofs.crc_from.Statement.{statement}
 use Rattle.checks.proofs.crc_from.Tie as tie
 
 returns : tie.Need-returns
-returns c = (c.crc-byte.ensures.0 ∙ ap (crc_byte crc_start) c.before.wide.ensures.0, search rules)
+returns c = (c.crc_byte.ensures.0 ∙ ap (crc_byte crc_start) c.before.wide.ensures.0, search rules)
 
 pub crc_from_spec : {M : Type 1} → statement M
 crc_from_spec =

@@ -12,31 +12,31 @@ use borrow.Author.Rules.{rules}
 use Rattle.checks.proofs.crc_words.Statement.{statement}
 use Rattle.checks.proofs.crc_words.Tie as tie
 
-abbrev invariant-loop : tie.invariant-loop
+abbrev invariant-loop : tie.invariant-loop-j
 invariant-loop kind words u₀ j₀ u j = (j ≤ length words) × (crc (kind ∷ word_bytes words) ≡ on_word u (word_bytes (drop j words)))
 
-abbrev decreases-loop : tie.decreases-loop
+abbrev decreases-loop : tie.decreases-loop-j
 decreases-loop kind words u₀ j₀ u j = length words - j
 
-loop_holds : tie.Need-loop-init invariant-loop decreases-loop
+loop_holds : tie.Need-loop-j-init invariant-loop decreases-loop
 loop_holds c =
     let a = c.before.before.before.before.args in
     let m = bytes_more a.words.now 0 (search rules) in
-    (search rules, crc_kind a.kind (word_bytes a.words.now) ∙ cc (c.joined.ensures (word_bytes (drop 1 a.words.now))))
+    (search rules, crc_kind a.kind (word_bytes a.words.now) ∙ cc (c.joined-u.ensures (word_bytes (drop 1 a.words.now))))
 
-loop_again : tie.Need-loop-preserved invariant-loop decreases-loop
+loop_again : tie.Need-loop-j-preserved invariant-loop decreases-loop
 loop_again c =
     let l = c.before.before.before in
     let ws = l.before.before.before.before.before.args.words.now in
-    let m : Mixed l.loop.u (get_or ws l.loop.j 0) c.mixed.result = c.mixed.ensures in
-    (search rules, l.loop.invariant.1 ∙ ap (on_word l.loop.u) (bytes_more ws l.loop.j (search rules)) ∙ m _)
+    let m : Mixed l.loop-j.u (get_or ws l.loop-j.j 0) c.mixed-u.result = c.mixed-u.ensures in
+    (search rules, l.loop-j.invariant.1 ∙ ap (on_word l.loop-j.u) (bytes_more ws l.loop-j.j (search rules)) ∙ m _)
 
 returns : tie.Need-returns invariant-loop decreases-loop
 returns c =
     let l = c.before.before in
     let ws = l.before.before.before.before.before.args.words.now in
-    let d : drop l.loop.j ws ≡ [] = drop_of_length-le ws {i = l.loop.j} (search rules) in
-    (c.reduced.ensures.0 ∙ sym (l.loop.invariant.1 ∙ ap (λ (x : List ℕ). on_word l.loop.u (word_bytes x)) d), search rules)
+    let d : drop l.loop-j.j ws ≡ [] = drop_of_length-le ws {i = l.loop-j.j} (search rules) in
+    (c.reduced.ensures.0 ∙ sym (l.loop-j.invariant.1 ∙ ap (λ (x : List ℕ). on_word l.loop-j.u (word_bytes x)) d), search rules)
 
 pub crc_words_spec : {M : Type 1} → statement M
 crc_words_spec =

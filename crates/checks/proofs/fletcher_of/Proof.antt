@@ -10,30 +10,30 @@ use borrow.Author.Rules.{rules}
 use Rattle.checks.proofs.fletcher_of.Statement.{statement}
 use Rattle.checks.proofs.fletcher_of.Tie as tie
 
-abbrev invariant-loop : tie.invariant-loop
+abbrev invariant-loop : tie.invariant-loop-i
 invariant-loop bytes a₀ b₀ i₀ a b i = (i ≤ length bytes) × (length bytes ≤ 33) × (a ≤ 255 * i) × (b ≤ 8415 * i) × (fletcher 0 0 bytes ≡ from a b
     (drop i bytes))
 
-abbrev decreases-loop : tie.decreases-loop
+abbrev decreases-loop : tie.decreases-loop-i
 decreases-loop bytes a₀ b₀ i₀ a b i = length bytes - i
 
-loop_holds : tie.Need-loop-init invariant-loop decreases-loop
+loop_holds : tie.Need-loop-i-init invariant-loop decreases-loop
 loop_holds c = (search rules, search rules, search rules, search rules, refl)
 
-loop_again : tie.Need-loop-preserved invariant-loop decreases-loop
+loop_again : tie.Need-loop-i-preserved invariant-loop decreases-loop
 loop_again c = let l = c.before.before.before in (
   search rules,
   search rules,
   search rules,
   search rules,
-  l.loop.invariant.4 ∙ sums_step
-      l.before.before.args.bytes.now l.loop.i l.loop.a l.loop.b _ c.wide.ensures.0 (search rules),
+  l.loop-i.invariant.4 ∙ sums_step
+      l.before.before.args.bytes.now l.loop-i.i l.loop-i.a l.loop-i.b _ c.wide-a.ensures.0 (search rules),
 )
 
 returns : tie.Need-returns invariant-loop decreases-loop
 returns c = let l = c.before.before in (
-  c.check-from.ensures.0 ∙ sym (l.loop.invariant.4 ∙ sums_end l.before.before.args.bytes.now l.loop.i
-      l.loop.a l.loop.b (search rules)),
+  c.check_from.ensures.0 ∙ sym (l.loop-i.invariant.4 ∙ sums_end l.before.before.args.bytes.now l.loop-i.i
+      l.loop-i.a l.loop-i.b (search rules)),
   search rules,
 )
 

@@ -4,7 +4,7 @@ use Rattle.checks.proofs.mixed.Statement.{statement}
 use Rattle.checks.proofs.mixed.Tie as tie
 
 returns : tie.Need-returns
-returns c = mixed_law _ _ c.carried.result (search rules) (search rules) (search rules) c.carried.ensures
+returns c = mixed_law _ _ c.carried-q.result (search rules) (search rules) (search rules) c.carried-q.ensures
 
 pub mixed_spec : {M : Type 1} → statement M
 mixed_spec =

@@ -4,7 +4,7 @@ use Rattle.checks.proofs.reduced.Statement.{statement}
 use Rattle.checks.proofs.reduced.Tie as tie
 
 returns : tie.Need-returns
-returns c = reduced_law _ c.carried.result (search rules) c.carried.ensures
+returns c = reduced_law _ c.carried-q.result (search rules) c.carried-q.ensures
 
 pub reduced_spec : {M : Type 1} → statement M
 reduced_spec =

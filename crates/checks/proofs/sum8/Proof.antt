@@ -6,7 +6,7 @@ use Rattle.checks.proofs.sum8.Tie as tie
 returns : tie.Need-returns
 returns c = let a = c.before.before.before.before.before.args in record {
   on = eight_on a.s.a a.s.b a.v _ _ c.before.weight.ensures.0
-      c.weight2.ensures.0;
+      c.weight-2.ensures.0;
   first = search rules;
   second = search rules;
 }
