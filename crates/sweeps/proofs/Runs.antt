@@ -17,7 +17,7 @@ use Rattle.entries.specs.Build.{pick}
 use Rattle.entries.proofs.Sides.{val_in, val_past, none_under}
 use Rattle.blocks.specs.Blocks.{items_of, entries_of}
 use Rattle.blocks.specs.Steps.{item_from}
-use Rattle.blocks.proofs.Tests.{item_from}
+use Rattle.blocks.proofs.Tests.{item_from_lem}
 use Rattle.sweeps.specs.Sweeps.{bit, Input}
 use Rattle.sweeps.specs.declared.Cursor.{Cursor}
 use Rattle.sweeps.specs.Cursors.{Turn, items, cursor, turn, Ahead, Cur, Sided, Point, TurnAt}
@@ -25,7 +25,7 @@ use Rattle.sweeps.specs.Cursors.{Turn, items, cursor, turn, Ahead, Cur, Sided, P
 -- items by place and by what is left of the words
 pub items_are : (s k p : ℕ) (w : List ℕ) → items s k p w ≡ items_of s k (drop p w)
 items_are s zero p w = refl
-items_are s (suc k) p w = ap₂ ◌∷◌ (sym (item_from s p w)) (items_are s k (p + s) w ∙ ap (items_of s k) (sym (drop-drop s p w)))
+items_are s (suc k) p w = ap₂ ◌∷◌ (sym (item_from_lem s p w)) (items_are s k (p + s) w ∙ ap (items_of s k) (sym (drop-drop s p w)))
 
 cursor_is : (c : Cursor) (b : Bool) → c.inside ≡ b → cursor c.place b c.end ≡ c
 cursor_is c b e = λ i. record { place = c.place; inside = sym e i; end = c.end }

@@ -5,7 +5,7 @@ use Rattle.sweeps.proofs.accepted.Tie as tie
 
 returns : tie.Need-returns
 unfolding accepts
-returns c = rw (c.bit-of3.ensures.0, c.before.bit-of2.ensures.0, c.before.before.bit-of.ensures.0)
+returns c = rw (c.bit_of-3.ensures.0, c.before.bit_of-2.ensures.0, c.before.before.bit_of.ensures.0)
 
 pub accepted_spec : {M : Type 1} → statement M
 accepted_spec =

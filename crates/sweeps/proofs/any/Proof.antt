@@ -5,13 +5,13 @@ use borrow.Author.Rules.{rules}
 use Rattle.sweeps.proofs.any.Statement.{statement}
 use Rattle.sweeps.proofs.any.Tie as tie
 
-sweep_requires : tie.Need-sweep-requires
+sweep_requires : tie.Need-sweep-n-requires
 sweep_requires c κs =
     let start = c.before.before.before.before in
     (start.requires.0, (start.requires.1, omega (arith, mul-zero start.args.plan.out)))
 
 returns : tie.Need-returns
-returns c = some_met _ c.before.sweep.result c.before.sweep.ensures.size
+returns c = some_met _ c.before.sweep-n.result c.before.sweep-n.ensures.size
 
 pub any_spec : {M : Type 1} → statement M
 any_spec =

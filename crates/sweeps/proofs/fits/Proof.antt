@@ -5,21 +5,21 @@ use borrow.Author.Rules.{rules}
 use Rattle.sweeps.proofs.fits.Statement.{statement}
 use Rattle.sweeps.proofs.fits.Tie as tie
 
-returns : tie.Need-returns
+returns : tie.Need-returns-then-bound-cap
 returns c =
     let start = c.before.before.before.before in
-    bound_fits _ start.args.bound start.args.cap start.requires.1.1.1 c.if1.true
+    bound_fits _ start.args.bound start.args.cap start.requires.1.1.1 c.if-bound-cap.true
 
-sweep_requires : tie.Need-sweep-requires
+sweep_requires : tie.Need-sweep-n-requires
 sweep_requires c κs =
     let start = c.before.before.before.before.before in
     (start.requires.0, (start.requires.1.0, omega (arith, mul-zero start.args.plan.out)))
 
-returns_2 : tie.Need-returns-2
+returns_2 : tie.Need-returns
 returns_2 c =
     let at_sweep = c.before in
     let start = at_sweep.before.before.before.before.before.before in
-    few_enough _ at_sweep.sweep.result start.args.cap at_sweep.sweep.ensures.size
+    few_enough _ at_sweep.sweep-n.result start.args.cap at_sweep.sweep-n.ensures.size
 
 pub fits_spec : {M : Type 1} → statement M
 fits_spec =

@@ -5,29 +5,29 @@ use borrow.Author.Rules.{rules}
 use Rattle.sweeps.proofs.lay.Statement.{statement}
 use Rattle.sweeps.proofs.lay.Tie as tie
 
-mul_o : tie.Need-overflow-mul-o
-mul_o c = let a = c.before.before in record { fits = omega (arith, c.more.ensures, bit_one a.args.join) }
+mul_o : tie.Need-offset_bounds-o-low
+mul_o c = let a = c.before.before in record { fits = omega (arith, c.more-low.ensures, bit_one a.args.join) }
 
-slice_write_o : tie.Need-slice-write-o
-slice_write_o c = let a = c.before.before in omega (arith, c.more.ensures, bit_one a.args.join)
+slice_write_o : tie.Need-bounds-o-low
+slice_write_o c = let a = c.before.before in omega (arith, c.more-low.ensures, bit_one a.args.join)
 
-returns : tie.Need-returns
+returns : tie.Need-returns-then-s-eq2
 returns c =
     let at_more = c.before in
     let start = at_more.before.before in
-    lay_two _ _ _ _ _ start.args.join _ at_more.more.ensures _ start.requires.0 start.requires.2 c.if1.true
+    lay_two _ _ _ _ _ start.args.join _ at_more.more-low.ensures _ start.requires.0 start.requires.2 c.if-s-eq2.true
 
-returns_2 : tie.Need-returns-2
+returns_2 : tie.Need-returns-then-s-eq3
 returns_2 c =
     let at_more = c.before.before in
     let start = at_more.before.before in
-    lay_three _ _ _ _ _ start.args.join _ at_more.more.ensures _ start.requires.0 start.requires.2 c.if2.true
+    lay_three _ _ _ _ _ start.args.join _ at_more.more-low.ensures _ start.requires.0 start.requires.2 c.if-s-eq3.true
 
-returns_3 : tie.Need-returns-3
+returns_3 : tie.Need-returns
 returns_3 c =
     let at_more = c.before.before in
     let start = at_more.before.before in
-    lay_four _ _ _ _ _ start.args.join _ at_more.more.ensures _ start.requires.0 start.requires.2 (omega arith)
+    lay_four _ _ _ _ _ start.args.join _ at_more.more-low.ensures _ start.requires.0 start.requires.2 (omega arith)
 
 pub lay_spec : {M : Type 1} → statement M
 lay_spec =

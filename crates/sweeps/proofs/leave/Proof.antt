@@ -5,58 +5,58 @@ use borrow.Author.Rules.{rules}
 use Rattle.sweeps.proofs.leave.Statement.{statement}
 use Rattle.sweeps.proofs.leave.Tie as tie
 
-word_requires : tie.Need-word-requires
+word_requires : tie.Need-word-high-requires
 word_requires c κs =
     let a = c.before in
     omega (arith, in_here a.args.s a.args.w.now a.args.x a.requires.0 a.requires.1, a.requires.0.two)
 
-returns : tie.Need-returns
+returns : tie.Need-returns-then-q-end
 returns c =
     let at_word = c.before in
     let start = at_word.before.before in
-    leave_last start.args.s start.args.w.now start.args.x start.requires.0 start.requires.1 at_word.word.result _
-    at_word.word.ensures refl c.if1.true
+    leave_last start.args.s start.args.w.now start.args.x start.requires.0 start.requires.1 at_word.word-high.result _
+    at_word.word-high.ensures refl c.if-q-end.true
 
-word_requires_2 : tie.Need-word-requires-2
+word_requires_2 : tie.Need-word-low-requires
 word_requires_2 c κs =
     let at_word = c.before in
     let start = at_word.before.before in
     omega (
       arith,
-      next_here start.args.s start.args.w.now start.args.x start.requires.0 start.requires.1 at_word.word.result _
-          at_word.word.ensures refl c.if1.false,
+      next_here start.args.s start.args.w.now start.args.x start.requires.0 start.requires.1 at_word.word-high.result _
+          at_word.word-high.ensures refl c.if-q-end.false,
       start.requires.0.two,
     )
 
-sub_if2 : tie.Need-overflow-sub-if2
+sub_if2 : tie.Need-overflow_sub-low
 sub_if2 c =
     let at_if1 = c.before in
     let at_word = at_if1.before in
     let start = at_word.before.before in
     omega (
       arith,
-      next_later start.args.s start.args.w.now start.args.x start.requires.0 start.requires.1 at_word.word.result _
-          at_word.word.ensures refl at_if1.if1.false,
-      c.word2.ensures,
+      next_later start.args.s start.args.w.now start.args.x start.requires.0 start.requires.1 at_word.word-high.result _
+          at_word.word-high.ensures refl at_if1.if-q-end.false,
+      c.word-low.ensures,
     )
 
-returns_2 : tie.Need-returns-2
+returns_2 : tie.Need-returns-then-low-high-eq1
 returns_2 c =
     let at_word2 = c.before in
     let at_if1 = at_word2.before in
     let at_word = at_if1.before in
     let start = at_word.before.before in
-    leave_touching start.args.s start.args.w.now start.args.x start.requires.0 start.requires.1 at_word.word.result _
-    at_word.word.ensures refl at_if1.if1.false at_word2.word2.result at_word2.word2.ensures c.if2.true
+    leave_touching start.args.s start.args.w.now start.args.x start.requires.0 start.requires.1 at_word.word-high.result _
+    at_word.word-high.ensures refl at_if1.if-q-end.false at_word2.word-low.result at_word2.word-low.ensures c.if-low-high-eq1.true
 
-returns_3 : tie.Need-returns-3
+returns_3 : tie.Need-returns
 returns_3 c =
     let at_word2 = c.before in
     let at_if1 = at_word2.before in
     let at_word = at_if1.before in
     let start = at_word.before.before in
-    leave_apart start.args.s start.args.w.now start.args.x start.requires.0 start.requires.1 at_word.word.result _
-    at_word.word.ensures refl at_if1.if1.false at_word2.word2.result at_word2.word2.ensures c.if2.false
+    leave_apart start.args.s start.args.w.now start.args.x start.requires.0 start.requires.1 at_word.word-high.result _
+    at_word.word-high.ensures refl at_if1.if-q-end.false at_word2.word-low.result at_word2.word-low.ensures c.if-low-high-eq1.false
 
 pub leave_spec : {M : Type 1} → statement M
 leave_spec =

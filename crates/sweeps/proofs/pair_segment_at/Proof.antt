@@ -21,16 +21,16 @@ returns c =
     let at_flip = at_flip2.before in
     let start = at_flip.before.before.before.before in (
       segment_made (set_plan start.args.table) start.args.a.now start.args.b.now start.args.c.now start.args.x
-          start.args.at start.args.sides start.args.ends at_flip.flip.result at_flip2.flip2.result
-          (record { last = M; next = start.args.at.c; then = start.args.sides.c }) _ at_least_lem.least.result (
-            at_flip.flip.ensures,
-            at_flip2.flip2.ensures,
+          start.args.at start.args.sides start.args.ends at_flip.flip-i.result at_flip2.flip-j.result
+          (record { last = M; next = start.args.at.c; then = start.args.sides.c }) _ at_least_lem.least-e.result (
+            at_flip.flip-i.ensures,
+            at_flip2.flip-j.ensures,
             turn_end 2 start.args.c.now start.args.x start.requires.0.third
                 start.requires.1.0.at_c start.requires.1.1 (omega arith),
-          ) at_least_lem.least.ensures
-          (omega (arith, at_least_lem.least.ensures, at_flip.flip.ensures.fits)) at_accepted.accepted.ensures refl
-          (at_chosen.chosen.ensures, at_chosen2.chosen2.ensures, pick_same (eqb M at_least_lem.least.result) _)
-          (at_turned.turned.ensures, at_turned2.turned2.ensures, pick_same (eqb M at_least_lem.least.result) _),
+          ) at_least_lem.least-e.ensures
+          (omega (arith, at_least_lem.least-e.ensures, at_flip.flip-i.ensures.fits)) at_accepted.accepted-kept.ensures refl
+          (at_chosen.chosen.ensures, at_chosen2.chosen-2.ensures, pick_same (eqb M at_least_lem.least-e.result) _)
+          (at_turned.turned.ensures, at_turned2.turned-2.ensures, pick_same (eqb M at_least_lem.least-e.result) _),
       start.requires.1.1,
     )
 

@@ -19,11 +19,11 @@ returns c =
     let at_run_at = at_run_at2.before in
     let start = at_run_at.before.before.before.before in
     segment_made start.args.plan start.args.a.now start.args.b.now start.args.c.now start.args.x start.args.at
-    start.args.sides start.args.ends at_run_at.run_at.result at_run_at2.run-at2.result at_run_at3.run-at3.result _
-    at_least_lem.least.result (at_run_at.run_at.ensures, at_run_at2.run-at2.ensures, at_run_at3.run-at3.ensures) at_least_lem.least.ensures
-    at_least2.least2.ensures at_accepted.accepted.ensures at_carried.carried.ensures
-    (at_chosen.chosen.ensures, at_chosen2.chosen2.ensures, at_chosen3.chosen3.ensures)
-    (at_turned.turned.ensures, at_turned2.turned2.ensures, c.turned3.ensures)
+    start.args.sides start.args.ends at_run_at.run_at-i.result at_run_at2.run_at-j.result at_run_at3.run_at-k.result _
+    at_least_lem.least.result (at_run_at.run_at-i.ensures, at_run_at2.run_at-j.ensures, at_run_at3.run_at-k.ensures) at_least_lem.least.ensures
+    at_least2.least-e.ensures at_accepted.accepted-kept.ensures at_carried.carried-value.ensures
+    (at_chosen.chosen.ensures, at_chosen2.chosen-2.ensures, at_chosen3.chosen-3.ensures)
+    (at_turned.turned.ensures, at_turned2.turned-2.ensures, c.turned-3.ensures)
 
 pub segment_at_spec : {M : Type 1} → statement M
 segment_at_spec =

@@ -21,11 +21,11 @@ returns c =
     let at_flip = at_flip2.before in
     let start = at_flip.before.before.before.before in
     segment_made (set_plan start.args.table) start.args.a.now start.args.b.now start.args.c.now start.args.x
-    start.args.at start.args.sides start.args.ends at_flip.flip.result at_flip2.flip2.result at_flip3.flip3.result _
-    at_least_lem.least.result (at_flip.flip.ensures, at_flip2.flip2.ensures, at_flip3.flip3.ensures) at_least_lem.least.ensures
-    at_least2.least2.ensures at_accepted.accepted.ensures refl
-    (at_chosen.chosen.ensures, at_chosen2.chosen2.ensures, at_chosen3.chosen3.ensures)
-    (at_turned.turned.ensures, at_turned2.turned2.ensures, at_turned3.turned3.ensures)
+    start.args.at start.args.sides start.args.ends at_flip.flip-i.result at_flip2.flip-j.result at_flip3.flip-k.result _
+    at_least_lem.least.result (at_flip.flip-i.ensures, at_flip2.flip-j.ensures, at_flip3.flip-k.ensures) at_least_lem.least.ensures
+    at_least2.least-e.ensures at_accepted.accepted-kept.ensures refl
+    (at_chosen.chosen.ensures, at_chosen2.chosen-2.ensures, at_chosen3.chosen-3.ensures)
+    (at_turned.turned.ensures, at_turned2.turned-2.ensures, at_turned3.turned-3.ensures)
 
 pub set_segment_at_spec : {M : Type 1} → statement M
 set_segment_at_spec =

@@ -10,28 +10,28 @@ use borrow.Author.Rules.{rules}
 use Rattle.sweeps.proofs.sweep.Statement.{statement}
 use Rattle.sweeps.proofs.sweep.Tie as tie
 
-sweep_sets_requires : tie.Need-sweep-sets-requires
+sweep_sets_requires : tie.Need-sweep_sets-requires
 sweep_sets_requires c κs =
     let at_if1 = c.before in
     let at_only_sets = at_if1.before in
     let start = at_only_sets.before.before.before.before.before in
-    let e = sets_only start.args.plan at_only_sets.only-sets.result at_only_sets.only-sets.ensures at_if1.if1.true in (
+    let e = sets_only start.args.plan at_only_sets.only_sets.result at_only_sets.only_sets.ensures at_if1.if-only_sets.true in (
       subst (λ (p : Plan). Inputs p.a p.b p.c start.args.a.now start.args.b.now start.args.c.now) e start.requires.0,
       subst
           (λ (p : Plan). 1 + p.out * pick start.args.keep (length (result_of p start.args.a.now start.args.b.now start.args.c.now)) 0
           ≤ length start.args.o.now) e start.requires.1.1,
     )
 
-returns : tie.Need-returns
+returns : tie.Need-returns-then-only_sets
 returns c =
     let at_sweep_sets = c.before.before in
     let at_if1 = at_sweep_sets.before.before in
     let at_only_sets = at_if1.before in
     let start = at_only_sets.before.before.before.before.before in
-    let e = sets_only start.args.plan at_only_sets.only-sets.result at_only_sets.only-sets.ensures at_if1.if1.true in
+    let e = sets_only start.args.plan at_only_sets.only_sets.result at_only_sets.only_sets.ensures at_if1.if-only_sets.true in
     subst (λ (p : Plan). Stopped start.args.keep p.out start.args.stop
-    (result_of p start.args.a.now start.args.b.now start.args.c.now) at_sweep_sets.sweep-sets.result
-    at_sweep_sets.sweep-sets.new.1.1.1.1.1.1.0) (sym e) at_sweep_sets.sweep-sets.ensures
+    (result_of p start.args.a.now start.args.b.now start.args.c.now) at_sweep_sets.sweep_sets.result
+    at_sweep_sets.sweep_sets.new.o) (sym e) at_sweep_sets.sweep_sets.ensures
 
 pub sweep_spec : {M : Type 1} → statement M
 sweep_spec =

@@ -6,13 +6,13 @@ use borrow.Author.Rules.{rules}
 use Rattle.sweeps.proofs.sweep_sets.Statement.{statement}
 use Rattle.sweeps.proofs.sweep_sets.Tie as tie
 
-begin_requires : tie.Need-begin-requires
+begin_requires : tie.Need-begin-first-requires
 begin_requires c κs =
     let start = c.before.before.before.before.before in
     subst (λ (p : Plan). Inputs p.a p.b p.c start.args.a.now start.args.b.now start.args.c.now)
-    (sym c.set-plan.ensures) start.requires.0
+    (sym c.set_plan.ensures) start.requires.0
 
-sweep_pair_requires : tie.Need-sweep-pair-requires
+sweep_pair_requires : tie.Need-sweep_pair-requires
 sweep_pair_requires c κs =
     let at_if1 = c.before in
     let at_begin = at_if1.before.before in
@@ -21,13 +21,13 @@ sweep_pair_requires c κs =
       start.requires.0,
       (
         subst
-            (λ (p : Plan). PointsAt p start.args.a.now start.args.b.now start.args.c.now 0 at_begin.begin.result.at
-            at_begin.begin.result.sides at_begin.begin.result.ends) at_set_plan.set-plan.ensures at_begin.begin.ensures,
-        (at_if1.if1.true, start.requires.1),
+            (λ (p : Plan). PointsAt p start.args.a.now start.args.b.now start.args.c.now 0 at_begin.begin-first.result.at
+            at_begin.begin-first.result.sides at_begin.begin-first.result.ends) at_set_plan.set_plan.ensures at_begin.begin-first.ensures,
+        (at_if1.if-first.true, start.requires.1),
       ),
     )
 
-sweep_three_requires : tie.Need-sweep-three-requires
+sweep_three_requires : tie.Need-sweep_three-requires
 sweep_three_requires c κs =
     let at_begin = c.before.before.before in
     let at_set_plan = at_begin.before in
@@ -35,8 +35,8 @@ sweep_three_requires c κs =
       start.requires.0,
       (
         subst
-            (λ (p : Plan). PointsAt p start.args.a.now start.args.b.now start.args.c.now 0 at_begin.begin.result.at
-            at_begin.begin.result.sides at_begin.begin.result.ends) at_set_plan.set-plan.ensures at_begin.begin.ensures,
+            (λ (p : Plan). PointsAt p start.args.a.now start.args.b.now start.args.c.now 0 at_begin.begin-first.result.at
+            at_begin.begin-first.result.sides at_begin.begin-first.result.ends) at_set_plan.set_plan.ensures at_begin.begin-first.ensures,
         start.requires.1,
       ),
     )

@@ -11,14 +11,14 @@ use native.Mathlib.Omega.{arith}
 use Rattle.sweeps.proofs.sweep_three.Statement.{statement}
 use Rattle.sweeps.proofs.sweep_three.Tie as tie
 
-abbrev invariant-loop : tie.invariant-loop
+abbrev invariant-loop : tie.invariant-loop-n
 invariant-loop a b c table stop keep o₀ ends at₀ sides₀ x₀ was₀ before₀ n₀ o at sides x was before n =
     Standing (set_plan table) a b c keep x at sides ends was before n o × (n ≤ stop) × (length o ≡ length o₀)
 
-abbrev decreases-loop : tie.decreases-loop
+abbrev decreases-loop : tie.decreases-loop-n
 decreases-loop a b c table stop keep o₀ ends at₀ sides₀ x₀ was₀ before₀ n₀ o at sides x was before n = past_m - x
 
-loop_holds : tie.Need-loop-init invariant-loop decreases-loop
+loop_holds : tie.Need-loop-n-init invariant-loop decreases-loop
 loop_holds c =
     let start = c.before.before.before.before.before.before.before.before in (
       standing_zero (set_plan start.args.table) start.args.a.now start.args.b.now start.args.c.now start.args.keep _ _ _ _ _
@@ -27,18 +27,18 @@ loop_holds c =
       refl,
     )
 
-add_requires : tie.Need-add-requires invariant-loop decreases-loop
+add_requires : tie.Need-add-n-requires invariant-loop decreases-loop
 add_requires c κs =
     let at_joins = c.before in
     let at_set_segment_at = at_joins.before.before in
     let at_loop_test = at_set_segment_at.before in
     let at_loop = at_loop_test.before in
     let start = at_loop.before.before.before.before.before.before.before.before.before in
-    let l = at_loop.loop in
-    standing_room l.invariant.0 at_set_segment_at.set-segment-at.ensures at_joins.joins.ensures (length l.o) (omega arith) (omega arith)
-    (omega (arith, start.requires.1.1, l.invariant.2)) (omega (arith, at_loop_test.loop-test.true))
+    let l = at_loop.loop-n in
+    standing_room l.invariant.0 at_set_segment_at.set_segment_at-s.ensures at_joins.joins-join.ensures (length l.o) (omega arith) (omega arith)
+    (omega (arith, start.requires.1.1, l.invariant.2)) (omega (arith, at_loop_test.loop-n-test.true))
 
-returns : tie.Need-returns invariant-loop decreases-loop
+returns : tie.Need-returns-then-s invariant-loop decreases-loop
 returns c =
     let at_add = c.before.before.before.before in
     let at_joins = at_add.before.before in
@@ -46,11 +46,11 @@ returns c =
     let at_loop_test = at_set_segment_at.before in
     let at_loop = at_loop_test.before in
     let start = at_loop.before.before.before.before.before.before.before.before.before in
-    let l = at_loop.loop in
-    stopped_end l.invariant.0 at_set_segment_at.set-segment-at.ensures at_joins.joins.ensures at_add.add.new.0 at_add.add.ensures
-    start.args.stop at_loop_test.loop-test.true c.if1.true
+    let l = at_loop.loop-n in
+    stopped_end l.invariant.0 at_set_segment_at.set_segment_at-s.ensures at_joins.joins-join.ensures at_add.add-n.new.o at_add.add-n.ensures
+    start.args.stop at_loop_test.loop-n-test.true c.if-s.true
 
-loop_again : tie.Need-loop-preserved invariant-loop decreases-loop
+loop_again : tie.Need-loop-n-preserved invariant-loop decreases-loop
 loop_again c =
     let at_if1 = c.before.before.before in
     let at_add = at_if1.before.before.before.before in
@@ -58,24 +58,24 @@ loop_again c =
     let at_set_segment_at = at_joins.before.before in
     let at_loop_test = at_set_segment_at.before in
     let at_loop = at_loop_test.before in
-    let l = at_loop.loop in (
-      standing_next l.invariant.0 at_set_segment_at.set-segment-at.ensures at_joins.joins.ensures at_add.add.new.0 at_add.add.ensures
-          at_if1.if1.false,
+    let l = at_loop.loop-n in (
+      standing_next l.invariant.0 at_set_segment_at.set_segment_at-s.ensures at_joins.joins-join.ensures at_add.add-n.new.o at_add.add-n.ensures
+          at_if1.if-s.false,
       omega (
         arith,
-        at_loop_test.loop-test.true,
-        at_add.add.ensures.0,
-        begins_one at_set_segment_at.set-segment-at.result.inside
-            at_joins.joins.result,
+        at_loop_test.loop-n-test.true,
+        at_add.add-n.ensures.0,
+        begins_one at_set_segment_at.set_segment_at-s.result.inside
+            at_joins.joins-join.result,
       ),
-      at_add.add.auto.0 ∙ l.invariant.2,
+      at_add.add-n.auto.o ∙ l.invariant.2,
     )
 
-returns_2 : tie.Need-returns-2 invariant-loop decreases-loop
+returns_2 : tie.Need-returns invariant-loop decreases-loop
 returns_2 c =
     let at_loop = c.before in
     let start = at_loop.before.before.before.before.before.before.before.before.before in
-    let l = at_loop.loop in stopped_early l.invariant.0 start.args.stop l.invariant.1 c.loop-test.false
+    let l = at_loop.loop-n in stopped_early l.invariant.0 start.args.stop l.invariant.1 c.loop-n-test.false
 
 pub sweep_three_spec : {M : Type 1} → statement M
 sweep_three_spec =
