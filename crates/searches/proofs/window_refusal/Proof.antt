@@ -12,7 +12,7 @@ returns c =
     let at_window_verdict = c.before in
     let start = at_window_verdict.before.before in
     answered_by (window_refusals start.args.layout start.args.block.now start.args.a start.args.b)
-    (at 0 at_window_verdict.window-verdict.result) at_window_verdict.window-verdict.ensures [] c.judged-of.result c.judged-of.ensures
+    (at 0 at_window_verdict.window_verdict.result) at_window_verdict.window_verdict.ensures [] c.judged_of.result c.judged_of.ensures
 
 pub window_refusal_spec : {M : Type 1} → statement M
 window_refusal_spec =
