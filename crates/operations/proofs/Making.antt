@@ -10,7 +10,7 @@ use borrow.Author.Tests.{leb-true, leb-false, le-ltb, lt-ltb, eq-eqb, ne_eqb}
 use Rattle.entries.specs.Entries.{Entry}
 use Rattle.entries.specs.Build.{pick}
 use Rattle.answers.specs.declared.Judged.{Judged}
-use Rattle.answers.specs.Answers.{Outcome, outcome, given, judged as judgedBy, last_number}
+use Rattle.answers.specs.Answers.{Outcome, outcome, given, judged as judged_by, last_number}
 use Rattle.answers.specs.Says.{judged_says, judged_of}
 use Rattle.answers.proofs.Numbers.{judged_says_lem}
 use Rattle.blocks.specs.declared.Layout.{Layout}
@@ -53,22 +53,22 @@ module _ (position : ℕ) (l : Layout) (es : List Entry) (o : List ℕ) (t : Boo
 
 -- one block judged: refused, or on to the rest
 module _ (l : Layout) (w : List ℕ) (position : ℕ) (o : List ℕ) (next : Outcome) (v : ℕ) (e : v ≡ verdict l w) where
-  pub refused_here : (x : Judged) → (v ≡ 0 → ⊥) → x ≡ judged_of v position → outcome (judged_says x) (o ∷ []) ≡ judgedBy (verdict l w) position (o ∷ []) next
+  pub refused_here : (x : Judged) → (v ≡ 0 → ⊥) → x ≡ judged_of v position → outcome (judged_says x) (o ∷ []) ≡ judged_by (verdict l w) position (o ∷ []) next
   refused_here x n q =
       ap (λ (y : Judged). outcome (judged_says y) (o ∷ [])) (q ∙ ap (λ (k : ℕ). judged_of k position) e)
       ∙ go (verdict l w) (λ z. n (e ∙ z)) (verdict_small l w)
     where
-      go : (k : ℕ) → (k ≡ 0 → ⊥) → k ≤ last_number → outcome (judged_says (judged_of k position)) (o ∷ []) ≡ judgedBy k position (o ∷ []) next
+      go : (k : ℕ) → (k ≡ 0 → ⊥) → k ≤ last_number → outcome (judged_says (judged_of k position)) (o ∷ []) ≡ judged_by k position (o ∷ []) next
       go zero n m = absurd (n refl)
       go (suc k) n m = ap (λ a. outcome a (o ∷ [])) (judged_says_lem (suc k) position m)
 
-  pub passes : (y : Outcome) → v ≡ 0 → y ≡ next → y ≡ judgedBy (verdict l w) position (o ∷ []) next
-  passes y z q = q ∙ sym (ap (λ (m : ℕ). judgedBy m position (o ∷ []) next) (sym e ∙ z))
+  pub passes : (y : Outcome) → v ≡ 0 → y ≡ next → y ≡ judged_by (verdict l w) position (o ∷ []) next
+  passes y z q = q ∙ sym (ap (λ (m : ℕ). judged_by m position (o ∷ []) next) (sym e ∙ z))
 
 -- the output
 module _ (position : ℕ) (o : List ℕ) (next : Outcome) where
   abbrev written : Outcome
-  written = judgedBy (no_block (length o)) position (o ∷ []) next
+  written = judged_by (no_block (length o)) position (o ∷ []) next
 
   pub no_words : (x : Judged) → length o ≡ 0 → x ≡ judged_of 1 position → outcome (judged_says x) (o ∷ []) ≡ written
   no_words x z q = rw (eq-eqb (length o) 0 z) (ap (λ (y : Judged). outcome (judged_says y) (o ∷ [])) q)
@@ -168,13 +168,13 @@ pub two_as : (first second out : Layout) (make by : List Entry → List Entry �
 two_as first second out make by w v o e = go (verdict first w) refl (verdict second v) refl
   where
     tail : List Entry → Outcome
-    tail l = judgedBy (no_block (length o)) 2 (o ∷ []) (stored 2 out o l)
+    tail l = judged_by (no_block (length o)) 2 (o ∷ []) (stored 2 out o l)
 
     made : (List Entry → List Entry → List Entry) → Outcome
     made f = tail (f (entries_of first.width w) (entries_of second.width v))
 
     go : (j : ℕ) → verdict first w ≡ j → (k : ℕ) → verdict second v ≡ k
-        → judgedBy j 0 (o ∷ []) (judgedBy k 1 (o ∷ []) (made make)) ≡ judgedBy j 0 (o ∷ []) (judgedBy k 1 (o ∷ []) (made by))
+        → judged_by j 0 (o ∷ []) (judged_by k 1 (o ∷ []) (made make)) ≡ judged_by j 0 (o ∷ []) (judged_by k 1 (o ∷ []) (made by))
     go (suc j) p k q = refl
     go zero p (suc k) q = refl
     go zero p zero q = ap tail (e (verdict_sound first w p) (verdict_sound second v q))
@@ -182,7 +182,7 @@ two_as first second out make by w v o e = go (verdict first w) refl (verdict sec
 pub one_as : (first out : Layout) (make by : List Entry → List Entry) (w o : List ℕ) → make (entries_of first.width w) ≡ by (entries_of first.width w)
     → from_one first out make w o ≡ from_one first out by w o
 one_as first out make by w o e =
-    ap (λ (l : List Entry). judgedBy (verdict first w) 0 (o ∷ []) (judgedBy (no_block (length o)) 1 (o ∷ []) (stored 1 out o l))) e
+    ap (λ (l : List Entry). judged_by (verdict first w) 0 (o ∷ []) (judged_by (no_block (length o)) 1 (o ∷ []) (stored 1 out o l))) e
 
 module _ {plan : Plan} {a b : List ℕ} (g : AnyOk plan a b) where
   pub any_inputs : Inputs plan.a plan.b plan.c a b (0 ∷ [])

@@ -78,7 +78,7 @@ pub fn from_two(
 ) -> Judged
     requires { TwoFit table layouts weight }
     ensures { outcome (judged_says result) (o.new ∷ []) ≡ from_two layouts.first layouts.second layouts.out
-        (λ es fs. result table layouts.out.width es fs []) a.now b.now o.old }
+        (λ es fs. sweep_result table layouts.out.width es fs []) a.now b.now o.old }
 {
     let v = blocks::judge(a, layouts.first);
     if v != 0 {
@@ -118,7 +118,7 @@ fn store_one(a: &[u64], plan: Plan, bound: usize, limit: usize, o: &mut [u64]) -
 pub fn from_one(a: &[u64], table: u8, first: Layout, out: Layout, o: &mut [u64]) -> Judged
     requires { OneFit table first out }
     ensures { outcome (judged_says result) (o.new ∷ []) ≡ from_one first out
-        (λ es. result table out.width es [] []) a.now o.old }
+        (λ es. sweep_result table out.width es [] []) a.now o.old }
 {
     let v = blocks::judge(a, first);
     if v != 0 {

@@ -6,35 +6,35 @@ use native.Mathlib.Omega.{arith}
 use Rattle.records.proofs.body_length.Statement.{statement}
 use Rattle.records.proofs.body_length.Tie as tie
 
-returns : tie.Need-returns
+returns : tie.Need-returns-in-3
 unfolding body_length
-returns c = rw c.match.keys2
+returns c = rw c.in-3.is
 
-returns_2 : tie.Need-returns-2
+returns_2 : tie.Need-returns-in-17
 unfolding body_length
-returns_2 c = rw c.match.keys4
+returns_2 c = rw c.in-17.is
 
-returns_3 : tie.Need-returns-3
+returns_3 : tie.Need-returns-in-16
 unfolding body_length
-returns_3 c = rw c.match.keys3
+returns_3 c = rw c.in-16.is
 
-returns_4 : tie.Need-returns-4
+returns_4 : tie.Need-returns-in-16-2
 returns_4 c = sym (ap body_read (kind_18_20 _ (omega arith) (omega arith)))
 
-returns_5 : tie.Need-returns-5
+returns_5 : tie.Need-returns-in-1
 unfolding body_length
-returns_5 c = rw c.match.keys1
+returns_5 c = rw c.in-1.is
 
-returns_6 : tie.Need-returns-6
+returns_6 : tie.Need-returns-in-1-2
 returns_6 c = sym (ap body_read (kind_1_2 _ (omega arith) (omega arith)))
 
-returns_7 : tie.Need-returns-7
+returns_7 : tie.Need-returns-in-0
 returns_7 c = sym (ap body_read (kind_none _ (omega arith)))
 
-returns_8 : tie.Need-returns-8
+returns_8 : tie.Need-returns-in-0-2
 returns_8 c = sym (ap body_read (kind_none _ (omega arith)))
 
-returns_9 : tie.Need-returns-9
+returns_9 : tie.Need-returns-in-0-3
 returns_9 c = sym (ap body_read (kind_none _ (omega arith)))
 
 pub body_length_spec : {M : Type 1} → statement M

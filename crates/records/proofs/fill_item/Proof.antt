@@ -5,21 +5,21 @@ use native.Mathlib.Omega.{arith}
 use Rattle.records.proofs.fill_item.Statement.{statement}
 use Rattle.records.proofs.fill_item.Tie as tie
 
-returns : tie.Need-returns
+returns : tie.Need-returns-then-turns
 returns c =
     let i = c.before.before.before.before in
     let g = i.before.before.before in
     let s = g.before.before.before.before.before in
     let a = s.args in
-    fill_turned a.kind a.s a.bytes.now a.out.now _ s.requires.1 g.get-words.ensures _ _ (turns_so _ _ s.requires.0 i.if1.true)
-    c.before.before.turned.ensures c.turned2.ensures
+    fill_turned a.kind a.s a.bytes.now a.out.now _ s.requires.1 g.get_words.ensures _ _ (turns_so _ _ s.requires.0 i.if-turns.true)
+    c.before.before.turned.ensures c.turned-then-turns.ensures
 
-returns_2 : tie.Need-returns-2
+returns_2 : tie.Need-returns-else-turns
 returns_2 c =
     let g = c.before.before.before in
     let s = g.before.before.before.before.before in
     let a = s.args in
-    fill_plain a.kind a.s a.bytes.now a.out.now _ s.requires.1 g.get-words.ensures (turns_not _ _ s.requires.0 c.if1.false)
+    fill_plain a.kind a.s a.bytes.now a.out.now _ s.requires.1 g.get_words.ensures (turns_not _ _ s.requires.0 c.if-turns.false)
 
 pub fill_item_spec : {M : Type 1} → statement M
 fill_item_spec =

@@ -4,14 +4,14 @@ use borrow.Author.Rules.{rules}
 use Rattle.records.proofs.in_order.Statement.{statement}
 use Rattle.records.proofs.in_order.Tie as tie
 
-returns : tie.Need-returns
-returns c = rw (lt-leb _ _ c.if1.true)
+returns : tie.Need-returns-then-item
+returns c = rw (lt-leb _ _ c.if-item.true)
 
-returns_2 : tie.Need-returns-2
-returns_2 c = rw (le-leb _ _ c.before.if1.false, c.if2.true)
+returns_2 : tie.Need-returns-then-first
+returns_2 c = rw (le-leb _ _ c.before.if-item.false, c.if-first.true)
 
-returns_3 : tie.Need-returns-3
-returns_3 c = c.may-follow.ensures ∙ rw (le-leb _ _ c.before.before.if1.false, c.before.if2.false)
+returns_3 : tie.Need-returns
+returns_3 c = c.may_follow.ensures ∙ rw (le-leb _ _ c.before.before.if-item.false, c.before.if-first.false)
 
 pub in_order_spec : {M : Type 1} → statement M
 in_order_spec =

@@ -4,11 +4,11 @@ use borrow.Author.Rules.{rules}
 use Rattle.records.proofs.item_check.Statement.{statement}
 use Rattle.records.proofs.item_check.Tie as tie
 
-returns : tie.Need-returns
-returns c = c.check-from.ensures.0 ∙ c.before.item-sums.ensures ∙ sym (check_old _ c.before.before.if1.true _)
+returns : tie.Need-returns-then-mark-eq-OLD_MARK
+returns c = c.check_from.ensures.0 ∙ c.before.item_sums.ensures ∙ sym (check_old _ c.before.before.if-mark-eq-OLD_MARK.true _)
 
-returns_2 : tie.Need-returns-2
-returns_2 c = c.reduced.ensures.0 ∙ c.before.item-word.ensures ∙ sym (check_new _ c.before.before.if1.false _)
+returns_2 : tie.Need-returns
+returns_2 c = c.reduced.ensures.0 ∙ c.before.item_word.ensures ∙ sym (check_new _ c.before.before.if-mark-eq-OLD_MARK.false _)
 
 pub item_check_spec : {M : Type 1} → statement M
 item_check_spec =

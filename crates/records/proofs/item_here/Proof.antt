@@ -4,8 +4,8 @@ use Rattle.records.proofs.item_here.Statement.{statement}
 use Rattle.records.proofs.item_here.Tie as tie
 
 returns : tie.Need-returns
-returns c = let a = c.before.before.before.before.before.args in item_made a.s a.bytes.now _ _ _ _ c.before.before.before.get8.ensures
-    c.before.before.get82.ensures c.before.value-word.ensures c.value-word2.ensures
+returns c = let a = c.before.before.before.before.before.args in item_made a.s a.bytes.now _ _ _ _ c.before.before.before.get8-low.ensures
+    c.before.before.get8-high.ensures c.before.value_word-value.ensures c.value_word-second.ensures
 
 pub item_here_spec : {M : Type 1} → statement M
 item_here_spec =

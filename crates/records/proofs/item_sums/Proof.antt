@@ -6,24 +6,24 @@ use borrow.Author.Rules.{rules}
 use Rattle.records.proofs.item_sums.Statement.{statement}
 use Rattle.records.proofs.item_sums.Tie as tie
 
-returns : tie.Need-returns
+returns : tie.Need-returns-then-s-eq2
 returns c =
     let l = c.before.before in
-    two_words go_on (fletcher 0 0) _ l.before.before.args.item _ _ _ (sums_begin _ _ _ _ l.before.sums-from.ensures l.sum8.ensures)
-    c.before.sum82.ensures.on c.if1.true
+    two_words go_on (fletcher 0 0) _ l.before.before.args.item _ _ _ (sums_begin _ _ _ _ l.before.sums_from.ensures l.sum8-low.ensures)
+    c.before.sum8-high.ensures.on c.if-s-eq2.true
 
-returns_2 : tie.Need-returns-2
+returns_2 : tie.Need-returns-then-s-eq3
 returns_2 c =
     let l = c.before.before.before.before in
-    three_words go_on (fletcher 0 0) _ l.before.before.args.item _ _ _ (sums_begin _ _ _ _ l.before.sums-from.ensures l.sum8.ensures)
-    c.before.before.before.sum82.ensures.on _ c.before.sum83.ensures.on c.if2.true
+    three_words go_on (fletcher 0 0) _ l.before.before.args.item _ _ _ (sums_begin _ _ _ _ l.before.sums_from.ensures l.sum8-low.ensures)
+    c.before.before.before.sum8-high.ensures.on _ c.before.sum8-value.ensures.on c.if-s-eq3.true
 
-returns_3 : tie.Need-returns-3
+returns_3 : tie.Need-returns
 returns_3 c =
     let l = c.before.before.before.before.before in
     let a = l.before.before.args in
-    four_words go_on (fletcher 0 0) _ a.item a.s _ _ (sums_begin _ _ _ _ l.before.sums-from.ensures l.sum8.ensures)
-    c.before.before.before.before.sum82.ensures.on _ c.before.before.sum83.ensures.on _ c.sum84.ensures.on (omega arith)
+    four_words go_on (fletcher 0 0) _ a.item a.s _ _ (sums_begin _ _ _ _ l.before.sums_from.ensures l.sum8-low.ensures)
+    c.before.before.before.before.sum8-high.ensures.on _ c.before.before.sum8-value.ensures.on _ c.sum8.ensures.on (omega arith)
 
 pub item_sums_spec : {M : Type 1} → statement M
 item_sums_spec =

@@ -9,68 +9,58 @@ use borrow.Author.Rules.{rules}
 use Rattle.records.proofs.read_front.Statement.{statement}
 use Rattle.records.proofs.read_front.Tie as tie
 
-returns : tie.Need-returns
+returns : tie.Need-returns-then-bytes-lt3
 returns c = record { refused = λ n t. front_short _ _ _ t (omega arith); good = λ z. absurd (omega arith) }
 
-returns_2 : tie.Need-returns-2
+returns_2 : tie.Need-returns-then-get2-wide2
 returns_2 c = record {
-  refused = λ n t. front_mark _ _ _ t (omega arith) _ _ c.before.before.get2.ensures.0 c.before.wide2.ensures.0 c.if2.true;
+  refused = λ n t. front_mark _ _ _ t (omega arith) _ _ c.get2.ensures.0 c.wide2.ensures.0 c.if-get2-wide2.true;
   good = λ z. absurd (omega arith);
 }
 
 -- the kind that stands there is unknown
-returns_3 : tie.Need-returns-3
+returns_3 : tie.Need-returns-in_default
 returns_3 c =
-    let at_if2 = c.before.before.before.before in
-    let at_wide2 = at_if2.before in
     record {
-      refused = λ n t. front_unknown _ _ _ t (omega arith) _ _ at_wide2.before.get2.ensures.0 at_wide2.wide2.ensures.0 at_if2.if2.false
-          (told_unknown _ _ c.before.before.body_length_lem.ensures c.enum_told.given.1);
+      refused = λ n t. front_unknown _ _ _ t (omega arith) _ _ c.get2.ensures.0 c.wide2.ensures.0 c.if-get2-wide2.false
+          (told_unknown _ _ c.body_length-b.ensures c.in_default.is);
       good = λ z. absurd (omega arith);
     }
 
 -- it is known and not due
-returns_4 : tie.Need-returns-4
+returns_4 : tie.Need-returns-then-kind-due
 returns_4 c =
-    let at_if2 = c.before.before.before.before.before.before in
-    let at_wide2 = at_if2.before in
     record {
-      refused = λ n t. front_kind _ _ _ t (omega arith) _ _ at_wide2.before.get2.ensures.0 at_wide2.wide2.ensures.0 at_if2.if2.false
-          c.if3.true;
+      refused = λ n t. front_kind _ _ _ t (omega arith) _ _ c.get2.ensures.0 c.wide2.ensures.0 c.if-get2-wide2.false
+          c.if-kind-due.true;
       good = λ z. absurd (omega arith);
     }
 
-add_if4 : tie.Need-overflow-add-if4
-add_if4 c = omega (arith, body_small _ _ (told_known _ _ _ c.before.before.before.before.body_length_lem.ensures c.before.before.b.given.1))
+add_if4 : tie.Need-overflow_add-n
+add_if4 c = omega (arith, body_small _ _ (told_known _ _ _ c.body_length-b.ensures c.in-Known.is))
 
-returns_5 : tie.Need-returns-5
+returns_5 : tie.Need-returns-then-bytes-n
 returns_5 c =
-    let at_body = c.before.before.before.before.before in
-    let at_if2 = at_body.before.before in
-    let at_wide2 = at_if2.before in
-    let a = at_wide2.before.before.before.before.args in
-    let k = told_known _ _ _ at_body.body_length_lem.ensures c.before.before.before.b.given.1 in
-    let d = c.before.if3.false in
+    let a = c.args in
+    let k = told_known _ _ _ c.body_length-b.ensures c.in-Known.is in
+    let d = c.if-kind-due.false in
     record {
-      refused = λ n t. length_short a.mark a.due a.bytes.now t _ c.if4.true
-          ∙ front_body a.mark a.due a.bytes.now t (omega arith) _ _ at_wide2.before.get2.ensures.0 at_wide2.wide2.ensures.0
-          at_if2.if2.false d (some _) (sym (ap body_length d) ∙ k);
+      refused = λ n t. length_short a.mark a.due a.bytes.now t _ c.if-bytes-n.true
+          ∙ front_body a.mark a.due a.bytes.now t (omega arith) _ _ c.get2.ensures.0 c.wide2.ensures.0
+          c.if-get2-wide2.false d (some _) (sym (ap body_length d) ∙ k);
       good = λ z. absurd (omega arith);
     }
 
-returns_6 : tie.Need-returns-6
+returns_6 : tie.Need-returns
 returns_6 c =
-    let at_body = c.before.before.before.before.before in
-    let at_if2 = at_body.before.before in
-    let at_wide2 = at_if2.before in
-    let k = told_known _ _ _ at_body.body_length_lem.ensures c.before.before.before.b.given.1 in
-    let d = c.before.if3.false in
+    let k = told_known _ _ _ c.body_length-b.ensures c.in-Known.is in
+    let d = c.if-kind-due.false in
     record {
       refused = λ n t. absurd (n refl);
       good = λ z. record {
-        marked = sym at_wide2.before.get2.ensures.0 ∙ at_if2.if2.false ∙ at_wide2.wide2.ensures.0;
+        marked = sym c.get2.ensures.0 ∙ c.if-get2-wide2.false ∙ c.wide2.ensures.0;
         is_due = d;
-        long = λ n q. fits_known _ _ _ _ (sym (ap body_length d) ∙ k) q c.if4.false;
+        long = λ n q. fits_known _ _ _ _ (sym (ap body_length d) ∙ k) q c.if-bytes-n.false;
       };
     }
 

@@ -22,7 +22,7 @@ returns c =
     let ws = a.words.now in
     let l = saying_bytes a.kind (length ws) ws k.requires.1.two (omega arith) in
     record_written new_mark a.kind _ _ (word_bytes (entry_words (saying a.kind (item_of (length ws) ws)))) a.bytes.now _ _ _ (ap (λ (n : ℕ). n + 3) l)
-    h.put-head.ensures i.put_item.ensures.bytes (i.put_item.ensures.check ∙ sym (check_new new_mark new_old _)) c.before.before.put2.ensures
+    h.put_head.ensures i.put_item-check.ensures.bytes (i.put_item-check.ensures.check ∙ sym (check_new new_mark new_old _)) c.before.before.put2.ensures
 
 pub write_item_spec : {M : Type 1} → statement M
 write_item_spec =

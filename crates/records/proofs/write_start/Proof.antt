@@ -19,7 +19,7 @@ returns c =
     let a = s.args in
     record_written new_mark a.kind _ _ (count_bytes (counts_of a.k a.n a.m)) a.bytes.now _ _ _
     (ap (λ (i : ℕ). i + 3) (counts_length a.k a.n a.m s.requires.0 s.requires.1))
-    h.put-head.ensures n.put-counts.ensures (r.start-crc.ensures.0 ∙ sym (check_new new_mark new_old _)) c.before.before.put2.ensures
+    h.put_head.ensures n.put_counts.ensures (r.start_crc-check.ensures.0 ∙ sym (check_new new_mark new_old _)) c.before.before.put2.ensures
 
 pub write_start_spec : {M : Type 1} → statement M
 write_start_spec =

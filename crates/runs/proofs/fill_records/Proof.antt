@@ -13,43 +13,43 @@ use native.Mathlib.Omega.{arith}
 use Rattle.runs.proofs.fill_records.Statement.{statement}
 use Rattle.runs.proofs.fill_records.Tie as tie
 
-abbrev invariant-loop : tie.invariant-loop
+abbrev invariant-loop : tie.invariant-loop-left
 invariant-loop bytes kind turns s n out₀ left₀ q₀ w₀ out left q w = (w + s * left ≤ length out) × (q + (8 * s + 5) * left ≤ length bytes) ×
     (length out ≡ length out₀) × (patch 0 (words_of (entries_in kind s n bytes)) out₀ ≡ patch w (words_of (entries_in kind s left (drop q bytes))) out)
 
-abbrev decreases-loop : tie.decreases-loop
+abbrev decreases-loop : tie.decreases-loop-left
 decreases-loop bytes kind turns s n out₀ left₀ q₀ w₀ out left q w = left
 
-fill_item_requires : tie.Need-fill-item-requires invariant-loop decreases-loop
+fill_item_requires : tie.Need-fill_item-requires invariant-loop decreases-loop
 fill_item_requires c κs = let l = c.before.before.before in
     let a = c.before.before.before.before.before.before.args in
-    let k = less_one_lem a.s l.loop.left (omega arith) in
-    let m = less_one_lem (8 * a.s + 5) l.loop.left (omega arith) in
+    let k = less_one_lem a.s l.loop-left.left (omega arith) in
+    let m = less_one_lem (8 * a.s + 5) l.loop-left.left (omega arith) in
     let p = c.before.before.before.before.before.before.requires in
     (p.0, omega arith, simp (length-take, length-drop) (omega arith), simp (length-take, length-drop) (omega arith))
 
-loop_again : tie.Need-loop-preserved invariant-loop decreases-loop
+loop_again : tie.Need-loop-left-preserved invariant-loop decreases-loop
 loop_again c =
     let c9 = c.before.before.before.before.before.before.before.before.before in
     let r = c.before.before in
     let l = c.before.before.before.before.before.before in
     let a = c9.args in
-    let k = less_one_lem a.s l.loop.left (omega arith) in
-    let m = less_one_lem (8 * a.s + 5) l.loop.left (omega arith) in
-    let e = same_len_mid l.loop.w (length l.loop.out - l.loop.w) l.loop.out r.fill-item.new.1.1.1.1.0
-    r.fill-item.auto.1.1.1.1.0 in (
+    let k = less_one_lem a.s l.loop-left.left (omega arith) in
+    let m = less_one_lem (8 * a.s + 5) l.loop-left.left (omega arith) in
+    let e = same_len_mid l.loop-left.w (length l.loop-left.out - l.loop-left.w) l.loop-left.out r.fill_item.new.out
+    r.fill_item.auto.out in (
       omega (arith, e),
       omega arith,
       omega (arith, e),
-      fill_turn a.kind a.s a.bytes.now c9.requires.1.two l.loop.out _ _ l.loop.w l.loop.q
-          l.loop.left (omega arith) (omega arith) l.loop.invariant.3 r.fill-item.ensures,
+      fill_turn a.kind a.s a.bytes.now c9.requires.1.two l.loop-left.out _ _ l.loop-left.w l.loop-left.q
+          l.loop-left.left (omega arith) (omega arith) l.loop-left.invariant.3 r.fill_item.ensures,
     )
 
 returns : tie.Need-returns invariant-loop decreases-loop
 returns c =
     let l = c.before in
     let a = c.before.before.before.before.args in
-    sym (l.loop.invariant.3 ∙ fill_end a.kind a.s l.loop.left l.loop.w _ l.loop.out (omega arith))
+    sym (l.loop-left.invariant.3 ∙ fill_end a.kind a.s l.loop-left.left l.loop-left.w _ l.loop-left.out (omega arith))
 
 pub fill_records_spec : {M : Type 1} → statement M
 fill_records_spec =

@@ -5,7 +5,7 @@ use borrow.Author.Rules.{rules}
 use Rattle.runs.proofs.store.Statement.{statement}
 use Rattle.runs.proofs.store.Tie as tie
 
-fill_run_requires : tie.Need-fill-run-requires
+fill_run_requires : tie.Need-fill_run-requires
 fill_run_requires c κs =
     let c9 = c.before.before.before.before.before.before.before.before.before in
     let f = c9.requires.2 in
@@ -22,12 +22,12 @@ fill_run_requires c κs =
       room = simp (length-take, length-drop) (omega (arith, f.room, length-drop 1 a.out.now));
     }
 
-mul_clear : tie.Need-overflow-mul-clear
+mul_clear : tie.Need-overflow_mul-s
 mul_clear c =
     let c13 = c.before.before.before.before.before.before.before.before.before.before.before.before.before in
     omega (arith, c13.requires.2.room, length-drop 1 c13.args.out.now)
 
-add_clear : tie.Need-overflow-add-clear
+add_clear : tie.Need-overflow_add-s
 add_clear c =
     let c13 = c.before.before.before.before.before.before.before.before.before.before.before.before.before in
     omega (arith, c13.requires.2.room, length-drop 1 c13.args.out.now)
@@ -39,7 +39,7 @@ returns c =
     let c16 = c12.before.before.before.before in
     let a = c16.args in store_written a.kind a.s a.n _ a.from a.bytes.now a.out.now _ _ _ c16.requires.2.two (omega
     (arith, c16.requires.2.room, length-drop 1 a.out.now)) c12.narrow.ensures c11.put_count.ensures
-    c.before.before.before.before.before.before.fill-run.ensures c.before.before.clear.ensures
+    c.before.before.before.before.before.before.fill_run.ensures c.before.before.clear.ensures
 
 pub store_spec : {M : Type 1} → statement M
 store_spec =
