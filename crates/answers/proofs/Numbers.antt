@@ -15,7 +15,7 @@ use Rattle.answers.specs.declared.Reason.TheVariants.{Content, Trailing, Overlap
 use Rattle.answers.specs.declared.Refusal.{Refusal}
 use Rattle.answers.specs.declared.Judged.{Judged}
 use Rattle.answers.specs.declared.Judged.TheVariants as judged
-use Rattle.answers.specs.Answers.{Answer, given, refused, Outcome, outcome, judged as judgedBy, number_says, last_number}
+use Rattle.answers.specs.Answers.{Answer, given, refused, Outcome, outcome, judged as judged_by, number_says, last_number}
 use Rattle.answers.specs.Says.{number_of, refusal_says, judged_says, reason_of, refusal_of, judged_of}
 
 -- a test that holds of each number below n, found by computing it
@@ -69,30 +69,30 @@ judged_refused (suc k) place n = refl
 
 -- By a verdict: refused with it, or the outcome. A caller names the lent contents, the place and the outcome that would follow.
 pub refused_as : (lent : List (List ℕ)) (place : ℕ) (x : Outcome) (v k : ℕ) (f : Refusal) → v ≡ k → k ≤ last_number → (v ≡ 0 → ⊥) → f ≡ refusal_of v place
-    → outcome (refusal_says f) lent ≡ judgedBy k place lent x
+    → outcome (refusal_says f) lent ≡ judged_by k place lent x
 refused_as lent place x v k f e l n r = go k e l
   where
-    go : (k : ℕ) → v ≡ k → k ≤ last_number → outcome (refusal_says f) lent ≡ judgedBy k place lent x
+    go : (k : ℕ) → v ≡ k → k ≤ last_number → outcome (refusal_says f) lent ≡ judged_by k place lent x
     go zero e l = absurd (n e)
     go (suc m) e l =
         ap (λ (g : Refusal). outcome (refusal_says g) lent) (r ∙ ap (λ (j : ℕ). refusal_of j place) e)
         ∙ ap (λ (a : Answer). outcome a lent) (refusal_says_lem (suc m) place (omega arith) l)
 
-pub given_as : (lent : List (List ℕ)) (place : ℕ) (x y : Outcome) (v k : ℕ) → v ≡ k → v ≡ 0 → y ≡ x → y ≡ judgedBy k place lent x
+pub given_as : (lent : List (List ℕ)) (place : ℕ) (x y : Outcome) (v k : ℕ) → v ≡ k → v ≡ 0 → y ≡ x → y ≡ judged_by k place lent x
 given_as lent place x y v k e z q = go k (sym e ∙ z)
   where
-    go : (k : ℕ) → k ≡ 0 → y ≡ judgedBy k place lent x
+    go : (k : ℕ) → k ≡ 0 → y ≡ judged_by k place lent x
     go zero z = q
     go (suc m) z = absurd (omega arith)
 
 -- a number's answer is the outcome that a verdict gives
 pub judged_as : (lent : List (List ℕ)) (place v k : ℕ) (r : Judged) → v ≡ k → k ≤ last_number → r ≡ judged_of v place
-    → outcome (judged_says r) lent ≡ judgedBy k place lent (outcome (given []) lent)
+    → outcome (judged_says r) lent ≡ judged_by k place lent (outcome (given []) lent)
 judged_as lent place v k r e l q =
     ap (λ (x : Judged). outcome (judged_says x) lent) (q ∙ ap (λ (j : ℕ). judged_of j place) e)
     ∙ ap (λ (a : Answer). outcome a lent) (judged_says_lem k place l) ∙ go k
   where
-    go : (k : ℕ) → outcome (number_says k place) lent ≡ judgedBy k place lent (outcome (given []) lent)
+    go : (k : ℕ) → outcome (number_says k place) lent ≡ judged_by k place lent (outcome (given []) lent)
     go zero = refl
     go (suc m) = refl
 
@@ -111,6 +111,6 @@ pub small_number : (k place : ℕ) (lent : List (List ℕ)) (o : Outcome) → ou
 small_number zero place lent o e s = omega arith
 small_number (suc k) place lent o e s = subst Small (sym e) s
 
-pub judged_small : (v place : ℕ) (lent : List (List ℕ)) (o : Outcome) → v ≤ last_number → Small o → Small (judgedBy v place lent o)
+pub judged_small : (v place : ℕ) (lent : List (List ℕ)) (o : Outcome) → v ≤ last_number → Small o → Small (judged_by v place lent o)
 judged_small zero place lent o l s = s
 judged_small (suc v) place lent o l s = l

@@ -15,6 +15,8 @@ use Rattle.answers.specs.declared.Found.{Found}
 use Rattle.answers.specs.declared.Found.TheVariants as found
 use Rattle.answers.specs.declared.Ranged.{Ranged}
 use Rattle.answers.specs.declared.Ranged.TheVariants as ranged
+use Rattle.answers.specs.declared.Valued.{Valued}
+use Rattle.answers.specs.declared.Valued.TheVariants as valued
 use Rattle.answers.specs.declared.Sized.{Sized}
 use Rattle.answers.specs.declared.Sized.TheVariants as sized
 use Rattle.answers.specs.declared.Parted.{Parted}
@@ -29,6 +31,7 @@ use Rattle.answers.specs.Answers.{Answer, given, refused, Outcome, outcome}
 use Rattle.answers.specs.Says.{number_of, refusal_of, judged_says, truth_says, found_says, ranged_says, sized_says, parted_says, decided_says}
 use Rattle.answers.specs.Says.{placed_says, written_says}
 use Rattle.answers.specs.Says.{seated_says}
+use Rattle.answers.specs.Says.{valued_says}
 use Rattle.answers.proofs.Numbers.{number_reason}
 
 abbrev answer_of : Outcome → Answer
@@ -118,6 +121,20 @@ ranged_undo (ranged.Refused f) = ap ranged.Refused (refusal_back f)
 
 pub ranged_only : (due : Outcome) (r s : Ranged) (k l : List (List ℕ)) → outcome (ranged_says r) k ≡ due → outcome (ranged_says s) l ≡ due → (r ≡ s) × (k ≡ l)
 ranged_only = only ranged_says ranged_back ranged_undo
+
+abbrev valued_back : Answer → Valued
+valued_back (given []) = valued.Nothing
+valued_back (given (v ∷ [])) = valued.Nothing
+valued_back (given (v ∷ t ∷ xs)) = valued.Value v t
+valued_back (refused n p) = valued.Refused (refusal_of n p)
+
+valued_undo : (r : Valued) → valued_back (valued_says r) ≡ r
+valued_undo (valued.Value v t) = refl
+valued_undo valued.Nothing = refl
+valued_undo (valued.Refused f) = ap valued.Refused (refusal_back f)
+
+pub valued_only : (due : Outcome) (r s : Valued) (k l : List (List ℕ)) → outcome (valued_says r) k ≡ due → outcome (valued_says s) l ≡ due → (r ≡ s) × (k ≡ l)
+valued_only = only valued_says valued_back valued_undo
 
 abbrev sized_back : Answer → Sized
 sized_back (given []) = sized.Empty

@@ -18,10 +18,12 @@ use Rattle.answers.specs.declared.Found.{Found}
 use Rattle.answers.specs.declared.Found.TheVariants as found
 use Rattle.answers.specs.declared.Ranged.{Ranged}
 use Rattle.answers.specs.declared.Ranged.TheVariants as ranged
+use Rattle.answers.specs.declared.Valued.{Valued}
+use Rattle.answers.specs.declared.Valued.TheVariants as valued
 use Rattle.answers.specs.declared.FoundKey.{FoundKey}
-use Rattle.answers.specs.declared.FoundKey.TheVariants as foundKey
+use Rattle.answers.specs.declared.FoundKey.TheVariants as found_key
 use Rattle.answers.specs.declared.RangedKeys.{RangedKeys}
-use Rattle.answers.specs.declared.RangedKeys.TheVariants as rangedKeys
+use Rattle.answers.specs.declared.RangedKeys.TheVariants as ranged_keys
 use Rattle.answers.specs.declared.Sized.{Sized}
 use Rattle.answers.specs.declared.Sized.TheVariants as sized
 use Rattle.answers.specs.declared.Parted.{Parted}
@@ -31,7 +33,7 @@ use Rattle.answers.specs.declared.Decided.TheVariants as decided
 use Rattle.answers.specs.declared.Placed.{Placed}
 use Rattle.answers.specs.declared.Placed.TheVariants as placed
 use Rattle.answers.specs.declared.PlacedKey.{PlacedKey}
-use Rattle.answers.specs.declared.PlacedKey.TheVariants as placedKey
+use Rattle.answers.specs.declared.PlacedKey.TheVariants as placed_key
 use Rattle.answers.specs.declared.Written.{Written}
 use Rattle.answers.specs.declared.Written.TheVariants as written
 use Rattle.answers.specs.Answers.{Answer, given, refused}
@@ -88,6 +90,12 @@ ranged_says (ranged.Range low high) = given (low ∷ high ∷ [])
 ranged_says ranged.Nothing = given []
 ranged_says (ranged.Refused f) = refusal_says f
 
+-- [G7] value and expiry, or no value
+abbrev pub valued_says : Valued → Answer
+valued_says (valued.Value v expiry) = given (v ∷ expiry ∷ [])
+valued_says valued.Nothing = given []
+valued_says (valued.Refused f) = refusal_says f
+
 -- [S3, G7] no value of the empty set, else the size less one
 abbrev pub sized_says : Sized → Answer
 sized_says sized.Empty = given []
@@ -119,20 +127,20 @@ written_says (written.Refused f) = refusal_says f
 -- Answers with keys say the words of the keys, so that a call on keys and the call on their words have one outcome.
 -- [K3, G7] the word of the key, or no value
 abbrev pub found_key_says : FoundKey → Answer
-found_key_says (foundKey.Key k) = given (word_of k ∷ [])
-found_key_says foundKey.Nothing = given []
-found_key_says (foundKey.Refused f) = refusal_says f
+found_key_says (found_key.Key k) = given (word_of k ∷ [])
+found_key_says found_key.Nothing = given []
+found_key_says (found_key.Refused f) = refusal_says f
 
 -- [K3, G7] the words of the low and the high key, or no value
 abbrev pub ranged_keys_says : RangedKeys → Answer
-ranged_keys_says (rangedKeys.Range low high) = given (word_of low ∷ word_of high ∷ [])
-ranged_keys_says rangedKeys.Nothing = given []
-ranged_keys_says (rangedKeys.Refused f) = refusal_says f
+ranged_keys_says (ranged_keys.Range low high) = given (word_of low ∷ word_of high ∷ [])
+ranged_keys_says ranged_keys.Nothing = given []
+ranged_keys_says (ranged_keys.Refused f) = refusal_says f
 
 -- [K3, G7] the word of the key that a fit chose
 abbrev pub placed_key_says : PlacedKey → Answer
-placed_key_says (placedKey.At s) = given (word_of s ∷ [])
-placed_key_says (placedKey.Refused f) = refusal_says f
+placed_key_says (placed_key.At s) = given (word_of s ∷ [])
+placed_key_says (placed_key.Refused f) = refusal_says f
 
 -- [K5, G7] the word of the difference of two keys; no value where they are too far apart
 abbrev pub apart_says : Apart → Answer
@@ -143,20 +151,20 @@ apart_says apart.TooFar = given []
 -- (proofs/UniqueKeys).
 -- [K1] the key that was found
 abbrev pub FoundKeyHolds : FoundKey → Type 0
-FoundKeyHolds (foundKey.Key k) = IsKey k
-FoundKeyHolds foundKey.Nothing = Unit {0}
-FoundKeyHolds (foundKey.Refused f) = Unit {0}
+FoundKeyHolds (found_key.Key k) = IsKey k
+FoundKeyHolds found_key.Nothing = Unit {0}
+FoundKeyHolds (found_key.Refused f) = Unit {0}
 
 -- [K1] the two ends of the range that was found
 abbrev pub RangedKeysHold : RangedKeys → Type 0
-RangedKeysHold (rangedKeys.Range low high) = IsKey low × IsKey high
-RangedKeysHold rangedKeys.Nothing = Unit {0}
-RangedKeysHold (rangedKeys.Refused f) = Unit {0}
+RangedKeysHold (ranged_keys.Range low high) = IsKey low × IsKey high
+RangedKeysHold ranged_keys.Nothing = Unit {0}
+RangedKeysHold (ranged_keys.Refused f) = Unit {0}
 
 -- [K1] the key that a fit chose
 abbrev pub PlacedKeyHolds : PlacedKey → Type 0
-PlacedKeyHolds (placedKey.At s) = IsKey s
-PlacedKeyHolds (placedKey.Refused f) = Unit {0}
+PlacedKeyHolds (placed_key.At s) = IsKey s
+PlacedKeyHolds (placed_key.Refused f) = Unit {0}
 
 -- The other way, for code that has a number: the reason of a number of the table; of any other number, the table's last.
 abbrev pub reason_of : ℕ → Reason

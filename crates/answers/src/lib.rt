@@ -77,6 +77,14 @@ pub enum Ranged {
     Refused(Refusal),
 }
 
+// The value and the expiry of the number that was asked for, or none.
+#[derive(Clone, Copy)]
+pub enum Valued {
+    Value(u64, u64),
+    Nothing,
+    Refused(Refusal),
+}
+
 // The key that was asked for, or none.
 #[derive(Clone, Copy)]
 pub enum FoundKey {

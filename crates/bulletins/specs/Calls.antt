@@ -49,9 +49,9 @@ fold_refusals released₁ withdrawn₁ released₂ withdrawn₂ words₄ words�
 -- [U3, R0] The fold of an earlier and a later bulletin: R1 without W2, joined with R2, and W1 without R2, joined with W2. Refused, neither
 -- output is changed. [U4]: when the order does not matter, by a law (`amended_swap` in entries/proofs/Bulletins).
 unfoldable pub fold_call : List ℕ → List ℕ → List ℕ → List ℕ → List ℕ → List ℕ → Outcome
-fold_call released₁ withdrawn₁ released₂ withdrawn₂ outR outW =
-    in_turn (fold_refusals released₁ withdrawn₁ released₂ withdrawn₂ (length outR) (length outW)) (outR ∷ outW ∷ [])
+fold_call released₁ withdrawn₁ released₂ withdrawn₂ out_r out_w =
+    in_turn (fold_refusals released₁ withdrawn₁ released₂ withdrawn₂ (length out_r) (length out_w)) (out_r ∷ out_w ∷ [])
     (outcome (given [])
-    (block_of (length outR) (amended_with released₁ released₂ withdrawn₂)
-    ∷ block_of (length outW) (amended_with withdrawn₁ withdrawn₂ released₂)
+    (block_of (length out_r) (amended_with released₁ released₂ withdrawn₂)
+    ∷ block_of (length out_w) (amended_with withdrawn₁ withdrawn₂ released₂)
     ∷ []))

@@ -19,7 +19,7 @@ use Rattle.runs.proofs.Several.{shapes}
 use Rattle.verdicts.specs.declared.Form.{Form}
 use Rattle.verdicts.specs.Steps.{FormKind}
 use Rattle.checks.specs.Check.{new_mark}
-use Rattle.verdicts.specs.Forms.{of_set, of_map, of_bulletin, of_signed, form_of, sharing, size_of as bytesIn}
+use Rattle.verdicts.specs.Forms.{of_set, of_map, of_bulletin, of_signed, form_of, sharing, size_of as bytes_in}
 use Rattle.verdicts.proofs.Whole.{set_kind, map_kind, bulletin_kind, signed_kind, size}
 use Rattle.forms.specs.Calls.{held_in, inputs, no_space, block_refusals, write_call}
 use Rattle.forms.proofs.Forms.{has_words, has_room, held_fine, many_held, space_clear, space_there}
@@ -62,24 +62,24 @@ overlap_exactly list released withdrawn out =
 
 pub fold_overlap_exactly : FoldOverlapExactly
 unfolding fold_call
-fold_overlap_exactly r₁ w₁ r₂ w₂ outR outW =
+fold_overlap_exactly r₁ w₁ r₂ w₂ out_r out_w =
     iff_by (refused_kind 14 0
-    (input 0 set_layout r₁ ∷ input 1 set_layout w₁ ∷ input 2 set_layout r₂ ∷ input 3 set_layout w₂ ∷ output 4 (length outR) ∷ output 5 (length outW) ∷ [])
+    (input 0 set_layout r₁ ∷ input 1 set_layout w₁ ∷ input 2 set_layout r₂ ∷ input 3 set_layout w₂ ∷ output 4 (length out_r) ∷ output 5 (length out_w) ∷ [])
     (overlap r₁ w₁ ∷ overlap r₂ w₂ ∷ [])
-    (room 4 set_layout (length outR) (amended_with r₁ r₂ w₂) ∷ room 5 set_layout (length outW) (amended_with w₁ w₂ r₂) ∷ [])
-    (on r₁, (on w₁, (on r₂, (on w₂, (out outR, (out outW, tt)))))) ((only r₁ w₁, refl), ((only r₂ w₂, refl), tt))
-    (late outR (amended_with r₁ r₂ w₂), (late outW (amended_with w₁ w₂ r₂), tt)) (outR ∷ outW ∷ []) _ _)
+    (room 4 set_layout (length out_r) (amended_with r₁ r₂ w₂) ∷ room 5 set_layout (length out_w) (amended_with w₁ w₂ r₂) ∷ [])
+    (on r₁, (on w₁, (on r₂, (on w₂, (out out_r, (out out_w, tt)))))) ((only r₁ w₁, refl), ((only r₂ w₂, refl), tt))
+    (late out_r (amended_with r₁ r₂ w₂), (late out_w (amended_with w₁ w₂ r₂), tt)) (out_r ∷ out_w ∷ []) _ _)
     (λ h. let c = h.0 in (
       c.0,
       c.1.0,
       c.1.1.0,
       c.1.1.1.0,
-      some_words (length outR) c.1.1.1.1.0,
-      some_words (length outW) c.1.1.1.1.1.0,
+      some_words (length out_r) c.1.1.1.1.0,
+      some_words (length out_w) c.1.1.1.1.1.0,
       λ n. h.1 (apart_overlap (entries_of 2 r₁) (entries_of 2 w₁) n.0, (apart_overlap (entries_of 2 r₂) (entries_of 2 w₂) n.1, tt)),
     ))
     (λ h. (
-      (h.0, (h.1, (h.2, (h.3, (has_words (length outR) h.4, (has_words (length outW) h.5, tt)))))),
+      (h.0, (h.1, (h.2, (h.3, (has_words (length out_r) h.4, (has_words (length out_w) h.5, tt)))))),
       λ z. h.6 (overlap_apart (entries_of 2 r₁) (entries_of 2 w₁) z.0, overlap_apart (entries_of 2 r₂) (entries_of 2 w₂) z.1.0),
     ))
   where
@@ -138,25 +138,25 @@ apply_accepted_exactly list released withdrawn out =
 
 pub fold_accepted_exactly : FoldAccepted
 unfolding fold_call
-fold_accepted_exactly r₁ w₁ r₂ w₂ outR outW =
-    iff_by (accepted_exactly fs (outR ∷ outW ∷ []) _ _)
+fold_accepted_exactly r₁ w₁ r₂ w₂ out_r out_w =
+    iff_by (accepted_exactly fs (out_r ∷ out_w ∷ []) _ _)
     (λ c. let i = clear_at fs c in (
       record {
         earlier = clear_bulletin r₁ w₁ (i 0, (i 1, (i 6, tt)));
         later = clear_bulletin r₂ w₂ (i 2, (i 3, (i 7, tt)));
-        words = (some_words (length outR) (i 4), some_words (length outW) (i 5));
+        words = (some_words (length out_r) (i 4), some_words (length out_w) (i 5));
       },
-      room_fits set_layout (length outR) (amended_with r₁ r₂ w₂) (i 8),
-      room_fits set_layout (length outW) (amended_with w₁ w₂ r₂) (i 9),
+      room_fits set_layout (length out_r) (amended_with r₁ r₂ w₂) (i 8),
+      room_fits set_layout (length out_w) (amended_with w₁ w₂ r₂) (i 9),
     ))
     (λ h. let b = bulletin_clear r₁ w₁ h.0.earlier in
     let d = bulletin_clear r₂ w₂ h.0.later in
-    let o = has_words (length outR) h.0.words.0 in
-    let q = has_words (length outW) h.0.words.1 in
+    let o = has_words (length out_r) h.0.words.0 in
+    let q = has_words (length out_w) h.0.words.1 in
     (b.0, (b.1.0, (d.0, (d.1.0, (o, (q, (b.1.1.0, (d.1.1.0, (has_room _ _ h.1, (has_room _ _ h.2, tt)))))))))))
   where
     fs : List Finding
-    fs = fold_refusals r₁ w₁ r₂ w₂ (length outR) (length outW)
+    fs = fold_refusals r₁ w₁ r₂ w₂ (length out_r) (length out_w)
 
 -- 15: there is space for a form of so many bytes at p exactly if it ends within the buffer
 module _ (p size len : ℕ) where
@@ -180,7 +180,7 @@ Writes f ws Q n bytes p = Iff (Accepts (write_call f ws bytes p)) (Q × (p + n �
 
 -- so it is where the blocks are judged sound, as Q says in plain terms, and their form takes n bytes
 module _ (f : Form) (k : FormKind f) (ws : List (List ℕ)) (m : length ws ≡ f.runs) (Q : Type 0)
-    (to : Clear (block_refusals f ws) → Q) (from : Q → Clear (block_refusals f ws)) (n : ℕ) (e : bytesIn f (lengths (held_in f.layout ws)) ≡ n)
+    (to : Clear (block_refusals f ws) → Q) (from : Q → Clear (block_refusals f ws)) (n : ℕ) (e : bytes_in f (lengths (held_in f.layout ws)) ≡ n)
     (bytes : List ℕ) (p : ℕ) where
   abbrev bytes_of : ℕ
   bytes_of = length (form_of new_mark f (held_in f.layout ws))

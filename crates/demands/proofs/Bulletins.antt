@@ -41,9 +41,9 @@ pub apply_keeps : (list released withdrawn out : List ℕ) → Keeps (out ∷ []
 unfolding apply_call
 apply_keeps list released withdrawn out = turn_keeps (apply_refusals list released withdrawn (length out)) (out ∷ []) _ tt
 
-pub fold_keeps : (r₁ w₁ r₂ w₂ outR outW : List ℕ) → Keeps (outR ∷ outW ∷ []) (fold_call r₁ w₁ r₂ w₂ outR outW)
+pub fold_keeps : (r₁ w₁ r₂ w₂ out_r out_w : List ℕ) → Keeps (out_r ∷ out_w ∷ []) (fold_call r₁ w₁ r₂ w₂ out_r out_w)
 unfolding fold_call
-fold_keeps r₁ w₁ r₂ w₂ outR outW = turn_keeps (fold_refusals r₁ w₁ r₂ w₂ (length outR) (length outW)) (outR ∷ outW ∷ []) _ tt
+fold_keeps r₁ w₁ r₂ w₂ out_r out_w = turn_keeps (fold_refusals r₁ w₁ r₂ w₂ (length out_r) (length out_w)) (out_r ∷ out_w ∷ []) _ tt
 
 pub overlap_apart : (r w : List Entry) → overlapping r w ≡ 0 → Apart r w
 unfolding shareb
@@ -96,16 +96,16 @@ applied list released withdrawn out after e =
     same l d = cc
 
 -- an accepted fold
-record Folded (r₁ w₁ r₂ w₂ outR outW R W : List ℕ) : Type 0 where
-  clear : (i : ℕ) → number_at (fold_refusals r₁ w₁ r₂ w₂ (length outR) (length outW)) i ≡ 0
-  released : R ≡ block_of (length outR) (amended (entries_of 2 r₁) (entries_of 2 r₂) (entries_of 2 w₂))
-  withdrawn : W ≡ block_of (length outW) (amended (entries_of 2 w₁) (entries_of 2 w₂) (entries_of 2 r₂))
+record Folded (r₁ w₁ r₂ w₂ out_r out_w R W : List ℕ) : Type 0 where
+  clear : (i : ℕ) → number_at (fold_refusals r₁ w₁ r₂ w₂ (length out_r) (length out_w)) i ≡ 0
+  released : R ≡ block_of (length out_r) (amended (entries_of 2 r₁) (entries_of 2 r₂) (entries_of 2 w₂))
+  withdrawn : W ≡ block_of (length out_w) (amended (entries_of 2 w₁) (entries_of 2 w₂) (entries_of 2 r₂))
 
-folded : (r₁ w₁ r₂ w₂ outR outW R W : List ℕ) → fold_call r₁ w₁ r₂ w₂ outR outW ≡ accepted (R ∷ W ∷ []) → Folded r₁ w₁ r₂ w₂ outR outW R W
+folded : (r₁ w₁ r₂ w₂ out_r out_w R W : List ℕ) → fold_call r₁ w₁ r₂ w₂ out_r out_w ≡ accepted (R ∷ W ∷ []) → Folded r₁ w₁ r₂ w₂ out_r out_w R W
 unfolding fold_call
-folded r₁ w₁ r₂ w₂ outR outW R W e =
-    let fs = fold_refusals r₁ w₁ r₂ w₂ (length outR) (length outW) in
-    let k = turn_accepted fs (outR ∷ outW ∷ []) _ [] (R ∷ W ∷ []) e in
+folded r₁ w₁ r₂ w₂ out_r out_w R W e =
+    let fs = fold_refusals r₁ w₁ r₂ w₂ (length out_r) (length out_w) in
+    let k = turn_accepted fs (out_r ∷ out_w ∷ []) _ [] (R ∷ W ∷ []) e in
     record { clear = clear_at fs k.0; released = first _ _ k.1; withdrawn = second _ _ k.1 }
   where
     first : (l m : List ℕ) → outcome (given []) (l ∷ m ∷ []) ≡ accepted (R ∷ W ∷ []) → R ≡ l
@@ -122,24 +122,24 @@ apply_means list released withdrawn out after e =
     rw a.words (amended_left (length out) (entries_of 2 list) (entries_of 2 released) (entries_of 2 withdrawn) (a.clear 3) (a.clear 5))
 
 -- an accepted fold
-module _ (r₁ w₁ r₂ w₂ outR outW R W : List ℕ) (e : fold_call r₁ w₁ r₂ w₂ outR outW ≡ accepted (R ∷ W ∷ [])) where
-  f : Folded r₁ w₁ r₂ w₂ outR outW R W
-  f = folded r₁ w₁ r₂ w₂ outR outW R W e
+module _ (r₁ w₁ r₂ w₂ out_r out_w R W : List ℕ) (e : fold_call r₁ w₁ r₂ w₂ out_r out_w ≡ accepted (R ∷ W ∷ [])) where
+  f : Folded r₁ w₁ r₂ w₂ out_r out_w R W
+  f = folded r₁ w₁ r₂ w₂ out_r out_w R W e
 
   -- FOLD, in the words of membership alone
-  pub fold_released : SetLeft (length outR) (λ x. amend (member (entries_of 2 r₁) x) (member (entries_of 2 r₂) x) (member (entries_of 2 w₂) x)) R
+  pub fold_released : SetLeft (length out_r) (λ x. amend (member (entries_of 2 r₁) x) (member (entries_of 2 r₂) x) (member (entries_of 2 w₂) x)) R
   unfolding f
-  fold_released = rw f.released (amended_left (length outR) (entries_of 2 r₁) (entries_of 2 r₂) (entries_of 2 w₂) (f.clear 4) (f.clear 8))
+  fold_released = rw f.released (amended_left (length out_r) (entries_of 2 r₁) (entries_of 2 r₂) (entries_of 2 w₂) (f.clear 4) (f.clear 8))
 
-  pub fold_withdrawn : SetLeft (length outW) (λ x. amend (member (entries_of 2 w₁) x) (member (entries_of 2 w₂) x) (member (entries_of 2 r₂) x)) W
+  pub fold_withdrawn : SetLeft (length out_w) (λ x. amend (member (entries_of 2 w₁) x) (member (entries_of 2 w₂) x) (member (entries_of 2 r₂) x)) W
   unfolding f
-  fold_withdrawn = rw f.withdrawn (amended_left (length outW) (entries_of 2 w₁) (entries_of 2 w₂) (entries_of 2 r₂) (f.clear 5) (f.clear 9))
+  fold_withdrawn = rw f.withdrawn (amended_left (length out_w) (entries_of 2 w₁) (entries_of 2 w₂) (entries_of 2 r₂) (f.clear 5) (f.clear 9))
 
   entries_released : entries_of 2 R ≡ amended (entries_of 2 r₁) (entries_of 2 r₂) (entries_of 2 w₂)
-  entries_released = ap (entries_of 2) f.released ∙ amended_entries (length outR) (entries_of 2 r₁) (entries_of 2 r₂) (entries_of 2 w₂)
+  entries_released = ap (entries_of 2) f.released ∙ amended_entries (length out_r) (entries_of 2 r₁) (entries_of 2 r₂) (entries_of 2 w₂)
 
   entries_withdrawn : entries_of 2 W ≡ amended (entries_of 2 w₁) (entries_of 2 w₂) (entries_of 2 r₂)
-  entries_withdrawn = ap (entries_of 2) f.withdrawn ∙ amended_entries (length outW) (entries_of 2 w₁) (entries_of 2 w₂) (entries_of 2 r₂)
+  entries_withdrawn = ap (entries_of 2) f.withdrawn ∙ amended_entries (length out_w) (entries_of 2 w₁) (entries_of 2 w₂) (entries_of 2 r₂)
 
   folded_apart : Apart (entries_of 2 R) (entries_of 2 W)
   folded_apart =
@@ -152,14 +152,14 @@ module _ (r₁ w₁ r₂ w₂ outR outW R W : List ℕ) (e : fold_call r₁ w₁
   fold_bulletin = record { released_sound = fold_released.sound; withdrawn_sound = fold_withdrawn.sound; apart = folded_apart }
 
 -- FOLDING, THEN APPLYING: where two bulletins are applied one after the other, their fold does the same at once, to the same words
-pub fold_applies : (list r₁ w₁ r₂ w₂ outR outW R W out₁ T out₂ U out : List ℕ)
-    → fold_call r₁ w₁ r₂ w₂ outR outW ≡ accepted (R ∷ W ∷ [])
+pub fold_applies : (list r₁ w₁ r₂ w₂ out_r out_w R W out₁ T out₂ U out : List ℕ)
+    → fold_call r₁ w₁ r₂ w₂ out_r out_w ≡ accepted (R ∷ W ∷ [])
     → apply_call list r₁ w₁ out₁ ≡ accepted (T ∷ [])
     → apply_call T r₂ w₂ out₂ ≡ accepted (U ∷ [])
     → length out ≡ length out₂
     → apply_call list R W out ≡ accepted (U ∷ [])
 unfolding apply_call
-fold_applies list r₁ w₁ r₂ w₂ outR outW R W out₁ T out₂ U out e p q l =
+fold_applies list r₁ w₁ r₂ w₂ out_r out_w R W out₁ T out₂ U out e p q l =
     clear_turn (apply_refusals list R W (length out)) (out ∷ []) _ clears ∙ ap (λ (x : List ℕ). accepted (x ∷ [])) (ap₂ block_of l same ∙ sym second.words)
   where
     first : Applied list r₁ w₁ out₁ T
@@ -173,12 +173,12 @@ fold_applies list r₁ w₁ r₂ w₂ outR outW R W out₁ T out₂ U out e p q 
 
     same : amended (entries_of 2 list) (entries_of 2 R) (entries_of 2 W) ≡ amended (entries_of 2 T) (entries_of 2 r₂) (entries_of 2 w₂)
     same =
-        ap₂ (amended (entries_of 2 list)) (entries_released r₁ w₁ r₂ w₂ outR outW R W e) (entries_withdrawn r₁ w₁ r₂ w₂ outR outW R W e)
+        ap₂ (amended (entries_of 2 list)) (entries_released r₁ w₁ r₂ w₂ out_r out_w R W e) (entries_withdrawn r₁ w₁ r₂ w₂ out_r out_w R W e)
         ∙ amended_amended (entries_of 2 list) (entries_of 2 r₁) (entries_of 2 w₁) (entries_of 2 r₂) (entries_of 2 w₂)
         ∙ ap (λ (t : List Entry). amended t (entries_of 2 r₂) (entries_of 2 w₂)) (sym between)
 
     bulletin : Bulletin R W
-    bulletin = fold_bulletin r₁ w₁ r₂ w₂ outR outW R W e
+    bulletin = fold_bulletin r₁ w₁ r₂ w₂ out_r out_w R W e
 
     clears : Clear (apply_refusals list R W (length out))
     clears = (
@@ -212,13 +212,13 @@ same_words_lem o a b c d p q = let e : accepted (a ∷ b ∷ []) ≡ accepted (c
     second e = cc
 
 -- a fold of two bulletins with these results, into outputs as long as those that had room for them
-fold_as : (r₁ w₁ r₂ w₂ outR outW outR' outW' R W : List ℕ) (rs ws : List Entry) → Bulletin r₁ w₁ → Bulletin r₂ w₂
+fold_as : (r₁ w₁ r₂ w₂ out_r out_w outR' outW' R W : List ℕ) (rs ws : List Entry) → Bulletin r₁ w₁ → Bulletin r₂ w₂
     → amended (entries_of 2 r₁) (entries_of 2 r₂) (entries_of 2 w₂) ≡ rs → amended (entries_of 2 w₁) (entries_of 2 w₂) (entries_of 2 r₂) ≡ ws
-    → no_block (length outR) ≡ 0 → no_block (length outW) ≡ 0 → no_room set_layout (length outR) rs ≡ 0 → no_room set_layout (length outW) ws ≡ 0
-    → R ≡ block_of (length outR) rs → W ≡ block_of (length outW) ws → length outR' ≡ length outR → length outW' ≡ length outW
+    → no_block (length out_r) ≡ 0 → no_block (length out_w) ≡ 0 → no_room set_layout (length out_r) rs ≡ 0 → no_room set_layout (length out_w) ws ≡ 0
+    → R ≡ block_of (length out_r) rs → W ≡ block_of (length out_w) ws → length outR' ≡ length out_r → length outW' ≡ length out_w
     → fold_call r₁ w₁ r₂ w₂ outR' outW' ≡ accepted (R ∷ W ∷ [])
 unfolding fold_call
-fold_as r₁ w₁ r₂ w₂ outR outW outR' outW' R W rs ws b c er ew nr nw fr fw pr pw l m =
+fold_as r₁ w₁ r₂ w₂ out_r out_w outR' outW' R W rs ws b c er ew nr nw fr fw pr pw l m =
     clear_turn (fold_refusals r₁ w₁ r₂ w₂ (length outR') (length outW')) (outR' ∷ outW' ∷ []) _ clears
     ∙ ap₂ (λ (x y : List ℕ). accepted (x ∷ y ∷ [])) (ap₂ block_of l er ∙ sym pr) (ap₂ block_of m ew ∙ sym pw)
   where
@@ -256,9 +256,9 @@ fold_as r₁ w₁ r₂ w₂ outR outW outR' outW' R W rs ws b c er ew nr nw fr f
     )
 
 -- the inputs of an accepted fold are bulletins
-module _ (r₁ w₁ r₂ w₂ outR outW R W : List ℕ) (e : fold_call r₁ w₁ r₂ w₂ outR outW ≡ accepted (R ∷ W ∷ [])) where
-  g : Folded r₁ w₁ r₂ w₂ outR outW R W
-  g = folded r₁ w₁ r₂ w₂ outR outW R W e
+module _ (r₁ w₁ r₂ w₂ out_r out_w R W : List ℕ) (e : fold_call r₁ w₁ r₂ w₂ out_r out_w ≡ accepted (R ∷ W ∷ [])) where
+  g : Folded r₁ w₁ r₂ w₂ out_r out_w R W
+  g = folded r₁ w₁ r₂ w₂ out_r out_w R W e
 
   pub earlier_bulletin : Bulletin r₁ w₁
   earlier_bulletin = record { released_sound = g.clear 0; withdrawn_sound = g.clear 1; apart = overlap_apart (entries_of 2 r₁) (entries_of 2 w₁) (g.clear 6) }
@@ -303,14 +303,14 @@ fold_groups r₁ w₁ r₂ w₂ r₃ w₃ o₁ o₂ o₃ o₄ o₅ o₆ o₇ o�
 
 -- EITHER ORDER: of two bulletins, neither of which releases a number that the other withdraws, a fold that is accepted in one order
 -- is accepted in the other, into outputs of the same lengths, to the same words
-pub fold_other_order : (r₁ w₁ r₂ w₂ outR outW outR' outW' R W : List ℕ)
+pub fold_other_order : (r₁ w₁ r₂ w₂ out_r out_w outR' outW' R W : List ℕ)
     → Apart (entries_of 2 r₁) (entries_of 2 w₂) → Apart (entries_of 2 r₂) (entries_of 2 w₁)
-    → fold_call r₁ w₁ r₂ w₂ outR outW ≡ accepted (R ∷ W ∷ [])
-    → length outR' ≡ length outR → length outW' ≡ length outW
+    → fold_call r₁ w₁ r₂ w₂ out_r out_w ≡ accepted (R ∷ W ∷ [])
+    → length outR' ≡ length out_r → length outW' ≡ length out_w
     → fold_call r₂ w₂ r₁ w₁ outR' outW' ≡ accepted (R ∷ W ∷ [])
-fold_other_order r₁ w₁ r₂ w₂ outR outW outR' outW' R W p q a l m =
-    let f = folded r₁ w₁ r₂ w₂ outR outW R W a in
-    fold_as r₂ w₂ r₁ w₁ outR outW outR' outW' R W _ _ (later_bulletin r₁ w₁ r₂ w₂ outR outW R W a) (earlier_bulletin r₁ w₁ r₂ w₂ outR outW R W a)
+fold_other_order r₁ w₁ r₂ w₂ out_r out_w outR' outW' R W p q a l m =
+    let f = folded r₁ w₁ r₂ w₂ out_r out_w R W a in
+    fold_as r₂ w₂ r₁ w₁ out_r out_w outR' outW' R W _ _ (later_bulletin r₁ w₁ r₂ w₂ out_r out_w R W a) (earlier_bulletin r₁ w₁ r₂ w₂ out_r out_w R W a)
     (amended_swap (entries_of 2 r₂) (entries_of 2 w₂) (entries_of 2 r₁) (entries_of 2 w₁) q p)
     (amended_swap (entries_of 2 w₂) (entries_of 2 r₂) (entries_of 2 w₁) (entries_of 2 r₁) (apart_sym (entries_of 2 r₁) (entries_of 2 w₂) p)
     (apart_sym (entries_of 2 r₂) (entries_of 2 w₁) q))
@@ -318,14 +318,14 @@ fold_other_order r₁ w₁ r₂ w₂ outR outW outR' outW' R W p q a l m =
 
 -- «Two bulletins, neither of which releases a number that the other withdraws, fold in either order, if accepted, to the same words,
 -- into output blocks of the same lengths.»
-pub fold_either_order : (r₁ w₁ r₂ w₂ outR outW outR' outW' R W R' W' : List ℕ)
+pub fold_either_order : (r₁ w₁ r₂ w₂ out_r out_w outR' outW' R W R' W' : List ℕ)
     → Apart (entries_of 2 r₁) (entries_of 2 w₂) → Apart (entries_of 2 r₂) (entries_of 2 w₁)
-    → fold_call r₁ w₁ r₂ w₂ outR outW ≡ accepted (R ∷ W ∷ [])
+    → fold_call r₁ w₁ r₂ w₂ out_r out_w ≡ accepted (R ∷ W ∷ [])
     → fold_call r₂ w₂ r₁ w₁ outR' outW' ≡ accepted (R' ∷ W' ∷ [])
-    → length outR' ≡ length outR → length outW' ≡ length outW
+    → length outR' ≡ length out_r → length outW' ≡ length out_w
     → (R ≡ R') × (W ≡ W')
-fold_either_order r₁ w₁ r₂ w₂ outR outW outR' outW' R W R' W' p q a b l m =
-    same_words_lem (fold_call r₂ w₂ r₁ w₁ outR' outW') R W R' W' (fold_other_order r₁ w₁ r₂ w₂ outR outW outR' outW' R W p q a l m) b
+fold_either_order r₁ w₁ r₂ w₂ out_r out_w outR' outW' R W R' W' p q a b l m =
+    same_words_lem (fold_call r₂ w₂ r₁ w₁ outR' outW') R W R' W' (fold_other_order r₁ w₁ r₂ w₂ out_r out_w outR' outW' R W p q a l m) b
 
 -- THE SAME EFFECT: two bulletins that do the same to every serial, listed before or not, hold the same ranges
 module _ (r w r' w' : List ℕ) (b : Bulletin r w) (b' : Bulletin r' w') (lr : Lent r) (lw : Lent w) (lr' : Lent r') (lw' : Lent w')

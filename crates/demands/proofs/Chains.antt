@@ -20,6 +20,6 @@ accepted_too lent lent' o o' (both_refuse n p) xs after e = absurd (refused≢gi
 pub chain_applies : ChainApplies
 chain_applies list _ _ _ _ (one r w out T e) out' l =
     accepted_too (out ∷ []) (out' ∷ []) (apply_call list r w out) (apply_call list r w out') (old_words.2 list r w out out' (sym l)) [] (T ∷ []) e
-chain_applies list _ _ _ _ (more R W T L c r w outR outW R' W' out T' e f) out' l =
+chain_applies list _ _ _ _ (more R W T L c r w out_r out_w R' W' out T' e f) out' l =
     let before : List ℕ = replicate L 0 in
-    fold_applies list R W r w outR outW R' W' before T out T' out' e (chain_applies list R W T L c before (length-replicate {A = ℕ} L 0)) f l
+    fold_applies list R W r w out_r out_w R' W' before T out T' out' e (chain_applies list R W T L c before (length-replicate {A = ℕ} L 0)) f l

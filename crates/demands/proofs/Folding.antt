@@ -25,10 +25,10 @@ pub apply_leaves : Apply
 apply_leaves = apply_means
 
 pub fold_leaves : Fold
-fold_leaves r₁ w₁ r₂ w₂ outR outW R W e = (fold_released r₁ w₁ r₂ w₂ outR outW R W e, fold_withdrawn r₁ w₁ r₂ w₂ outR outW R W e)
+fold_leaves r₁ w₁ r₂ w₂ out_r out_w R W e = (fold_released r₁ w₁ r₂ w₂ out_r out_w R W e, fold_withdrawn r₁ w₁ r₂ w₂ out_r out_w R W e)
 
 pub fold_is_one : FoldIsOne
-fold_is_one r₁ w₁ r₂ w₂ outR outW R W e = fold_bulletin r₁ w₁ r₂ w₂ outR outW R W e
+fold_is_one r₁ w₁ r₂ w₂ out_r out_w R W e = fold_bulletin r₁ w₁ r₂ w₂ out_r out_w R W e
 
 pub fold_then_apply : FoldApplies
 fold_then_apply = fold_applies
@@ -78,12 +78,12 @@ apply_room list released withdrawn out = record {
 
 pub fold_room : FoldRoom
 unfolding fold_call
-fold_room r₁ w₁ r₂ w₂ outR outW = (first, second)
+fold_room r₁ w₁ r₂ w₂ out_r out_w = (first, second)
   where
     firsts : List Finding
     firsts =
         input 0 set_layout r₁ ∷ input 1 set_layout w₁ ∷ input 2 set_layout r₂ ∷ input 3 set_layout w₂
-        ∷ output 4 (length outR) ∷ output 5 (length outW) ∷ overlap r₁ w₁ ∷ overlap r₂ w₂ ∷ []
+        ∷ output 4 (length out_r) ∷ output 5 (length out_w) ∷ overlap r₁ w₁ ∷ overlap r₂ w₂ ∷ []
 
     other : Numbered Not5 firsts
     other = (
@@ -95,9 +95,9 @@ fold_room r₁ w₁ r₂ w₂ outR outW = (first, second)
           (
             input_not set_layout w₂,
             (
-              output_not (length outR),
+              output_not (length out_r),
               (
-                output_not (length outW),
+                output_not (length out_w),
                 (overlap_not (entries_of 2 r₁) (entries_of 2 w₁), (overlap_not (entries_of 2 r₂) (entries_of 2 w₂), tt)),
               ),
             ),
@@ -113,26 +113,26 @@ fold_room r₁ w₁ r₂ w₂ outR outW = (first, second)
     withdrawn = amended_with w₁ w₂ r₂
 
     ls : List ℕ
-    ls = length outR ∷ length outW ∷ []
+    ls = length out_r ∷ length out_w ∷ []
 
     counts : List ℕ
     counts = length released ∷ length withdrawn ∷ []
 
     exactly : (i p : ℕ) → p ≡ 4 + i
-        → Iff (fold_call r₁ w₁ r₂ w₂ outR outW ≡ refuse 5 p (outR ∷ outW ∷ [])) (Clear firsts × Lacks set_layout ls counts i)
+        → Iff (fold_call r₁ w₁ r₂ w₂ out_r out_w ≡ refuse 5 p (out_r ∷ out_w ∷ [])) (Clear firsts × Lacks set_layout ls counts i)
     exactly i p e =
-        refused_room set_layout 4 ls counts refl i p e firsts other (outR ∷ outW ∷ []) [] (block_of (length outR) released ∷ block_of (length outW) withdrawn ∷ [])
+        refused_room set_layout 4 ls counts refl i p e firsts other (out_r ∷ out_w ∷ []) [] (block_of (length out_r) released ∷ block_of (length out_w) withdrawn ∷ [])
 
-    foldable : Clear firsts → Foldable r₁ w₁ r₂ w₂ outR outW
+    foldable : Clear firsts → Foldable r₁ w₁ r₂ w₂ out_r out_w
     foldable z =
         let c = clear_at firsts z in
         record {
           earlier = record { released_sound = c 0; withdrawn_sound = c 1; apart = overlap_apart (entries_of 2 r₁) (entries_of 2 w₁) (c 6) };
           later = record { released_sound = c 2; withdrawn_sound = c 3; apart = overlap_apart (entries_of 2 r₂) (entries_of 2 w₂) (c 7) };
-          words = (some_words (length outR) (c 4), some_words (length outW) (c 5));
+          words = (some_words (length out_r) (c 4), some_words (length out_w) (c 5));
         }
 
-    clears : Foldable r₁ w₁ r₂ w₂ outR outW → Clear firsts
+    clears : Foldable r₁ w₁ r₂ w₂ out_r out_w → Clear firsts
     clears h = (
       h.earlier.released_sound,
       (
@@ -142,9 +142,9 @@ fold_room r₁ w₁ r₂ w₂ outR outW = (first, second)
           (
             h.later.withdrawn_sound,
             (
-              has_words (length outR) h.words.0,
+              has_words (length out_r) h.words.0,
               (
-                has_words (length outW) h.words.1,
+                has_words (length out_w) h.words.1,
                 (
                   apart_overlap (entries_of 2 r₁) (entries_of 2 w₁) h.earlier.apart,
                   (apart_overlap (entries_of 2 r₂) (entries_of 2 w₂) h.later.apart, tt),
@@ -156,20 +156,20 @@ fold_room r₁ w₁ r₂ w₂ outR outW = (first, second)
       ),
     )
 
-    first : Iff (fold_call r₁ w₁ r₂ w₂ outR outW ≡ refuse 5 4 (outR ∷ outW ∷ []))
-        (Foldable r₁ w₁ r₂ w₂ outR outW × (capacity set_layout (length outR) < length released))
+    first : Iff (fold_call r₁ w₁ r₂ w₂ out_r out_w ≡ refuse 5 4 (out_r ∷ out_w ∷ []))
+        (Foldable r₁ w₁ r₂ w₂ out_r out_w × (capacity set_layout (length out_r) < length released))
     first = record {
       to = λ e. let h = (exactly 0 4 refl).to e in (foldable h.0, h.1.here);
       from = λ h. (exactly 0 4 refl).from (clears h.0, record { before = λ k l. absurd (omega arith); here = h.1 });
     }
 
-    second : Iff (fold_call r₁ w₁ r₂ w₂ outR outW ≡ refuse 5 5 (outR ∷ outW ∷ []))
-        (Foldable r₁ w₁ r₂ w₂ outR outW × (length released ≤ capacity set_layout (length outR)) × (capacity set_layout (length outW) < length withdrawn))
+    second : Iff (fold_call r₁ w₁ r₂ w₂ out_r out_w ≡ refuse 5 5 (out_r ∷ out_w ∷ []))
+        (Foldable r₁ w₁ r₂ w₂ out_r out_w × (length released ≤ capacity set_layout (length out_r)) × (capacity set_layout (length out_w) < length withdrawn))
     second = record {
       to = λ e. let h = (exactly 1 5 refl).to e in (foldable h.0, h.1.before 0 (omega arith), h.1.here);
       from = λ h. (exactly 1 5 refl).from (clears h.0, record { before = before h.1; here = h.2 });
     }
       where
-        before : length released ≤ capacity set_layout (length outR) → (k : ℕ) → k < 1 → get_or counts k 0 ≤ capacity set_layout (get_or ls k 0)
+        before : length released ≤ capacity set_layout (length out_r) → (k : ℕ) → k < 1 → get_or counts k 0 ≤ capacity set_layout (get_or ls k 0)
         before l zero q = l
         before l (suc k) q = absurd (omega arith)

@@ -96,11 +96,11 @@ read_sizes b y = (of_sets, of_maps, of_bulletins, of_signeds)
     of_maps : (out w : List ℕ) → read_map_call b out ≡ leaves w → length b ≡ 7 + 29 * get_or w 0 0
     of_maps out w e = omega (arith, (read_blocks of_map is_map b (out ∷ []) (w ∷ []) y refl e).2, items_length 3 (get_or w 0 0) (drop 1 w))
 
-    of_bulletins : (outR outW r w : List ℕ) → read_bulletin_call b outR outW ≡ outcome (given []) (r ∷ w ∷ []) → length b ≡ 9 + 21 * (get_or r 0 0 + get_or w 0 0)
-    of_bulletins outR outW r w e =
+    of_bulletins : (out_r out_w r w : List ℕ) → read_bulletin_call b out_r out_w ≡ outcome (given []) (r ∷ w ∷ []) → length b ≡ 9 + 21 * (get_or r 0 0 + get_or w 0 0)
+    of_bulletins out_r out_w r w e =
         omega (
           arith,
-          (read_blocks of_bulletin is_bulletin b (outR ∷ outW ∷ []) (r ∷ w ∷ []) y refl e).2,
+          (read_blocks of_bulletin is_bulletin b (out_r ∷ out_w ∷ []) (r ∷ w ∷ []) y refl e).2,
           items_length 2 (get_or r 0 0) (drop 1 r),
           items_length 2 (get_or w 0 0) (drop 1 w),
         )
@@ -119,8 +119,8 @@ one_map_form b b' out out' w w' y y' o e e' h =
     (λ p q. ap (λ (es : List Entry). es ∷ []) (one_map w w' p.0.0 q.0.0 p.0.1 q.0.1 h))
 
 pub one_bulletin_form : OneBulletinForm
-one_bulletin_form b b' outR outW outR' outW' r w r' w' y y' o e e' h g =
-    one_form of_bulletin is_bulletin b b' (outR ∷ outW ∷ []) (outR' ∷ outW' ∷ []) (r ∷ w ∷ []) (r' ∷ w' ∷ []) y y' o refl refl e e'
+one_bulletin_form b b' out_r out_w outR' outW' r w r' w' y y' o e e' h g =
+    one_form of_bulletin is_bulletin b b' (out_r ∷ out_w ∷ []) (outR' ∷ outW' ∷ []) (r ∷ w ∷ []) (r' ∷ w' ∷ []) y y' o refl refl e e'
     (λ p q. ap₂ (λ (es fs : List Entry). es ∷ fs ∷ []) (one_set r r' p.0.0 q.0.0 p.0.1 q.0.1 h)
     (one_set w w' p.1.0.0 q.1.0.0 p.1.0.1 q.1.0.1 g))
 

@@ -70,8 +70,8 @@ later_apply list released withdrawn list' released' withdrawn' out s t u =
 
 pub later_fold : LaterFold
 unfolding fold_call
-later_fold r₁ w₁ r₂ w₂ r₁' w₁' r₂' w₂' outR outW s t u x =
-    inputs_same (outR ∷ outW ∷ []) set_layout (omega arith) 0 (r₁ ∷ w₁ ∷ r₂ ∷ w₂ ∷ []) (r₁' ∷ w₁' ∷ r₂' ∷ w₂' ∷ []) (s, (t, (u, (x, tt)))) [] [] _ _
+later_fold r₁ w₁ r₂ w₂ r₁' w₁' r₂' w₂' out_r out_w s t u x =
+    inputs_same (out_r ∷ out_w ∷ []) set_layout (omega arith) 0 (r₁ ∷ w₁ ∷ r₂ ∷ w₂ ∷ []) (r₁' ∷ w₁' ∷ r₂' ∷ w₂' ∷ []) (s, (t, (u, (x, tt)))) [] [] _ _
     (λ e. cc)
 
 pub later_edit : LaterEdit
@@ -112,7 +112,7 @@ old_words = (
       rw (n) (turn_alike _ _ (two_refusals first second out w v (length p) (make (entries_of first.width w) (entries_of second.width v))) _ _),
   λ first out make w o p n. rw (n) (turn_alike _ _ (one_refusals first out w (length p) (make (entries_of first.width w))) _ _),
   λ list released withdrawn o p n. rw (n) (turn_alike _ _ (apply_refusals list released withdrawn (length p)) _ _),
-  λ r₁ w₁ r₂ w₂ outR outW outR' outW' n m. rw (n, m) (turn_alike _ _ (fold_refusals r₁ w₁ r₂ w₂ (length outR') (length outW')) _ _),
+  λ r₁ w₁ r₂ w₂ out_r out_w outR' outW' n m. rw (n, m) (turn_alike _ _ (fold_refusals r₁ w₁ r₂ w₂ (length outR') (length outW')) _ _),
   λ f b outs outs' n.
       rw (n, stored_same outs outs' (form_entries f b) n)
       (turn_alike outs outs' (form_refusals f b ++ out_refusals f.layout (lengths outs') (lengths (form_entries f b))) _ _),

@@ -28,25 +28,25 @@ Apply = (list released withdrawn out after : List ℕ) → apply_call list relea
 
 -- [U3, D2] FOLD, in the same words
 abbrev pub Fold : Type 0
-Fold = (r₁ w₁ r₂ w₂ outR outW R W : List ℕ) → fold_call r₁ w₁ r₂ w₂ outR outW ≡ folds R W
-    → SetLeft (length outR) (λ x. amend (In r₁ x) (In r₂ x) (In w₂ x)) R × SetLeft (length outW) (λ x. amend (In w₁ x) (In w₂ x) (In r₂ x)) W
+Fold = (r₁ w₁ r₂ w₂ out_r out_w R W : List ℕ) → fold_call r₁ w₁ r₂ w₂ out_r out_w ≡ folds R W
+    → SetLeft (length out_r) (λ x. amend (In r₁ x) (In r₂ x) (In w₂ x)) R × SetLeft (length out_w) (λ x. amend (In w₁ x) (In w₂ x) (In r₂ x)) W
 
 -- [U1] and the fold of two bulletins is one
 abbrev pub FoldIsOne : Type 0
-FoldIsOne = (r₁ w₁ r₂ w₂ outR outW R W : List ℕ) → fold_call r₁ w₁ r₂ w₂ outR outW ≡ folds R W → Bulletin R W
+FoldIsOne = (r₁ w₁ r₂ w₂ out_r out_w R W : List ℕ) → fold_call r₁ w₁ r₂ w₂ out_r out_w ≡ folds R W → Bulletin R W
 
 -- [D5] FOLDING, THEN APPLYING: where two bulletins are folded, and applied one after the other, applying the fold to the same list, into a
 -- block as long as the last, is accepted and leaves the same words
 abbrev pub FoldApplies : Type 0
-FoldApplies = (list r₁ w₁ r₂ w₂ outR outW R W out₁ T out₂ U out : List ℕ) → fold_call r₁ w₁ r₂ w₂ outR outW ≡ folds R W
+FoldApplies = (list r₁ w₁ r₂ w₂ out_r out_w R W out₁ T out₂ U out : List ℕ) → fold_call r₁ w₁ r₂ w₂ out_r out_w ≡ folds R W
     → apply_call list r₁ w₁ out₁ ≡ leaves T → apply_call T r₂ w₂ out₂ ≡ leaves U → length out ≡ length out₂ → apply_call list R W out ≡ leaves U
 
 -- any number of bulletins, one after the other: applied to a list, each into a block of its own, they left T in a block of L words; folded,
 -- each into what the ones before it had folded to, they are the one bulletin R, W
 pub data Chain (list : List ℕ) : List ℕ → List ℕ → List ℕ → ℕ → Type 0 where
   one : (r w out T : List ℕ) → apply_call list r w out ≡ leaves T → Chain list r w T (length out)
-  more : (R W T : List ℕ) (L : ℕ) → Chain list R W T L → (r w outR outW R' W' out T' : List ℕ)
-      → fold_call R W r w outR outW ≡ folds R' W' → apply_call T r w out ≡ leaves T' → Chain list R' W' T' (length out)
+  more : (R W T : List ℕ) (L : ℕ) → Chain list R W T L → (r w out_r out_w R' W' out T' : List ℕ)
+      → fold_call R W r w out_r out_w ≡ folds R' W' → apply_call T r w out ≡ leaves T' → Chain list R' W' T' (length out)
 
 -- [D5] TWENTY AT ONCE: a cart that is sent the one folded bulletin, and applies it to the same list into a block as long as the last of its
 -- neighbour's, accepts it and holds the same words as the neighbour that took them one by one
@@ -62,9 +62,9 @@ FoldGroups = (r₁ w₁ r₂ w₂ r₃ w₃ : List ℕ) (o₁ o₂ o₃ o₄ o�
 
 -- [U4] EITHER ORDER: two bulletins neither of which releases a number that the other withdraws
 abbrev pub EitherOrder : Type 0
-EitherOrder = (r₁ w₁ r₂ w₂ outR outW outR' outW' R W R' W' : List ℕ) → NoCommon r₁ w₂ → NoCommon r₂ w₁
-    → fold_call r₁ w₁ r₂ w₂ outR outW ≡ folds R W → fold_call r₂ w₂ r₁ w₁ outR' outW' ≡ folds R' W'
-    → length outR' ≡ length outR → length outW' ≡ length outW → (R ≡ R') × (W ≡ W')
+EitherOrder = (r₁ w₁ r₂ w₂ out_r out_w outR' outW' R W R' W' : List ℕ) → NoCommon r₁ w₂ → NoCommon r₂ w₁
+    → fold_call r₁ w₁ r₂ w₂ out_r out_w ≡ folds R W → fold_call r₂ w₂ r₁ w₁ outR' outW' ≡ folds R' W'
+    → length outR' ≡ length out_r → length outW' ≡ length out_w → (R ≡ R') × (W ≡ W')
 
 -- what a bulletin does to one serial that was listed (true) or not (false)
 abbrev pub Effect : List ℕ → List ℕ → Bool → ℕ → Bool
@@ -89,7 +89,7 @@ SameApplied = (r w r' w' : List ℕ) → Bulletin r w → Bulletin r' w' → Len
 -- [R0] REFUSED, neither changes anything lent: the one output of apply, or the two of fold
 abbrev pub BulletinsKeep : Type 0
 BulletinsKeep = ((list released withdrawn out : List ℕ) → Keeps (out ∷ []) (apply_call list released withdrawn out))
-    × ((r₁ w₁ r₂ w₂ outR outW : List ℕ) → Keeps (outR ∷ outW ∷ []) (fold_call r₁ w₁ r₂ w₂ outR outW))
+    × ((r₁ w₁ r₂ w₂ out_r out_w : List ℕ) → Keeps (out_r ∷ out_w ∷ []) (fold_call r₁ w₁ r₂ w₂ out_r out_w))
 
 -- [R5, R17] ROOM exactly: nothing earlier applies, and the list that results does not fit the output
 abbrev pub ApplyRoom : Type 0
@@ -98,17 +98,17 @@ ApplyRoom = (list released withdrawn out : List ℕ)
     (SoundSet list × Bulletin released withdrawn × (0 < length out) × (capacity set_layout (length out) < length (amended_with list released withdrawn)))
 
 -- two bulletins, and outputs that have words
-pub record Foldable (r₁ w₁ r₂ w₂ outR outW : List ℕ) : Type 0 where
+pub record Foldable (r₁ w₁ r₂ w₂ out_r out_w : List ℕ) : Type 0 where
   pub earlier : Bulletin r₁ w₁
   pub later : Bulletin r₂ w₂
-  pub words : (0 < length outR) × (0 < length outW)
+  pub words : (0 < length out_r) × (0 < length out_w)
 
 -- [R5, R17] ROOM exactly: nothing earlier applies, and the released set that results does not fit its output; or it does, and the withdrawn
 -- set does not
 abbrev pub FoldRoom : Type 0
-FoldRoom = (r₁ w₁ r₂ w₂ outR outW : List ℕ)
-    → Iff (fold_call r₁ w₁ r₂ w₂ outR outW ≡ refuse 5 4 (outR ∷ outW ∷ []))
-    (Foldable r₁ w₁ r₂ w₂ outR outW × (capacity set_layout (length outR) < length (amended_with r₁ r₂ w₂)))
-    × Iff (fold_call r₁ w₁ r₂ w₂ outR outW ≡ refuse 5 5 (outR ∷ outW ∷ []))
-    (Foldable r₁ w₁ r₂ w₂ outR outW × (length (amended_with r₁ r₂ w₂) ≤ capacity set_layout (length outR))
-    × (capacity set_layout (length outW) < length (amended_with w₁ w₂ r₂)))
+FoldRoom = (r₁ w₁ r₂ w₂ out_r out_w : List ℕ)
+    → Iff (fold_call r₁ w₁ r₂ w₂ out_r out_w ≡ refuse 5 4 (out_r ∷ out_w ∷ []))
+    (Foldable r₁ w₁ r₂ w₂ out_r out_w × (capacity set_layout (length out_r) < length (amended_with r₁ r₂ w₂)))
+    × Iff (fold_call r₁ w₁ r₂ w₂ out_r out_w ≡ refuse 5 5 (out_r ∷ out_w ∷ []))
+    (Foldable r₁ w₁ r₂ w₂ out_r out_w × (length (amended_with r₁ r₂ w₂) ≤ capacity set_layout (length out_r))
+    × (capacity set_layout (length out_w) < length (amended_with w₁ w₂ r₂)))

@@ -54,7 +54,7 @@ abbrev pub ReadSizes : Type 0
 ReadSizes = (b : List ℕ) → Bytes b
     → ((out w : List ℕ) → read_set_call b out ≡ leaves w → length b ≡ 7 + 21 * get_or w 0 0)
     × ((out w : List ℕ) → read_map_call b out ≡ leaves w → length b ≡ 7 + 29 * get_or w 0 0)
-    × ((outR outW r w : List ℕ) → read_bulletin_call b outR outW ≡ outcome (given []) (r ∷ w ∷ []) → length b ≡ 9 + 21 * (get_or r 0 0 + get_or w 0 0))
+    × ((out_r out_w r w : List ℕ) → read_bulletin_call b out_r out_w ≡ outcome (given []) (r ∷ w ∷ []) → length b ≡ 9 + 21 * (get_or r 0 0 + get_or w 0 0))
     × ((out w : List ℕ) → read_signed_call b out ≡ leaves w → length b ≡ 7 + 21 * get_or w 0 0)
 
 -- the highest number with which reading a form refuses its bytes: 13, and 14 where there are two sets to share a number
@@ -141,8 +141,8 @@ OneMapForm = (b b' out out' w w' : List ℕ) → Bytes b → Bytes b' → mark_o
 
 -- [D3, C5] bytes with the same mark that are read as the same bulletin, by its released and its withdrawn set, are the same bytes
 abbrev pub OneBulletinForm : Type 0
-OneBulletinForm = (b b' outR outW outR' outW' r w r' w' : List ℕ) → Bytes b → Bytes b' → mark_of b ≡ mark_of b'
-    → read_bulletin_call b outR outW ≡ outcome (given []) (r ∷ w ∷ []) → read_bulletin_call b' outR' outW' ≡ outcome (given []) (r' ∷ w' ∷ [])
+OneBulletinForm = (b b' out_r out_w outR' outW' r w r' w' : List ℕ) → Bytes b → Bytes b' → mark_of b ≡ mark_of b'
+    → read_bulletin_call b out_r out_w ≡ outcome (given []) (r ∷ w ∷ []) → read_bulletin_call b' outR' outW' ≡ outcome (given []) (r' ∷ w' ∷ [])
     → ((x : ℕ) → x ≤ M → In r x ≡ In r' x) → ((x : ℕ) → x ≤ M → In w x ≡ In w' x) → b ≡ b'
 
 -- [D3, K6, C5] bytes with the same mark that are read as the same signed set, by its keys, are the same bytes

@@ -117,9 +117,9 @@ OverlapExactly = (list released withdrawn out : List ℕ)
 -- [R14, R17] folding is refused with 14 exactly if the four inputs are sound, both outputs have words, and not both bulletins are without a number
 -- that their two sets share
 abbrev pub FoldOverlapExactly : Type 0
-FoldOverlapExactly = (r₁ w₁ r₂ w₂ outR outW : List ℕ)
-    → Iff (fold_call r₁ w₁ r₂ w₂ outR outW ≡ refuse 14 0 (outR ∷ outW ∷ []))
-    (SoundSet r₁ × SoundSet w₁ × SoundSet r₂ × SoundSet w₂ × (0 < length outR) × (0 < length outW) × (NoCommon r₁ w₁ × NoCommon r₂ w₂ → ⊥))
+FoldOverlapExactly = (r₁ w₁ r₂ w₂ out_r out_w : List ℕ)
+    → Iff (fold_call r₁ w₁ r₂ w₂ out_r out_w ≡ refuse 14 0 (out_r ∷ out_w ∷ []))
+    (SoundSet r₁ × SoundSet w₁ × SoundSet r₂ × SoundSet w₂ × (0 < length out_r) × (0 < length out_w) × (NoCommon r₁ w₁ × NoCommon r₂ w₂ → ⊥))
 
 -- [R14, R17] and writing a bulletin is refused with 14 exactly if its two sets are sound and share a number
 abbrev pub WriteOverlapExactly : Type 0
@@ -169,10 +169,10 @@ ApplyAccepted = (list released withdrawn out : List ℕ)
 
 -- [U3] folding is accepted exactly if there are two bulletins and two outputs with words, and both results are within the capacity of theirs
 abbrev pub FoldAccepted : Type 0
-FoldAccepted = (r₁ w₁ r₂ w₂ outR outW : List ℕ)
-    → Iff (Accepts (fold_call r₁ w₁ r₂ w₂ outR outW))
-    (Foldable r₁ w₁ r₂ w₂ outR outW × (length (amended_with r₁ r₂ w₂) ≤ capacity set_layout (length outR))
-    × (length (amended_with w₁ w₂ r₂) ≤ capacity set_layout (length outW)))
+FoldAccepted = (r₁ w₁ r₂ w₂ out_r out_w : List ℕ)
+    → Iff (Accepts (fold_call r₁ w₁ r₂ w₂ out_r out_w))
+    (Foldable r₁ w₁ r₂ w₂ out_r out_w × (length (amended_with r₁ r₂ w₂) ≤ capacity set_layout (length out_r))
+    × (length (amended_with w₁ w₂ r₂) ≤ capacity set_layout (length out_w)))
 
 -- [S1, S2, S3, S4, S5, M1] a question about one block is accepted exactly if the block is sound
 abbrev pub AskedAccepted : Type 0

@@ -88,9 +88,9 @@ LaterApply = (list released withdrawn list' released' withdrawn' out : List ℕ)
 
 -- [B7] of two bulletins folded,
 abbrev pub LaterFold : Type 0
-LaterFold = (r₁ w₁ r₂ w₂ r₁' w₁' r₂' w₂' outR outW : List ℕ)
+LaterFold = (r₁ w₁ r₂ w₂ r₁' w₁' r₂' w₂' out_r out_w : List ℕ)
     → SameForm set_layout r₁ r₁' → SameForm set_layout w₁ w₁' → SameForm set_layout r₂ r₂' → SameForm set_layout w₂ w₂'
-    → fold_call r₁ w₁ r₂ w₂ outR outW ≡ fold_call r₁' w₁' r₂' w₂' outR outW
+    → fold_call r₁ w₁ r₂ w₂ out_r out_w ≡ fold_call r₁' w₁' r₂' w₂' out_r out_w
 
 -- [B7] and of a byte form written from blocks
 abbrev pub LaterWrite : Type 0
@@ -106,8 +106,8 @@ OldWords = ((first second out : Layout) (make : List Entry → List Entry → Li
     → SameOutcome (o ∷ []) (p ∷ []) (from_one first out make w o) (from_one first out make w p))
     × ((list released withdrawn o p : List ℕ) → length o ≡ length p
     → SameOutcome (o ∷ []) (p ∷ []) (apply_call list released withdrawn o) (apply_call list released withdrawn p))
-    × ((r₁ w₁ r₂ w₂ outR outW outR' outW' : List ℕ) → length outR ≡ length outR' → length outW ≡ length outW'
-    → SameOutcome (outR ∷ outW ∷ []) (outR' ∷ outW' ∷ []) (fold_call r₁ w₁ r₂ w₂ outR outW) (fold_call r₁ w₁ r₂ w₂ outR' outW'))
+    × ((r₁ w₁ r₂ w₂ out_r out_w outR' outW' : List ℕ) → length out_r ≡ length outR' → length out_w ≡ length outW'
+    → SameOutcome (out_r ∷ out_w ∷ []) (outR' ∷ outW' ∷ []) (fold_call r₁ w₁ r₂ w₂ out_r out_w) (fold_call r₁ w₁ r₂ w₂ outR' outW'))
     × ((f : Form) (b : List ℕ) (outs outs' : List (List ℕ)) → lengths outs ≡ lengths outs' → SameOutcome outs outs' (read_call f b outs) (read_call f b outs'))
     × ((w v : List ℕ) → length w ≡ length v → SameOutcome (w ∷ []) (v ∷ []) (make_empty_call w) (make_empty_call v))
 

@@ -8,7 +8,7 @@ use lib.Dec.{ltb}
 use lib.ListN.{length}
 use borrow.Author.Tests.{lt-ltb}
 use Rattle.sets.specs.Steps.{set_layouts}
-use Rattle.answers.specs.Answers.{judged as judgedBy, truth, Answer, outcome}
+use Rattle.answers.specs.Answers.{judged as judged_by, truth, Answer, outcome}
 use Rattle.entries.specs.Entries.{Entry, Sound}
 use Rattle.entries.specs.Build.{andb}
 use Rattle.entries.specs.Sets.{member, union, intersection, difference, symmetric_difference}
@@ -115,5 +115,5 @@ module _ (t : ℕ) {op : List Entry → List Entry → List Entry} (table : (es 
 
   pub asked_as : asked_two w v (λ es fs. truth (is_empty (sweep_result t 2 es fs []))) ≡ asked_two w v (λ es fs. truth (is_empty (op es fs)))
   asked_as =
-      ap (λ (l : List Entry). judgedBy (verdict set_layout w) 0 [] (judgedBy (verdict set_layout v) 1 [] (outcome (truth (is_empty l)) [])))
+      ap (λ (l : List Entry). judged_by (verdict set_layout w) 0 [] (judged_by (verdict set_layout v) 1 [] (outcome (truth (is_empty l)) [])))
       (table (entries_of 2 w) (entries_of 2 v) (bounded 2 w lent) (bounded 2 v lent'))

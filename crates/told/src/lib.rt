@@ -3,14 +3,14 @@
 ghost use Rattle.std.specs.Prelude.{◌≡◌, [], ◌∷◌};
 ghost use Rattle.answers.specs.Answers.{given, refused};
 ghost use Rattle.answers.specs.Says.{judged_says, truth_says, found_says, ranged_says, sized_says, parted_says, decided_says, placed_says, written_says, refusal_says};
-ghost use Rattle.answers.specs.Says.{seated_says};
+ghost use Rattle.answers.specs.Says.{seated_says, valued_says};
 ghost use Rattle.answers.specs.Says.{found_key_says, ranged_keys_says, placed_key_says, apart_says};
 ghost use Rattle.keys.specs.Keys.{word_of, turned};
 ghost use Rattle.told.specs.Told.{told, in_twos};
 
 use answers::{
     Decided, Found, FoundKey, Judged, Parted, Placed, PlacedKey, Ranged, RangedKeys, Refusal,
-    Seated, Sized, Truth, Written,
+    Seated, Sized, Truth, Valued, Written,
 };
 use keys::Apart;
 
@@ -155,6 +155,17 @@ pub fn tell_ranged(a: Ranged) -> Told
         Ranged::Range(low, high) => two_values(low, high),
         Ranged::Nothing => accepted(),
         Ranged::Refused(f) => tell_refusal(f),
+    }
+}
+
+// A value and its expiry, or none.
+pub fn tell_valued(a: Valued) -> Told
+    ensures { result ≡ told (valued_says a) }
+{
+    match a {
+        Valued::Value(v, expiry) => two_values(v, expiry),
+        Valued::Nothing => accepted(),
+        Valued::Refused(f) => tell_refusal(f),
     }
 }
 

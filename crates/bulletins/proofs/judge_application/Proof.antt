@@ -6,21 +6,21 @@ use borrow.Author.Rules.{rules}
 use Rattle.bulletins.proofs.judge_application.Statement.{statement}
 use Rattle.bulletins.proofs.judge_application.Tie as tie
 
-returns : tie.Need-returns
-returns c = stops _ _ _ _ c.before.judge.ensures (verdict_small _ _) c.if1.true
+returns : tie.Need-returns-then-v-ne0
+returns c = stops _ _ _ _ c.before.judge-v.ensures (verdict_small _ _) c.if-v-ne0.true
 
-returns_2 : tie.Need-returns-2
+returns_2 : tie.Need-returns-then-bulletin-ne0
 returns_2 c =
     let at_judge_two = c.before.before in
     let at_if1 = at_judge_two.before in
-    passes _ _ _ _ (sym at_if1.before.judge.ensures ∙ at_if1.if1.false) (stops_in _ _ _ at_judge_two.judge-two.ensures c.if2.true)
+    passes _ _ _ _ (sym at_if1.before.judge-v.ensures ∙ at_if1.if-v-ne0.false) (stops_in _ _ _ at_judge_two.judge_two-bulletin.ensures c.if-bulletin-ne0.true)
 
-returns_3 : tie.Need-returns-3
+returns_3 : tie.Need-returns
 returns_3 c =
     let at_judge_two = c.before.before.before in
     let at_if1 = at_judge_two.before in
-    passes _ _ _ _ (sym at_if1.before.judge.ensures ∙ at_if1.if1.false)
-    (passes_in _ _ _ _ at_judge_two.judge-two.ensures c.before.if2.false
+    passes _ _ _ _ (sym at_if1.before.judge-v.ensures ∙ at_if1.if-v-ne0.false)
+    (passes_in _ _ _ _ at_judge_two.judge_two-bulletin.ensures c.before.if-bulletin-ne0.false
     (ends _ _ _ c.no_block.ensures (block_small at_if1.before.before.before.before.before.args.words)))
 
 pub judge_application_spec : {M : Type 1} → statement M

@@ -15,25 +15,25 @@ fits_requires c κs =
       (
         fit_set _ 2 2 2 (omega arith) (omega arith) (omega arith),
         (
-          omega (arith, c.room_for.ensures),
+          omega (arith, c.room_for-cap.ensures),
           most start.args.list.now start.args.released.now start.args.withdrawn.now start.requires.0
-              at_count_of.count_of.result at_count_of2.count-of2.result at_count_of3.count-of3.result at_count_of.count_of.ensures
-              at_count_of2.count-of2.ensures at_count_of3.count-of3.ensures,
+              at_count_of.count_of.result at_count_of2.count_of-2.result at_count_of3.count_of-3.result at_count_of.count_of.ensures
+              at_count_of2.count_of-2.ensures at_count_of3.count_of-3.ensures,
         ),
       ),
     )
 
-returns : tie.Need-returns
+returns : tie.Need-returns-then-fits
 returns c =
     let at_room_for = c.before.before in
-    room_yes _ _ _ at_room_for.before.before.before.before.before.before.before.requires.0 _ _ at_room_for.room_for.ensures _
-    c.before.fits2.ensures c.if1.true
+    room_yes _ _ _ at_room_for.before.before.before.before.before.before.before.requires.0 _ _ at_room_for.room_for-cap.ensures _
+    c.before.fits.ensures c.if-fits.true
 
-returns_2 : tie.Need-returns-2
+returns_2 : tie.Need-returns
 returns_2 c =
     let at_room_for = c.before.before in
-    room_no _ _ _ at_room_for.before.before.before.before.before.before.before.requires.0 _ _ at_room_for.room_for.ensures _
-    c.before.fits2.ensures c.if1.false
+    room_no _ _ _ at_room_for.before.before.before.before.before.before.before.requires.0 _ _ at_room_for.room_for-cap.ensures _
+    c.before.fits.ensures c.if-fits.false
 
 pub no_room_spec : {M : Type 1} → statement M
 no_room_spec =

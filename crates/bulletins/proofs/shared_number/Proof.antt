@@ -3,11 +3,11 @@ use borrow.Author.Rules.{rules}
 use Rattle.bulletins.proofs.shared_number.Statement.{statement}
 use Rattle.bulletins.proofs.shared_number.Tie as tie
 
-returns : tie.Need-returns
-returns c = shared_yes _ _ c.before.share-number.result c.before.share-number.ensures c.if1.true
+returns : tie.Need-returns-then-share_number
+returns c = shared_yes _ _ c.before.share_number.result c.before.share_number.ensures c.if-share_number.true
 
-returns_2 : tie.Need-returns-2
-returns_2 c = shared_no _ _ c.before.share-number.result c.before.share-number.ensures c.if1.false
+returns_2 : tie.Need-returns
+returns_2 c = shared_no _ _ c.before.share_number.result c.before.share_number.ensures c.if-share_number.false
 
 pub shared_number_spec : {M : Type 1} → statement M
 shared_number_spec =

@@ -15,10 +15,10 @@ power c = let l : c.args.j < 64 = omega (arith, c.requires) in omega (arith, pow
 ones : (c : tie.Start) → let j = c.args.j in ((1 * 2 ^ j) % 2 ^ 64 - 1) + 1 ≡ 2 ^ j
 ones c = omega (arith, power c, pow_pos c.args.j)
 
-sub_ones : tie.Need-overflow-sub-ones
+sub_ones : tie.Need-overflow_sub-ones
 sub_ones c = omega (arith, power c, pow_pos c.args.j)
 
-sub_more : tie.Need-overflow-sub-more
+sub_more : tie.Need-overflow_sub-more
 sub_more c = over_within c.args.low c.args.j _ (ones c)
 
 returns : tie.Need-returns

@@ -7,21 +7,21 @@ use borrow.Author.Rules.{rules}
 use Rattle.fits.proofs.fit.Statement.{statement}
 use Rattle.fits.proofs.fit.Tie as tie
 
-returns : tie.Need-returns
+returns : tie.Need-returns-then-v-ne0
 returns c =
     let at_if1 = c.before in
     let at_ask_verdict = at_if1.before in
     let start = at_ask_verdict.before.before in
     fit_refused (chooser start.args.shortest) start.args.block.now start.args.a start.args.b start.args.k start.args.j
-    at_ask_verdict.ask-verdict.result at_ask_verdict.ask-verdict.ensures c.refusal-of.result at_if1.if1.true
-    c.refusal-of.ensures
+    at_ask_verdict.ask_verdict-v.result at_ask_verdict.ask_verdict-v.ensures c.refusal_of.result at_if1.if-v-ne0.true
+    c.refusal_of.ensures
 
-gap_for_requires : tie.Need-gap-for-requires
+gap_for_requires : tie.Need-gap_for-gap-requires
 gap_for_requires c κs =
     let at_ask_verdict = c.before in
     let start = at_ask_verdict.before.before in
     asked_right start.args.block.now start.args.a start.args.b start.args.k start.args.j
-    (at_ask_verdict.ask-verdict.ensures.clear c.if1.false)
+    (at_ask_verdict.ask_verdict-v.ensures.clear c.if-v-ne0.false)
 
 ahead_requires : tie.Need-ahead-requires
 ahead_requires c κs =
@@ -29,15 +29,15 @@ ahead_requires c κs =
     let at_ask_verdict = at_if1.before in
     let start = at_ask_verdict.before.before in
     (asked_right start.args.block.now start.args.a start.args.b start.args.k start.args.j
-    (at_ask_verdict.ask-verdict.ensures.clear at_if1.if1.false)).power
+    (at_ask_verdict.ask_verdict-v.ensures.clear at_if1.if-v-ne0.false)).power
 
-add_start : tie.Need-overflow-add-start
+add_start : tie.Need-overflow_add-start
 add_start c =
     let at_ahead = c.before in
     let at_if2 = at_ahead.before in
-    omega (arith, at_ahead.ahead.ensures, at_if2.before.gap-for.ensures.start at_if2.if2.true)
+    omega (arith, at_ahead.ahead.ensures, at_if2.before.gap_for-gap.ensures.start at_if2.if-gap.true)
 
-returns_2 : tie.Need-returns-2
+returns_2 : tie.Need-returns-then-gap
 returns_2 c =
     let at_ahead = c.before in
     let at_if2 = at_ahead.before in
@@ -46,11 +46,11 @@ returns_2 c =
     let at_ask_verdict = at_if1.before in
     let start = at_ask_verdict.before.before in
     fit_answers (chooser start.args.shortest) start.args.block.now start.args.a start.args.b start.args.k start.args.j
-    at_ask_verdict.ask-verdict.result at_ask_verdict.ask-verdict.ensures (some _) _ at_if1.if1.false
+    at_ask_verdict.ask_verdict-v.result at_ask_verdict.ask_verdict-v.ensures (some _) _ at_if1.if-v-ne0.false
     (place_found (chooser start.args.shortest) start.args.block.now start.args.a start.args.b start.args.k start.args.j
-    at_gap_for.gap-for.result at_gap_for.gap-for.ensures at_ahead.ahead.result at_ahead.ahead.ensures at_if2.if2.true) refl
+    at_gap_for.gap_for-gap.result at_gap_for.gap_for-gap.ensures at_ahead.ahead.result at_ahead.ahead.ensures at_if2.if-gap.true) refl
 
-returns_3 : tie.Need-returns-3
+returns_3 : tie.Need-returns
 returns_3 c =
     let at_if2 = c.before in
     let at_gap_for = at_if2.before in
@@ -58,9 +58,9 @@ returns_3 c =
     let at_ask_verdict = at_if1.before in
     let start = at_ask_verdict.before.before in
     fit_answers (chooser start.args.shortest) start.args.block.now start.args.a start.args.b start.args.k start.args.j
-    at_ask_verdict.ask-verdict.result at_ask_verdict.ask-verdict.ensures none _ at_if1.if1.false
+    at_ask_verdict.ask_verdict-v.result at_ask_verdict.ask_verdict-v.ensures none _ at_if1.if-v-ne0.false
     (place_none (chooser start.args.shortest) start.args.block.now start.args.a start.args.b start.args.k start.args.j
-    at_gap_for.gap-for.result at_gap_for.gap-for.ensures at_if2.if2.false) (fit_none c.refusal-of2.result c.refusal-of2.ensures)
+    at_gap_for.gap_for-gap.result at_gap_for.gap_for-gap.ensures at_if2.if-gap.false) (fit_none c.refusal_of-2.result c.refusal_of-2.ensures)
 
 pub fit_spec : {M : Type 1} → statement M
 fit_spec =

@@ -5,31 +5,24 @@ use borrow.Author.Rules.{rules}
 use Rattle.fits.proofs.reserve_at.Statement.{statement}
 use Rattle.fits.proofs.reserve_at.Tie as tie
 
-put_value_requires : tie.Need-put-value-requires
+put_value_requires : tie.Need-put_value-requires
 put_value_requires c κs =
-    let at_count_of = c.before.before in
-    let start = at_count_of.before.before.before in
     record {
-      edit = record { two = omega arith; block = start.requires.block; count = at_count_of.count_of.ensures };
+      edit = record { two = omega arith; block = c.requires.block; count = c.count_of-n.ensures };
       whole = refl;
       order = omega
           arith;
     }
 
-returns : tie.Need-returns
+returns : tie.Need-returns-then-put_value
 returns c =
-    let at_put_value = c.before.before.before.before in
-    let start = at_put_value.before.before.before.before.before.before in
-    reserved start.args.block.now start.args.s start.args.k start.requires _ refl at_put_value.put-value.result _
-    at_put_value.put-value.ensures c.if1.true
+    reserved c.args.block.now c.args.s c.args.k c.requires _ refl c.put_value.result _
+    c.put_value.ensures c.if-put_value.true
 
-returns_2 : tie.Need-returns-2
+returns_2 : tie.Need-returns
 returns_2 c =
-    let at_if1 = c.before in
-    let at_put_value = at_if1.before.before.before.before in
-    let start = at_put_value.before.before.before.before.before.before in
-    no_room start.args.block.now start.args.s start.args.k start.requires _ refl at_put_value.put-value.result _
-    at_put_value.put-value.ensures c.refusal-of.result at_if1.if1.false c.refusal-of.ensures
+    no_room c.args.block.now c.args.s c.args.k c.requires _ refl c.put_value.result _
+    c.put_value.ensures c.refusal_of.result c.if-put_value.false c.refusal_of.ensures
 
 pub reserve_at_spec : {M : Type 1} → statement M
 reserve_at_spec =

@@ -7,8 +7,8 @@ use Rattle.maps.proofs.assign.Tie as tie
 returns : tie.Need-returns
 returns c =
     let at_edit_put = c.before.before.before.before in
-    numbered_as 0 c.judged-of.ensures (edit_most _ _ _ _ _ at_edit_put.edit-put.result _ at_edit_put.edit-put.ensures)
-    at_edit_put.edit-put.ensures
+    numbered_as 0 c.judged_of.ensures (edit_most _ _ _ _ _ at_edit_put.edit_put.result _ at_edit_put.edit_put.ensures)
+    at_edit_put.edit_put.ensures
 
 pub assign_spec : {M : Type 1} → statement M
 assign_spec =

@@ -3,13 +3,13 @@ use borrow.Author.Rules.{rules}
 use Rattle.maps.proofs.deciding_of.Statement.{statement}
 use Rattle.maps.proofs.deciding_of.Tie as tie
 
-returns : tie.Need-returns
+returns : tie.Need-returns-then-own-ne0
 returns c =
-    site_decides c.before.before.entry-part.ensures c.if1.true
+    site_decides c.before.before.entry_part-own.ensures c.if-own-ne0.true
 
-returns_2 : tie.Need-returns-2
+returns_2 : tie.Need-returns
 returns_2 c =
-    factory_decides c.before.before.before.entry-part.ensures c.before.if1.false c.entry-part2.ensures
+    factory_decides c.before.before.before.entry_part-own.ensures c.before.if-own-ne0.false c.entry_part-other.ensures
 
 pub deciding_of_spec : {M : Type 1} → statement M
 deciding_of_spec =

@@ -14,7 +14,7 @@ use borrow.Author.Rules.{rules}
 use Rattle.maps.proofs.domain.Statement.{statement}
 use Rattle.maps.proofs.domain.Tie as tie
 
-from_one_requires : tie.Need-from-one-requires
+from_one_requires : tie.Need-from_one-requires
 from_one_requires c κs = domain_fit
 
 returns : tie.Need-returns
@@ -26,7 +26,7 @@ returns c =
     at_from_one.from_one.ensures ∙ one_as map_layout set_layout (λ (es : List Entry). sweep_result in_first 2 es [] []) domain start.args.map.now
     start.args.out.now
     (domain_table (map_entries start.args.map.now)
-    (bounded width start.args.map.now (λ j. omega (arith, at_shared_slice_known.shared-slice-known.given j))))
+    (bounded width start.args.map.now (λ j. omega (arith, at_shared_slice_known.shared_slice_known-1.given j))))
 
 pub domain_spec : {M : Type 1} → statement M
 domain_spec =

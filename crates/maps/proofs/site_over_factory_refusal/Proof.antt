@@ -10,8 +10,8 @@ unfolding site_refusal_call
 returns c =
     let at_judge_two = c.before in
     let start = at_judge_two.before.before.before in
-    answered_by (site_refusals start.args.site.now start.args.factory.now) at_judge_two.judge-two.result
-    at_judge_two.judge-two.ensures [] c.judged-of.result c.judged-of.ensures
+    answered_by (site_refusals start.args.site.now start.args.factory.now) at_judge_two.judge_two-found.result
+    at_judge_two.judge_two-found.ensures [] c.judged_of.result c.judged_of.ensures
 
 pub site_over_factory_refusal_spec : {M : Type 1} → statement M
 site_over_factory_refusal_spec =

@@ -8,7 +8,7 @@ use borrow.Author.Rules.{rules}
 use Rattle.prefixes.proofs.finish.Statement.{statement}
 use Rattle.prefixes.proofs.finish.Tie as tie
 
-same_length : tie.Need-same-length
+same_length : tie.Need-shape_of-out
 same_length c =
     let at_clear = c.before.before in
     let at_narrow = at_clear.before.before in
@@ -19,7 +19,7 @@ returns c =
     let at_clear = c.before.before in
     let at_narrow = at_clear.before.before in
     let a = at_narrow.before.before.args in
-    subst (λ (k : ℕ). Cleared (set a.out.now 0 k) (2 * a.n + 1) at_clear.clear.new.0) at_narrow.narrow.ensures at_clear.clear.ensures
+    subst (λ (k : ℕ). Cleared (set a.out.now 0 k) (2 * a.n + 1) at_clear.clear.new.block) at_narrow.narrow.ensures at_clear.clear.ensures
 
 pub finish_spec : {M : Type 1} → statement M
 finish_spec =

@@ -6,20 +6,20 @@ use borrow.Author.Rules.{rules}
 use Rattle.prefixes.proofs.note.Statement.{statement}
 use Rattle.prefixes.proofs.note.Tie as tie
 
-returns : tie.Need-returns
+returns : tie.Need-returns-then-count-room
 returns c =
     let s = c.before.args in
-    noted_stored s.room s.count (prefix s.start s.e) s.out.now c.before.requires c.if1.true
+    noted_stored s.room s.count (prefix s.start s.e) s.out.now c.before.requires c.if-count-room.true
 
-returns_2 : tie.Need-returns-2
+returns_2 : tie.Need-returns-then-count-out
 returns_2 c =
     let s = c.before.before.args in
-    noted_counted s.room s.count (prefix s.start s.e) s.out.now c.before.if1.false c.if2.true
+    noted_counted s.room s.count (prefix s.start s.e) s.out.now c.before.if-count-room.false c.if-count-out.true
 
-returns_3 : tie.Need-returns-3
+returns_3 : tie.Need-returns
 returns_3 c =
     let s = c.before.before.args in
-    noted_past s.room s.count (prefix s.start s.e) s.out.now c.before.if1.false c.if2.false
+    noted_past s.room s.count (prefix s.start s.e) s.out.now c.before.if-count-room.false c.if-count-out.false
 
 pub note_spec : {M : Type 1} → statement M
 note_spec =

@@ -8,41 +8,41 @@ use borrow.Author.Rules.{rules}
 use Rattle.prefixes.proofs.prefix_blocks.Statement.{statement}
 use Rattle.prefixes.proofs.prefix_blocks.Tie as tie
 
-returns : tie.Need-returns
+returns : tie.Need-returns-then-found-ne0
 unfolding prefix_call
-returns c = refused_first prefixes _ _ c.before.before.before.refusal.ensures _ c.before.if1.true c.judged-of.ensures
+returns c = refused_first prefixes _ _ c.before.before.before.refusal-found.ensures _ c.before.if-found-ne0.true c.judged_of.ensures
 
 -- neither the set nor the output is refused, and the room is known
-at_room : (c : tie.After-room-for) → let a = c.before.before.before.before.before.before.args in
-    Ready prefixes a.set.now a.out.now c.room_for.result
-at_room c = let k = c.before in ready prefixes _ _ k.before.before.refusal.ensures k.if1.false _ c.room_for.ensures
+at_room : (c : tie.After-room_for-room) → let a = c.before.before.before.before.before.before.args in
+    Ready prefixes a.set.now a.out.now c.room_for-room.result
+at_room c = let k = c.before in ready prefixes _ _ k.before.before.refusal-found.ensures k.if-found-ne0.false _ c.room_for-room.ensures
 
 finish_requires : tie.Need-finish-requires
 finish_requires c κs =
     let p = c.before.before.before in
     let t = p.before.before.before.before.before in
-    (at_room t.before.before).in_out (rw p.before.before.if2.true at t.taken-fit.ensures) p.take-set.ensures
+    (at_room t.before.before).in_out (rw p.before.before.if-taken_fit.true at t.taken_fit.ensures) p.take_set-n.ensures
 
-returns_2 : tie.Need-returns-2
+returns_2 : tie.Need-returns-then-taken_fit
 unfolding prefix_call
 returns_2 c =
     let f = c.before.before.before in
     let p = f.before.before.before.before in
     let t = p.before.before.before.before.before in
-    (at_room t.before.before).accepted (rw p.before.before.if2.true at t.taken-fit.ensures) p.take-set.ensures _ f.finish.ensures
-    _ c.judged-of2.ensures
+    (at_room t.before.before).accepted (rw p.before.before.if-taken_fit.true at t.taken_fit.ensures) p.take_set-n.ensures _ f.finish.ensures
+    _ c.judged_of-then-taken_fit.ensures
 
-returns_3 : tie.Need-returns-3
+returns_3 : tie.Need-returns
 unfolding prefix_call
 returns_3 c =
     let t = c.before.before.before.before in
-    (at_room t.before.before).refused (rw c.before.if2.false at t.taken-fit.ensures) _ c.judged-of3.ensures
+    (at_room t.before.before).refused (rw c.before.if-taken_fit.false at t.taken_fit.ensures) _ c.judged_of-2.ensures
 
 pub prefix_blocks_spec : {M : Type 1} → statement M
 prefix_blocks_spec =
     tie.close
     (tie.spec (λ c κs. search rules) (λ c κs. search rules) returns
-    (λ c κs. (omega arith, some_words _ (clear_by c.before.before.refusal.ensures c.if1.false 1)))
+    (λ c κs. (omega arith, some_words _ (clear_by c.before.before.refusal-found.ensures c.if-found-ne0.false 1)))
     (λ c κs. ((at_room c.before).sound, (at_room c.before).less))
-    (λ c κs. let t = c.before.before.before.before in let r = at_room t.before.before in (r.sound, r.has_room t.taken-fit.ensures))
+    (λ c κs. let t = c.before.before.before.before in let r = at_room t.before.before in (r.sound, r.has_room t.taken_fit.ensures))
     finish_requires (λ c κs. search rules) (λ c. search rules) returns_2 (λ c κs. search rules) (λ c. search rules) returns_3)

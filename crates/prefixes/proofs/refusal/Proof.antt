@@ -8,18 +8,18 @@ use borrow.Author.Rules.{rules}
 use Rattle.prefixes.proofs.refusal.Statement.{statement}
 use Rattle.prefixes.proofs.refusal.Tie as tie
 
-returns : tie.Need-returns
-returns c = stops _ _ _ _ c.before.judge.ensures (verdict_small _ _) c.if1.true
+returns : tie.Need-returns-then-v-ne0
+returns c = stops _ _ _ _ c.before.judge-v.ensures (verdict_small _ _) c.if-v-ne0.true
 
 -- the set is sound
-sound : (c : tie.Else1) → verdict set_layout c.before.before.before.args.set.now ≡ 0
-sound c = sym c.before.judge.ensures ∙ c.if1.false
+sound : (c : tie.Else-v-ne0) → verdict set_layout c.before.before.before.args.set.now ≡ 0
+sound c = sym c.before.judge-v.ensures ∙ c.if-v-ne0.false
 
-returns_2 : tie.Need-returns-2
-returns_2 c = passes _ _ _ _ (sound c.before) (no_words _ c.if2.true)
+returns_2 : tie.Need-returns-then-words-eq0
+returns_2 c = passes _ _ _ _ (sound c.before) (no_words _ c.if-words-eq0.true)
 
-returns_3 : tie.Need-returns-3
-returns_3 c = passes _ _ _ _ (sound c.before) (with_words _ c.if2.false)
+returns_3 : tie.Need-returns
+returns_3 c = passes _ _ _ _ (sound c.before) (with_words _ c.if-words-eq0.false)
 
 pub refusal_spec : {M : Type 1} → statement M
 refusal_spec = tie.close (tie.spec (λ c κs. search rules) returns returns_2 returns_3)

@@ -8,54 +8,43 @@ use borrow.Author.Rules.{rules}
 use Rattle.prefixes.proofs.take_range.Statement.{statement}
 use Rattle.prefixes.proofs.take_range.Tie as tie
 
-abbrev invariant-loop : tie.invariant-loop
+abbrev invariant-loop : tie.invariant-loop-low
 invariant-loop low high out₀ count room at₀ noted₀ out at noted = Taking low high room count out₀ at noted out
 
-abbrev decreases-loop : tie.decreases-loop
+abbrev decreases-loop : tie.decreases-loop-low
 decreases-loop low high out₀ count room at₀ noted₀ out at noted = high - at
 
-note_requires : tie.Need-note-requires invariant-loop decreases-loop
-note_requires c κs = omega (arith, c.before.before.loop.invariant.long, c.before.before.before.before.requires.1)
+note_requires : tie.Need-note-noted-requires invariant-loop decreases-loop
+note_requires c κs = omega (arith, c.loop-low.invariant.long, c.requires.1)
 
-ones_requires : tie.Need-ones-requires invariant-loop decreases-loop
-ones_requires c κs = omega (arith, c.before.before.before.before.exponent.ensures.small)
+ones_requires : tie.Need-ones-more-requires invariant-loop decreases-loop
+ones_requires c κs = omega (arith, c.exponent-e.ensures.small)
 
--- where the last block has been noted, and where another is to come
-abbrev last : tie.Then1 invariant-loop decreases-loop → tie.After-note invariant-loop decreases-loop
-last c = c.before.before.before.before
+same_length : tie.Need-shape_of-out-then-left-more invariant-loop decreases-loop
+same_length c = omega (arith, c.loop-low.invariant.long, c.note-noted.auto.out)
 
-abbrev on : tie.Else1 invariant-loop decreases-loop → tie.After-note invariant-loop decreases-loop
-on c = c.before.before.before.before
-
-same_length : tie.Need-same-length invariant-loop decreases-loop
-same_length c = let n = last c in omega (arith, n.before.before.before.loop.inv.long, n.note.kept)
-
-returns : tie.Need-returns invariant-loop decreases-loop
+returns : tie.Need-returns-then-left-more invariant-loop decreases-loop
 returns c =
-    let n = last c in
-    taking_end n.before.before.before.loop.inv n.before.before.exponent.ensures _ c.before.ones.ensures n.note.ensures
-    (omega (arith, c.if1.true))
+    taking_end c.loop-low.invariant c.exponent-e.ensures _ c.ones-more.ensures c.note-noted.ensures
+    (omega (arith, c.if-left-more.true))
 
 -- the next block begins at a number of the range
-more : (c : tie.Else1 invariant-loop decreases-loop) → let l = (on c).before.before.before in
-    (l.loop.at + c.before.ones.result < l.before.before.args.high) × (l.before.before.args.high < past_m)
+more : (c : tie.Else-left-more invariant-loop decreases-loop) → (c.loop-low.at + c.ones-more.result < c.args.high) × (c.args.high < past_m)
 more c =
-    let l = (on c).before.before.before in
-    let u = l.loop.inv.upto in
-    (omega (arith, c.if1.false), omega (arith, l.before.before.fits.high.fits))
+    let u = c.loop-low.invariant.upto in
+    (omega (arith, c.if-left-more.false), omega (arith, c.ranges.high.fits))
 
-loop_less : tie.Need-loop-smaller invariant-loop decreases-loop
+loop_less : tie.Need-loop-low-smaller invariant-loop decreases-loop
 loop_less c = omega (arith, (more c).0)
 
-loop_again : tie.Need-loop-preserved invariant-loop decreases-loop
+loop_again : tie.Need-loop-low-preserved invariant-loop decreases-loop
 loop_again c =
-    let n = on c in
-    taking_on n.before.before.before.loop.inv n.before.before.exponent.ensures _ c.before.ones.ensures n.note.ensures
-    (omega (arith, c.if1.false))
+    taking_on c.loop-low.invariant c.exponent-e.ensures _ c.ones-more.ensures c.note-noted.ensures
+    (omega (arith, c.if-left-more.false))
 
 pub take_range_spec : {M : Type 1} → statement M
 take_range_spec =
     tie.close
-    (tie.spec invariant-loop decreases-loop (λ c. record { upto = c.before.requires.0; long = refl; rest = refl }) (λ c. omega (arith, c.loop.invariant.upto))
+    (tie.spec invariant-loop decreases-loop (λ c. record { upto = c.requires.0; long = refl; rest = refl }) (λ c. omega (arith, c.loop-low.invariant.upto))
     (λ c κs. search rules) note_requires ones_requires same_length returns (λ c. record { fits = omega (arith, (more c).0, (more c).1) })
     (λ c. record { fits = omega (arith, (more c).0, (more c).1) }) loop_less loop_again)

@@ -12,7 +12,7 @@ use borrow.Author.Rules.{rules}
 use Rattle.sets.proofs.complement.Statement.{statement}
 use Rattle.sets.proofs.complement.Tie as tie
 
-from_one_requires : tie.Need-from-one-requires
+from_one_requires : tie.Need-from_one-requires
 from_one_requires c κs = complement_fit
 
 returns : tie.Need-returns

@@ -12,8 +12,8 @@ returns : tie.Need-returns
 unfolding equal_call
 returns c =
     let first = c.before.before in
-    c.keeps-none.ensures ∙ asked_as just_one symmetric_table first.before.args.a.now first.before.args.b.now
-    (λ j. omega (arith, first.shared-slice-known.given j)) (λ j. omega (arith, c.before.shared-slice-known2.given j))
+    c.keeps_none.ensures ∙ asked_as just_one symmetric_table first.before.args.a.now first.before.args.b.now
+    (λ j. omega (arith, first.shared_slice_known-1.given j)) (λ j. omega (arith, c.before.shared_slice_known-2-1.given j))
 
 pub equal_spec : {M : Type 1} → statement M
 equal_spec = tie.close (tie.spec (λ c κs. search rules) returns)

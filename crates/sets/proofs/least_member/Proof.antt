@@ -11,24 +11,24 @@ use borrow.Author.Rules.{rules}
 use Rattle.sets.proofs.least_member.Statement.{statement}
 use Rattle.sets.proofs.least_member.Tie as tie
 
-returns : tie.Need-returns
+returns : tie.Need-returns-then-v-ne0
 unfolding least_member_call
 returns c =
     let at_judge = c.before.before in
     let start = at_judge.before.before in
-    refuse_asked start.args.block.now (λ (es : List Entry). optional (least_member es start.args.x)) _ _ at_judge.judge.ensures
-    c.before.if1.true c.refusal-of.ensures
+    refuse_asked start.args.block.now (λ (es : List Entry). optional (least_member es start.args.x)) _ _ at_judge.judge-v.ensures
+    c.before.if-v-ne0.true c.refusal_of.ensures
 
-least_in_requires : tie.Need-least-in-requires
-least_in_requires c κs = verdict_sound set_layout _ (sym c.before.judge.ensures ∙ c.if1.false)
+least_in_requires : tie.Need-least_in-requires
+least_in_requires c κs = verdict_sound set_layout _ (sym c.before.judge-v.ensures ∙ c.if-v-ne0.false)
 
-returns_2 : tie.Need-returns-2
+returns_2 : tie.Need-returns
 unfolding least_member_call
 returns_2 c =
     let at_judge = c.before.before in
     let start = at_judge.before.before in
-    give_asked start.args.block.now (λ (es : List Entry). optional (least_member es start.args.x)) _ _ at_judge.judge.ensures
-    c.before.if1.false c.least-in.ensures
+    give_asked start.args.block.now (λ (es : List Entry). optional (least_member es start.args.x)) _ _ at_judge.judge-v.ensures
+    c.before.if-v-ne0.false c.least_in.ensures
 
 pub least_member_spec : {M : Type 1} → statement M
 least_member_spec =

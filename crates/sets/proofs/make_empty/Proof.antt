@@ -3,14 +3,14 @@ use borrow.Author.Rules.{rules}
 use Rattle.sets.proofs.make_empty.Statement.{statement}
 use Rattle.sets.proofs.make_empty.Tie as tie
 
-returns : tie.Need-returns
-returns c = empty_refused _ _ c.judged-of.ensures c.before.if1.true
+returns : tie.Need-returns-then-block-eq0
+returns c = empty_refused _ _ c.judged_of.ensures c.before.if-block-eq0.true
 
-returns_2 : tie.Need-returns-2
+returns_2 : tie.Need-returns
 returns_2 c =
     let at_clear = c.before.before.before in
     let at_if1 = at_clear.before.before in
-    empty_done _ _ _ c.judged-of2.ensures at_if1.if1.false at_clear.clear.ensures
+    empty_done _ _ _ c.judged_of-2.ensures at_if1.if-block-eq0.false at_clear.clear.ensures
 
 pub make_empty_spec : {M : Type 1} → statement M
 make_empty_spec =

@@ -10,24 +10,24 @@ use borrow.Author.Rules.{rules}
 use Rattle.sets.proofs.range_at.Statement.{statement}
 use Rattle.sets.proofs.range_at.Tie as tie
 
-returns : tie.Need-returns
+returns : tie.Need-returns-then-v-ne0
 unfolding range_at_call
 returns c =
     let at_judge = c.before.before in
     let start = at_judge.before.before in
-    refuse_asked start.args.block.now (λ (es : List Entry). ends (range_at es start.args.i)) _ _ at_judge.judge.ensures c.before.if1.true
-    c.refusal-of.ensures
+    refuse_asked start.args.block.now (λ (es : List Entry). ends (range_at es start.args.i)) _ _ at_judge.judge-v.ensures c.before.if-v-ne0.true
+    c.refusal_of.ensures
 
-range_in_requires : tie.Need-range-in-requires
-range_in_requires c κs = verdict_sound set_layout _ (sym c.before.judge.ensures ∙ c.if1.false)
+range_in_requires : tie.Need-range_in-requires
+range_in_requires c κs = verdict_sound set_layout _ (sym c.before.judge-v.ensures ∙ c.if-v-ne0.false)
 
-returns_2 : tie.Need-returns-2
+returns_2 : tie.Need-returns
 unfolding range_at_call
 returns_2 c =
     let at_judge = c.before.before in
     let start = at_judge.before.before in
-    give_asked start.args.block.now (λ (es : List Entry). ends (range_at es start.args.i)) _ _ at_judge.judge.ensures c.before.if1.false
-    c.range-in.ensures
+    give_asked start.args.block.now (λ (es : List Entry). ends (range_at es start.args.i)) _ _ at_judge.judge-v.ensures c.before.if-v-ne0.false
+    c.range_in.ensures
 
 pub range_at_spec : {M : Type 1} → statement M
 range_at_spec =

@@ -7,8 +7,8 @@ use Rattle.sets.proofs.remove.Tie as tie
 returns : tie.Need-returns
 returns c =
     let at_edit_out = c.before.before.before in
-    numbered_as 0 c.judged-of.ensures (edit_most _ _ _ _ _ at_edit_out.edit-out.result _ at_edit_out.edit-out.ensures)
-    at_edit_out.edit-out.ensures
+    numbered_as 0 c.judged_of.ensures (edit_most _ _ _ _ _ at_edit_out.edit_out.result _ at_edit_out.edit_out.ensures)
+    at_edit_out.edit_out.ensures
 
 pub remove_spec : {M : Type 1} → statement M
 remove_spec =

@@ -6,10 +6,10 @@ use native.Mathlib.Omega.{arith}
 use Rattle.sets.proofs.size_less_one.Statement.{statement}
 use Rattle.sets.proofs.size_less_one.Tie as tie
 
-abbrev invariant-loop : tie.invariant-loop
+abbrev invariant-loop : tie.invariant-loop-left
 invariant-loop block n total₀ p₀ left₀ total p left = Summed block (total + 1) p left
 
-abbrev decreases-loop : tie.decreases-loop
+abbrev decreases-loop : tie.decreases-loop-left
 decreases-loop block n total₀ p₀ left₀ total p left = left
 
 word_requires : tie.Need-word-requires invariant-loop decreases-loop
@@ -17,7 +17,7 @@ word_requires c κs =
     let start = c.before in
     omega (
       arith,
-      (summed_start start.args.block.now start.args.n start.requires (λ j. omega (arith, c.shared-slice-known.given j))).inside,
+      (summed_start start.args.block.now start.args.n start.requires (λ j. omega (arith, c.shared_slice_known-1.given j))).inside,
     )
 
 word_requires_2 : tie.Need-word-requires-2 invariant-loop decreases-loop
@@ -27,78 +27,78 @@ word_requires_2 c κs =
     omega (
       arith,
       (summed_start start.args.block.now start.args.n start.requires
-          (λ j. omega (arith, at_shared_slice_known.shared-slice-known.given j))).inside,
+          (λ j. omega (arith, at_shared_slice_known.shared_slice_known-1.given j))).inside,
     )
 
-sub_total : tie.Need-overflow-sub-total invariant-loop decreases-loop
+sub_total : tie.Need-overflow_sub-total invariant-loop decreases-loop
 sub_total c =
     let at_shared_slice_known = c.before.before in
     let start = at_shared_slice_known.before in
     omega (
       arith,
       (summed_start start.args.block.now start.args.n start.requires
-          (λ j. omega (arith, at_shared_slice_known.shared-slice-known.given j))).order,
+          (λ j. omega (arith, at_shared_slice_known.shared_slice_known-1.given j))).order,
     )
 
-sub_left : tie.Need-overflow-sub-left invariant-loop decreases-loop
+sub_left : tie.Need-overflow_sub-left invariant-loop decreases-loop
 sub_left c = let a = c.before.before.before in omega (arith, a.requires.some)
 
-loop_holds : tie.Need-loop-init invariant-loop decreases-loop
+loop_holds : tie.Need-loop-left-init invariant-loop decreases-loop
 loop_holds c =
     let at_shared_slice_known = c.before.before in
     let start = at_shared_slice_known.before in
     let g = summed_start start.args.block.now start.args.n start.requires
-    (λ j. omega (arith, at_shared_slice_known.shared-slice-known.given j)) in
+    (λ j. omega (arith, at_shared_slice_known.shared_slice_known-1.given j)) in
     summed_as _ _ _ _ _ _ _ (omega (arith, g.order)) (omega arith) (omega arith) g.next
 
-add_word : tie.Need-overflow-add-word invariant-loop decreases-loop
-add_word c = let g = took _ _ _ _ c.before.loop.invariant c.loop-test.true in record { fits = omega (arith, g.inside) }
+add_word : tie.Need-overflow_add-p invariant-loop decreases-loop
+add_word c = let g = took _ _ _ _ c.before.loop-left.invariant c.loop-left-test.true in record { fits = omega (arith, g.inside) }
 
-word_requires_3 : tie.Need-word-requires-3 invariant-loop decreases-loop
-word_requires_3 c κs = let g = took _ _ _ _ c.before.loop.invariant c.loop-test.true in omega (arith, g.inside)
+word_requires_3 : tie.Need-word-requires-in-loop-left invariant-loop decreases-loop
+word_requires_3 c κs = let g = took _ _ _ _ c.before.loop-left.invariant c.loop-left-test.true in omega (arith, g.inside)
 
-word_requires_4 : tie.Need-word-requires-4 invariant-loop decreases-loop
-word_requires_4 c κs = let g = took _ _ _ _ c.before.before.loop.invariant c.before.loop-test.true in omega (arith, g.inside)
+word_requires_4 : tie.Need-word-requires-in-loop-left-2 invariant-loop decreases-loop
+word_requires_4 c κs = let g = took _ _ _ _ c.before.before.loop-left.invariant c.before.loop-left-test.true in omega (arith, g.inside)
 
-sub_total_2 : tie.Need-overflow-sub-total-2 invariant-loop decreases-loop
+sub_total_2 : tie.Need-overflow_sub-total-in-loop-left invariant-loop decreases-loop
 sub_total_2 c =
     let at_loop_test = c.before.before in
     let at_loop = at_loop_test.before in
-    let g = took _ _ _ _ at_loop.loop.invariant at_loop_test.loop-test.true in omega (arith, g.order)
+    let g = took _ _ _ _ at_loop.loop-left.invariant at_loop_test.loop-left-test.true in omega (arith, g.order)
 
-add_total : tie.Need-overflow-add-total invariant-loop decreases-loop
+add_total : tie.Need-overflow_add-total invariant-loop decreases-loop
 add_total c =
     let at_loop_test = c.before.before in
     let at_loop = at_loop_test.before in
-    let g = took _ _ _ _ at_loop.loop.invariant at_loop_test.loop-test.true in record { fits = omega (arith, g.order, g.fits) }
+    let g = took _ _ _ _ at_loop.loop-left.invariant at_loop_test.loop-left-test.true in record { fits = omega (arith, g.order, g.fits) }
 
-add_total_2 : tie.Need-overflow-add-total-2 invariant-loop decreases-loop
+add_total_2 : tie.Need-overflow_add-total-in-loop-left invariant-loop decreases-loop
 add_total_2 c =
     let at_loop_test = c.before.before in
     let at_loop = at_loop_test.before in
-    let g = took _ _ _ _ at_loop.loop.invariant at_loop_test.loop-test.true in record { fits = omega (arith, g.order, g.fits) }
+    let g = took _ _ _ _ at_loop.loop-left.invariant at_loop_test.loop-left-test.true in record { fits = omega (arith, g.order, g.fits) }
 
-add_p : tie.Need-overflow-add-p invariant-loop decreases-loop
+add_p : tie.Need-overflow_add-p-in-loop-left invariant-loop decreases-loop
 add_p c =
     let at_loop_test = c.before.before in
     let at_loop = at_loop_test.before in
-    let g = took _ _ _ _ at_loop.loop.invariant at_loop_test.loop-test.true in record { fits = omega (arith, g.inside) }
+    let g = took _ _ _ _ at_loop.loop-left.invariant at_loop_test.loop-left-test.true in record { fits = omega (arith, g.inside) }
 
-sub_left_2 : tie.Need-overflow-sub-left-2 invariant-loop decreases-loop
+sub_left_2 : tie.Need-overflow_sub-left-in-loop-left invariant-loop decreases-loop
 sub_left_2 c = search rules
 
-loop_less : tie.Need-loop-smaller invariant-loop decreases-loop
+loop_less : tie.Need-loop-left-smaller invariant-loop decreases-loop
 loop_less c = search rules
 
-loop_again : tie.Need-loop-preserved invariant-loop decreases-loop
+loop_again : tie.Need-loop-left-preserved invariant-loop decreases-loop
 loop_again c =
     let at_loop_test = c.before.before in
     let at_loop = at_loop_test.before in
-    let g = took _ _ _ _ at_loop.loop.invariant at_loop_test.loop-test.true in
+    let g = took _ _ _ _ at_loop.loop-left.invariant at_loop_test.loop-left-test.true in
     summed_as _ _ _ _ _ _ _ (omega (arith, g.order)) (omega arith) (omega arith) g.next
 
 returns : tie.Need-returns invariant-loop decreases-loop
-returns c = summed_end _ _ _ _ (omega arith) c.before.loop.invariant
+returns c = summed_end _ _ _ _ (omega arith) c.before.loop-left.invariant
 
 pub size_less_one_spec : {M : Type 1} → statement M
 size_less_one_spec =

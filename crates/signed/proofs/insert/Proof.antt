@@ -9,4 +9,4 @@ insert_spec =
     tie.close (tie.spec (λ c κs. search rules) (λ c κs. search rules) (λ c κs. search rules) (λ c. search rules)
     (λ c. let i = c.before.before in let s = i.before.before.before.before.before in
     at_words (insert_call s.args.block.now) s.args.a s.args.b s.ranges.a.sfits s.ranges.b.sfits _ _ i.before.before.word_of.ensures
-    i.before.word-of2.ensures i.insert.ensures))
+    i.before.word_of-2.ensures i.insert.ensures))

@@ -10,4 +10,4 @@ reserve_first_spec =
     tie.close (tie.spec (λ c κs. search rules) (λ c κs. search rules) (λ c κs. search rules) (λ c κs. search rules) (λ c. search rules)
     (λ c. let f = c.before.before.before in let s = f.before.before.before.before.before in
     at_words (λ (x y : ℕ). reserve_first_call s.args.block.now x y s.args.k) s.args.a s.args.b s.ranges.a.sfits s.ranges.b.sfits _ _
-    f.before.before.word_of.ensures f.before.word-of2.ensures (as_said c.as_place.ensures f.reserve-first.ensures)))
+    f.before.before.word_of.ensures f.before.word_of-2.ensures (as_said c.as_place.ensures f.reserve_first.ensures)))

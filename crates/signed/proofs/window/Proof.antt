@@ -11,7 +11,7 @@ returns c =
     let s = c.before.before.before.before in
     subst (IsPart s.args.block _)
     (at_words (set_window_call s.args.block.now) s.args.a s.args.b s.ranges.a.sfits s.ranges.b.sfits _ _
-    c.before.before.word_of.ensures c.before.word-of2.ensures refl) c.window.ensures
+    c.before.before.word_of.ensures c.before.word_of-2.ensures refl) c.window.ensures
 
 pub window_spec : {M : Type 1} → statement M
 window_spec =

@@ -8,4 +8,4 @@ pub window_at_spec : {M : Type 1} → statement M
 window_at_spec =
     tie.close (tie.spec (λ c κs. search rules) (λ c κs. search rules) (λ c κs. search rules) (λ c. let s = c.before.before.before.before in
     at_words (set_window_at_call s.args.block.now) s.args.a s.args.b s.ranges.a.sfits s.ranges.b.sfits _ _ c.before.before.word_of.ensures
-    c.before.word-of2.ensures c.window-at.ensures))
+    c.before.word_of-2.ensures c.window_at.ensures))

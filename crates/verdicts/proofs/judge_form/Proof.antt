@@ -9,40 +9,34 @@ use borrow.Author.Rules.{rules}
 use Rattle.verdicts.proofs.judge_form.Statement.{statement}
 use Rattle.verdicts.proofs.judge_form.Tie as tie
 
-read_start_requires : tie.Need-read-start-requires
-read_start_requires c κs = c.before.before.requires.start
+read_start_requires : tie.Need-read_start-a-requires
+read_start_requires c κs = c.requires.start
 
 -- the answer of the start, which was read with the mark of the bytes
-answer : (s : tie.After-read-start)
-    → (let a = s.before.before.before.args in
+answer : (s : tie.After-read_start-a)
+    → (let a = s.args in
     let b = a.bytes.now in
-    s.read-start.result ≡ start_read (start_verdict (mark_of b) a.form.start a.form.runs a.form.layout.limit b) (num2 b 3) (second_count
+    s.read_start-a.result ≡ start_read (start_verdict (mark_of b) a.form.start a.form.runs a.form.layout.limit b) (num2 b 3) (second_count
     a.form.runs b))
 answer s =
-    let a = s.before.before.before.args in
+    let a = s.args in
     let b = a.bytes.now in
-    s.read-start.ensures
+    s.read_start-a.ensures
     ∙ ap (λ (m : ℕ). start_read (start_verdict m a.form.start a.form.runs a.form.layout.limit b) (num2 b 3) (second_count a.form.runs b))
-    s.before.mark_of.ensures
+    s.mark_of-mark.ensures
 
-returns : tie.Need-returns
+returns : tie.Need-returns-in_default
 returns c =
-    let s = c.before.before.before in
-    let k = s.before.before.before in
-    start_bad k.args.form k.requires k.args.bytes.now _ (answer s) _ _ c.before.enum_told.given.1 c.start-number.ensures
+    start_bad c.args.form c.requires c.args.bytes.now _ (answer c.before.before.before) _ _ c.in_default.is c.start_number.ensures
 
-judge_runs_requires : tie.Need-judge-runs-requires
+judge_runs_requires : tie.Need-judge_runs-requires
 judge_runs_requires c κs =
-    let s = c.before.before.before in
-    let k = s.before.before.before in
-    (k.requires, start_fits k.args.form k.requires k.args.bytes.now _ (answer s) _ _ c.before.a.given.1)
+    (c.requires, start_fits c.args.form c.requires c.args.bytes.now _ (answer c.before.before.before) _ _ c.in-Good.is)
 
-returns_2 : tie.Need-returns-2
+returns_2 : tie.Need-returns
 returns_2 c =
-    let s = c.before.before.before.before in
-    let k = s.before.before.before in
-    start_passed k.args.form k.requires k.args.bytes.now _ (answer s) _ _ c.before.before.a.given.1 _ s.before.mark_of.ensures _
-    c.judge-runs.ensures
+    start_passed c.args.form c.requires c.args.bytes.now _ (answer c.before.before.before.before) _ _ c.in-Good.is _ c.mark_of-mark.ensures _
+    c.judge_runs.ensures
 
 pub judge_form_spec : {M : Type 1} → statement M
 judge_form_spec =

@@ -25,14 +25,14 @@ too_short [] h e = omega arith
 too_short (x ∷ []) h e = omega arith
 too_short (x ∷ y ∷ b) h e = omega arith
 
-returns : tie.Need-returns
-returns c = let b = c.before.before.args.bytes.now in is_new b (too_short b c.if1.true)
+returns : tie.Need-returns-then-bytes-lt2
+returns c = let b = c.before.before.args.bytes.now in is_new b (too_short b c.if-bytes-lt2.true)
 
-returns_2 : tie.Need-returns-2
-returns_2 c = is_old _ (sym c.before.before.get2.ensures.0 ∙ c.if2.true ∙ c.before.wide2.ensures.0)
+returns_2 : tie.Need-returns-then-get2-wide2
+returns_2 c = is_old _ (sym c.before.before.get2.ensures.0 ∙ c.if-get2-wide2.true ∙ c.before.wide2.ensures.0)
 
-returns_3 : tie.Need-returns-3
-returns_3 c = is_new _ (λ e. c.if2.false (c.before.before.get2.ensures.0 ∙ e ∙ sym c.before.wide2.ensures.0))
+returns_3 : tie.Need-returns
+returns_3 c = is_new _ (λ e. c.if-get2-wide2.false (c.before.before.get2.ensures.0 ∙ e ∙ sym c.before.wide2.ensures.0))
 
 pub mark_of_spec : {M : Type 1} → statement M
 mark_of_spec =

@@ -4,52 +4,52 @@ use native.Mathlib.Omega.{arith}
 use Rattle.verdicts.proofs.out_refusal.Statement.{statement}
 use Rattle.verdicts.proofs.out_refusal.Tie as tie
 
-returns : tie.Need-returns
+returns : tie.Need-returns-then-first-eq0
 returns c =
     let k = c.before in
     let a = k.args in
-    no_first a.form.layout a.form.runs a.first a.second a.n a.m k.requires.shape c.if1.true
+    no_first a.form.layout a.form.runs a.first a.second a.n a.m k.requires.shape c.if-first-eq0.true
 
-room_number_requires : tie.Need-room-number-requires
+room_number_requires : tie.Need-room_number-requires
 room_number_requires c κs = (c.before.before.before.requires.first.two, omega arith)
 
-returns_2 : tie.Need-returns-2
+returns_2 : tie.Need-returns-then-form-eq1
 returns_2 c =
     let k = c.before.before.before.before in
     let a = k.args in
-    first_only a.form.layout a.form.runs a.first a.second a.n a.m k.requires.shape c.before.before.before.if1.false
-    c.before.if2.true _
+    first_only a.form.layout a.form.runs a.first a.second a.n a.m k.requires.shape c.before.before.before.if-first-eq0.false
+    c.before.if-form-eq1.true _
     c.room_number.ensures
 
-returns_3 : tie.Need-returns-3
+returns_3 : tie.Need-returns-then-second-eq0
 returns_3 c =
     let k = c.before.before.before.before in
     let a = k.args in
-    no_second a.form.layout a.form.runs a.first a.second a.n a.m k.requires.shape c.before.before.before.if1.false
-    (not_one _ _ k.requires.shape c.before.if2.false).0 c.if3.true
+    no_second a.form.layout a.form.runs a.first a.second a.n a.m k.requires.shape c.before.before.before.if-first-eq0.false
+    (not_one _ _ k.requires.shape c.before.if-form-eq1.false).0 c.if-second-eq0.true
 
-room_number_requires_2 : tie.Need-room-number-requires-2
+room_number_requires_2 : tie.Need-room_number-v-requires
 room_number_requires_2 c κs = (c.before.before.before.before.requires.first.two, omega arith)
 
-returns_4 : tie.Need-returns-4
+returns_4 : tie.Need-returns-then-v-ne0
 returns_4 c =
     let k = c.before.before.before.before.before.before in
     let a = k.args in
-    full_first a.form.layout a.form.runs a.first a.second a.n a.m k.requires.shape c.before.before.before.before.before.if1.false
-    (not_one _ _ k.requires.shape c.before.before.before.if2.false).0 c.before.before.if3.false _ c.before.room-number2.ensures
-    c.if4.true
+    full_first a.form.layout a.form.runs a.first a.second a.n a.m k.requires.shape c.before.before.before.before.before.if-first-eq0.false
+    (not_one _ _ k.requires.shape c.before.before.before.if-form-eq1.false).0 c.before.before.if-second-eq0.false _ c.before.room_number-v.ensures
+    c.if-v-ne0.true
 
-room_number_requires_3 : tie.Need-room-number-requires-3
+room_number_requires_3 : tie.Need-room_number-requires-2
 room_number_requires_3 c κs = (c.before.before.before.before.before.before.requires.first.two, omega arith)
 
-returns_5 : tie.Need-returns-5
+returns_5 : tie.Need-returns
 returns_5 c =
     let k = c.before.before.before.before.before.before.before in
     let a = k.args in
     room_second a.form.layout a.form.runs a.first a.second a.n a.m k.requires.shape
-    c.before.before.before.before.before.before.if1.false
-    (not_one _ _ k.requires.shape c.before.before.before.before.if2.false).0 c.before.before.before.if3.false _
-    c.before.before.room-number2.ensures c.before.if4.false _ c.room-number3.ensures
+    c.before.before.before.before.before.before.if-first-eq0.false
+    (not_one _ _ k.requires.shape c.before.before.before.before.if-form-eq1.false).0 c.before.before.before.if-second-eq0.false _
+    c.before.before.room_number-v.ensures c.before.if-v-ne0.false _ c.room_number-2.ensures
 
 pub out_refusal_spec : {M : Type 1} → statement M
 out_refusal_spec =

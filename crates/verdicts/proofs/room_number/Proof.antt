@@ -4,11 +4,11 @@ use borrow.Author.Rules.{rules}
 use Rattle.verdicts.proofs.room_number.Statement.{statement}
 use Rattle.verdicts.proofs.room_number.Tie as tie
 
-returns : tie.Need-returns
-returns c = sym (rw (← c.before.room_for.ensures, lt-ltb _ _ c.if1.true))
+returns : tie.Need-returns-then-room_for-n
+returns c = sym (rw (← c.before.room_for.ensures, lt-ltb _ _ c.if-room_for-n.true))
 
-returns_2 : tie.Need-returns-2
-returns_2 c = sym (rw (← c.before.room_for.ensures, le-ltb _ _ c.if1.false))
+returns_2 : tie.Need-returns
+returns_2 c = sym (rw (← c.before.room_for.ensures, le-ltb _ _ c.if-room_for-n.false))
 
 pub room_number_spec : {M : Type 1} → statement M
 room_number_spec =
