@@ -27,15 +27,15 @@ answer s =
 
 returns : tie.Need-returns-in_default
 returns c =
-    start_bad c.args.form c.requires c.args.bytes.now _ (answer c.before.before.before) _ _ c.in_default.is c.start_number.ensures
+    start_bad c.args.form c.requires c.args.bytes.now _ (answer c.before.before) _ _ c.in_default.is c.start_number.ensures
 
 judge_runs_requires : tie.Need-judge_runs-requires
 judge_runs_requires c κs =
-    (c.requires, start_fits c.args.form c.requires c.args.bytes.now _ (answer c.before.before.before) _ _ c.in-Good.is)
+    (c.requires, start_fits c.args.form c.requires c.args.bytes.now _ (answer c.before) _ _ c.in-Good.is)
 
 returns_2 : tie.Need-returns
 returns_2 c =
-    start_passed c.args.form c.requires c.args.bytes.now _ (answer c.before.before.before.before) _ _ c.in-Good.is _ c.mark_of-mark.ensures _
+    start_passed c.args.form c.requires c.args.bytes.now _ (answer c.before.before) _ _ c.in-Good.is _ c.mark_of-mark.ensures _
     c.judge_runs.ensures
 
 pub judge_form_spec : {M : Type 1} → statement M
