@@ -1,5 +1,5 @@
 -- The difference of two keys: by their words, and exactly where it is a key.
-use mathlib.Core.Path.{◌≡◌, refl, ap, sym, ◌∙◌}
+use mathlib.Core.Path.{◌≡◌, refl, ap, ◌∙◌}
 use mathlib.Core.Bool.{Bool, true, false}
 use Prim.Native.Nat.{ℕ, zero, suc, ◌+◌, ◌-◌, ◌≤◌, ◌<◌}
 use native.Mathlib.Omega.{arith}
@@ -7,7 +7,6 @@ use borrow.Author.Tests.{lt-ltb, le-ltb, ltb-true, ltb-false}
 use lib.Dec.{ltb}
 use lib.IntN.{ℤ, pos, negsuc, ◌-ℤ◌}
 use lib.Signed.{mag}
-use Rattle.keys.specs.declared.Apart.{Apart}
 use Rattle.keys.specs.declared.Apart.TheVariants.{By, TooFar}
 use Rattle.keys.specs.Keys.{half, IsKey, word_of, apart_of}
 

@@ -1,16 +1,15 @@
 -- What the machine computes of keys, from the tests of the code. What it reads back from the bits of a parameter is the parameter.
 use mathlib.Core.Path.{◌≡◌, refl, ap, ◌∙◌}
 use mathlib.Core.Bool.{Bool, true, false}
-use Prim.Native.Nat.{ℕ, zero, suc, ◌+◌, ◌-◌, ◌^◌, ◌≤◌, ◌<◌}
+use Prim.Native.Nat.{ℕ, suc, ◌+◌, ◌-◌, ◌^◌, ◌≤◌, ◌<◌}
 use native.Mathlib.Omega.{arith}
 use borrow.Author.Tests.{lt-ltb, le-ltb, ltb-true, ltb-false}
 use lib.Dec.{ltb, T}
 use lib.IntN.{ℤ, pos, negsuc, ◌-ℤ◌, ◌+ℤ◌, nat_abs}
-use lib.Signed.{mag, lt_z, non_neg}
+use lib.Signed.{lt_z, non_neg}
 use mir.Syntax.{w64}
 use mir.Val.{SFits, Fits, to_z, of_z}
 use mir.Facts.{to_z-of_z, to_z_pos}
-use Rattle.keys.specs.declared.Apart.{Apart}
 use Rattle.keys.specs.declared.Apart.TheVariants.{By, TooFar}
 use Rattle.keys.specs.Keys.{half, IsKey, word_of, key_of, apart_of, turned}
 use Rattle.keys.proofs.Shift.{word_back, word_bound, key_bound, below_words, above_words}

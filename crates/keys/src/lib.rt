@@ -1,5 +1,6 @@
 // Signed keys, from -2^63 to 2^63 - 1: the words that stand for them in a block, their difference, and their two's complement.
 #![tactic(auto)]
+
 ghost use Rattle.std.specs.Prelude.{◌≡◌};
 ghost use Rattle.keys.specs.Keys.{word_of, key_of, apart_of, turned};
 

@@ -1,5 +1,6 @@
 // Numbers of 2 and 8 bytes, read and written: a byte is loaded once where it is read and stored once where it is written.
 #![tactic(auto)]
+
 ghost use Rattle.std.specs.Prelude.{◌≡◌, [], ◌∷◌, ◌+◌, ◌*◌, ◌≤◌, ◌<◌, length};
 ghost use Rattle.numbers.specs.Numbers.{past2, past4, num2, num4, num8, be2, be4, be8, words_in, word_bytes, over};
 

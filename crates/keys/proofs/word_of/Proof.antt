@@ -1,5 +1,4 @@
 use Rattle.keys.proofs.Machine.{raised_fits, raised_cast, raised_word, plain_cast, plain_fits, plain_word}
-use borrow.Author.Rules.{rules}
 use Rattle.keys.proofs.word_of.Statement.{statement}
 use Rattle.keys.proofs.word_of.Tie as tie
 
