@@ -114,6 +114,33 @@ ASIDE = {
 }
 
 
+# Names of two cases that no declaration shows: of modules that an import renames, and of variables.
+LOCAL = {
+    "foundKey": "found_key",
+    "placedKey": "placed_key",
+    "rangedKeys": "ranged_keys",
+    "judgedBy": "judged_by",
+    "bytesIn": "bytes_in",
+    "outR": "out_r",
+    "outW": "out_w",
+}
+
+# 'result' is what a function returns, in a clause: the definition of that name, of the sweeps, steps aside.
+RESULT = re.compile(r"use Rattle\.sweeps\.specs\.Sweeps\.\{[^}]*\bresult\b(?!_)|^unfoldable pub result :", re.M)
+
+
+def swept(path, text):
+    """The text with the definition 'result' under its new name, in the files that declare or import it."""
+    if not RESULT.search(text):
+        return text
+    if path.endswith(".rt"):
+        text = re.sub(r"(use Rattle\.sweeps\.specs\.Sweeps\.\{[^}]*?)\bresult\b(?!_)", r"\1sweep_result", text)
+        return re.sub(r"(?<![\w.\-])result(?= table )", "sweep_result", text)
+    return "\n".join(
+        line if line.lstrip().startswith("--") else re.sub(r"(?<![\w.\-])result(?![\w\-'])", "sweep_result", line) for line in text.split("\n")
+    )
+
+
 def table_of(names):
     """What each name becomes. A lemma that would have its definition's name gets _lem."""
     table = {n: snake(n) for n in names if snake(n)}
@@ -126,7 +153,7 @@ def table_of(names):
 
 def of_crate(table, path, top):
     crate = os.path.relpath(path, top).split(os.sep)[0]
-    return table | {name: new for (name, where), new in ASIDE.items() if where in (None, crate)}
+    return table | LOCAL | {name: new for (name, where), new in ASIDE.items() if where in (None, crate)}
 
 
 def clashes(text, table, kept):
@@ -142,7 +169,7 @@ def turn_crates(top, table, fields):
         here, kept = of_crate(table, path, top), imported(text, crates)
         for old, new in clashes(text, here, kept):
             print("beside:", path, old, new)
-        new = turned(text, here, fields, kept)
+        new = swept(path, turned(text, here, fields, kept))
         if new != text:
             count += 1
             write(path, new)

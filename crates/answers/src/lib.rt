@@ -1,5 +1,6 @@
 // What a call can answer: the refusals of the table, and the answers of the questions and the changes.
 #![tactic(auto)]
+
 ghost use Rattle.std.specs.Prelude.{◌≡◌};
 ghost use Rattle.answers.specs.Says.{number_of, refusal_of, judged_of, found_says, ranged_says, placed_says, found_key_says, ranged_keys_says, placed_key_says};
 

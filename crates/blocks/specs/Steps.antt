@@ -1,5 +1,5 @@
 -- What the steps of the code promise each other. No public promise names these.
-use Rattle.std.specs.Prelude.{ℕ, zero, ◌+◌, ◌*◌, ◌-◌, ◌≤◌, ◌<◌, ◌≡◌, List, [], length, get_or, take, drop}
+use Rattle.std.specs.Prelude.{ℕ, ◌+◌, ◌*◌, ◌-◌, ◌≤◌, ◌<◌, ◌≡◌, List, [], length, get_or, take, drop}
 use Rattle.entries.specs.Entries.{Entry, entry}
 
 -- the item whose words begin at p

@@ -1,5 +1,6 @@
 // Blocks of words: judged, and moved within. A layout says how many words an item takes, two in a set and three in a map.
 #![tactic(auto)]
+
 ghost use Rattle.std.specs.Prelude.{◌≡◌, ◌+◌, ◌<◌, ◌≤◌, [], ◌∷◌, length, get_or, take, drop};
 ghost use Rattle.entries.specs.Build.{pick, same_words};
 ghost use Rattle.blocks.specs.Blocks.{items_of, capacity, fine, soundb, verdict};

@@ -1,6 +1,7 @@
 // Bulletins: a released set and a withdrawn set with no number in common. One is applied to a list, and two are folded into one.
 // Every call takes any words at all. Its contract names the whole outcome by one definition of specs/Calls.
 #![tactic(auto)]
+
 ghost use Rattle.std.specs.Prelude.{◌≡◌, [], ◌∷◌, ◌<◌, length, take, drop};
 ghost use Rattle.answers.specs.Answers.{outcome};
 ghost use Rattle.answers.specs.Steps.{FirstOf};

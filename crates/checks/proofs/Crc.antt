@@ -1,5 +1,5 @@
 -- The steps of the CRC as functions that keep exclusive or: one binary digit, and one byte, as the code takes it.
-use Prim.Native.Nat.{ℕ, zero, suc, ◌+◌, ◌-◌, ◌*◌, ◌/◌, ◌%◌, ◌^◌, ◌<◌}
+use Prim.Native.Nat.{ℕ, zero, suc, ◌-◌, ◌*◌, ◌/◌, ◌%◌, ◌<◌}
 use mathlib.Core.Bool.{Bool, true, false}
 use mathlib.Core.List.{List, [], ◌∷◌}
 use mathlib.Core.Path.{◌≡◌, refl, sym, ap, ◌∙◌}
@@ -9,7 +9,7 @@ use lib.Dec.{leb}
 use borrow.Author.Tests.{leb-true, leb-false}
 use Rattle.numbers.specs.Numbers.{Bytes}
 use Rattle.checks.specs.Check.{crc_bit, crc_byte, crc_from}
-use Rattle.checks.proofs.Xor.{Linear, lin_self, lin_on, lin_div, lin_mod, lin_mul, lin_xor, at, same_at}
+use Rattle.checks.proofs.Xor.{Linear, lin_self, lin_on, lin_div, lin_mod, lin_mul, lin_xor, same_at}
 
 -- one digit: the highest, q, goes out, and brings the polynomial in
 unfoldable pub bit : ℕ → ℕ

@@ -1,5 +1,5 @@
 -- What the steps of the code promise each other. No public promise names these.
-use Rattle.std.specs.Prelude.{ℕ, ◌+◌, ◌*◌, ◌/◌, ◌%◌, ◌^◌, ◌<◌, ◌≡◌, List, [], ◌∷◌, ◌++◌}
+use Rattle.std.specs.Prelude.{ℕ, ◌+◌, ◌*◌, ◌/◌, ◌%◌, ◌^◌, ◌<◌, ◌≡◌, List, ◌∷◌, ◌++◌}
 use Rattle.std.specs.Int.Bits.{bit_xor}
 use Rattle.numbers.specs.Numbers.{be8}
 use Rattle.checks.specs.Check.{fletcher, crc_from}

@@ -1,6 +1,7 @@
 // The two checks of a record: Fletcher's, for old forms, and the CRC, for new ones. Both are taken from the numbers that the bytes are,
 // with no table.
 #![tactic(auto)]
+
 ghost use Rattle.std.specs.Prelude.{◌≡◌, [], ◌∷◌, ◌≤◌, ◌<◌, length};
 ghost use Rattle.numbers.specs.Numbers.{past2, past4, be2, be8, word_bytes};
 ghost use Rattle.checks.specs.Check.{fletcher, crc_start, crc_byte, crc_from, crc, check_of};

@@ -1,5 +1,6 @@
 // One edit in place for sets and maps: an entry put into a block of any layout, or a range taken out of it.
 #![tactic(auto)]
+
 ghost use Rattle.std.specs.Prelude.{◌≡◌, suc, ◌+◌, ◌-◌, ◌*◌, ◌<◌, ◌≤◌, min, max, ◌++◌, [], ◌∷◌, ltb, length, get_or, take, drop};
 ghost use Rattle.std.proofs.Math.Option.{none, some};
 ghost use Rattle.entries.proofs.Put.{trim_end, trim_start, JoinsLeft, JoinsRight};

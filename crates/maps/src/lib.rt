@@ -1,6 +1,7 @@
 // Range maps: numbers from 0 to 2^64 - 1 to records, in lent blocks of words laid out as `blocks::MAP` says.
 // Every call takes any words at all. Its contract names the whole outcome by one definition of specs/Calls.
 #![tactic(auto)]
+
 ghost use Rattle.std.specs.Prelude.{◌≡◌, [], ◌∷◌};
 ghost use Rattle.entries.specs.Entries.{value_at};
 ghost use Rattle.answers.specs.Answers.{outcome};

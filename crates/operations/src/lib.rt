@@ -1,5 +1,6 @@
 // Results made by the sweep into an output: inputs judged in turn, then the output, then its room.
 #![tactic(auto)]
+
 ghost use Rattle.std.specs.Prelude.{◌≡◌, [], ◌∷◌, ◌≤◌, ◌<◌, ltb, length};
 ghost use Rattle.blocks.specs.Blocks.{layout};
 ghost use Rattle.answers.specs.Answers.{outcome};

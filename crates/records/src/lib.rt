@@ -1,5 +1,6 @@
 // One record of the byte form: the kinds, a start and an item, read with either mark, written with the new one.
 #![tactic(auto)]
+
 ghost use Rattle.std.specs.Prelude.{◌≡◌, [], ◌∷◌, ◌++◌, ◌+◌, ◌*◌, ◌≤◌, ◌<◌, ltb, leb, eqb, length};
 ghost use Rattle.entries.specs.Build.{pick, andb, same_words};
 ghost use Rattle.blocks.specs.Blocks.{afterb, item_of};

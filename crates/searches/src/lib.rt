@@ -1,5 +1,6 @@
 // Finding a place in a judged block: where a number sits, the items that meet a window, and whether two sets share a number.
 #![tactic(auto)]
+
 ghost use Rattle.std.specs.Prelude.{◌≡◌, [], ◌+◌, ◌≤◌, ◌<◌, length, get_or};
 ghost use Rattle.entries.specs.Bulletins.{shareb};
 ghost use Rattle.answers.specs.Answers.{outcome, at};

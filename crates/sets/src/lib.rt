@@ -1,6 +1,7 @@
 // Sets of numbers from 0 to 2^64 - 1 in lent blocks of words: questions, and changes.
 // Every call takes any words at all. Its contract names the whole outcome by one definition of specs/Calls.
 #![tactic(auto)]
+
 ghost use Rattle.std.specs.Prelude.{◌≡◌, [], ◌∷◌, ◌+◌};
 ghost use Rattle.entries.specs.Sets.{member};
 ghost use Rattle.entries.specs.Questions.{range_at, size_of, least_member, is_empty};

@@ -1,6 +1,7 @@
 // One linear sweep over three sound blocks, for any table of their memberships. Every operation on sets, maps and bulletins that
 // makes a list from lists is a table of it.
 #![tactic(auto)]
+
 ghost use Rattle.std.specs.Prelude.{◌≡◌, true, false, ◌+◌, ◌*◌, ◌-◌, ◌≤◌, ◌<◌, min, leb, ltb, length, get_or, take};
 ghost use Rattle.entries.specs.Build.{pick, andb, same_words};
 ghost use Rattle.entries.specs.Sets.{M};

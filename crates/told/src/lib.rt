@@ -1,5 +1,6 @@
 // What a C host is told of an answer: one struct of six numbers, made from each kind of answer of the library.
 #![tactic(auto)]
+
 ghost use Rattle.std.specs.Prelude.{◌≡◌, [], ◌∷◌};
 ghost use Rattle.answers.specs.Answers.{given, refused};
 ghost use Rattle.answers.specs.Says.{judged_says, truth_says, found_says, ranged_says, sized_says, parted_says, decided_says, placed_says, written_says, refusal_says};

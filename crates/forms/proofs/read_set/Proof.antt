@@ -3,7 +3,7 @@ use borrow.Author.Rules.{rules}
 use Rattle.forms.proofs.read_set.Statement.{statement}
 use Rattle.forms.proofs.read_set.Tie as tie
 
-read_form_requires : tie.Need-read-form-requires
+read_form_requires : tie.Need-read_form-requires
 read_form_requires c κs = set_kind
 
 pub read_set_spec : {M : Type 1} → statement M

@@ -4,11 +4,11 @@ use borrow.Author.Rules.{rules}
 use Rattle.forms.proofs.second_held.Statement.{statement}
 use Rattle.forms.proofs.second_held.Tie as tie
 
-returns : tie.Need-returns
-returns c = c.wide.ensures ∙ c.before.word.ensures ∙ sym (rw (lt-ltb _ _ c.before.before.if1.true))
+returns : tie.Need-returns-then-runs-gt1
+returns c = c.wide.ensures ∙ c.before.word.ensures ∙ sym (rw (lt-ltb _ _ c.before.before.if-runs-gt1.true))
 
-returns_2 : tie.Need-returns-2
-returns_2 c = sym (rw (le-ltb _ _ c.if1.false))
+returns_2 : tie.Need-returns
+returns_2 c = sym (rw (le-ltb _ _ c.if-runs-gt1.false))
 
 pub second_held_spec : {M : Type 1} → statement M
 second_held_spec =

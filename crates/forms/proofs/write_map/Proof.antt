@@ -3,7 +3,7 @@ use borrow.Author.Rules.{rules}
 use Rattle.forms.proofs.write_map.Statement.{statement}
 use Rattle.forms.proofs.write_map.Tie as tie
 
-write_form_requires : tie.Need-write-form-requires
+write_form_requires : tie.Need-write_form-requires
 write_form_requires c κs = map_kind
 
 pub write_map_spec : {M : Type 1} → statement M

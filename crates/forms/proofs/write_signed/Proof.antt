@@ -3,7 +3,7 @@ use borrow.Author.Rules.{rules}
 use Rattle.forms.proofs.write_signed.Statement.{statement}
 use Rattle.forms.proofs.write_signed.Tie as tie
 
-write_form_requires : tie.Need-write-form-requires
+write_form_requires : tie.Need-write_form-requires
 write_form_requires c κs = signed_kind
 
 pub write_signed_spec : {M : Type 1} → statement M

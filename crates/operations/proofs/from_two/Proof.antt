@@ -9,7 +9,6 @@ use borrow.Author.Rules.{rules}
 use Rattle.operations.proofs.from_two.Statement.{statement}
 use Rattle.operations.proofs.from_two.Tie as tie
 
-
 -- the first input is sound, and the call goes on to the second; so for the second
 sound_first : (c : tie.Else-v-ne0) → SoundBlock c.args.layouts.first c.args.a.now
 sound_first c = verdict_sound _ _ (sym c.judge-v.ensures ∙ c.if-v-ne0.false)

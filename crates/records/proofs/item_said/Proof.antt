@@ -1,5 +1,3 @@
-use mathlib.Core.Path.{sym}
-use borrow.Author.Tests.{eq-eqb, ne_eqb}
 use Rattle.records.proofs.Items.{said_as_it_is, said_turned}
 use borrow.Author.Rules.{rules}
 use Rattle.records.proofs.item_said.Statement.{statement}
