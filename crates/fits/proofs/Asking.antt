@@ -11,7 +11,6 @@ use borrow.Author.Tests.{ltb-false, lt-ltb}
 use Rattle.entries.specs.Entries.{Entry, entry}
 use Rattle.entries.specs.Build.{pick}
 use Rattle.entries.specs.Questions.{filter}
-use Rattle.answers.specs.declared.Finding.{Finding}
 use Rattle.answers.specs.declared.Refusal.{Refusal}
 use Rattle.answers.specs.Answers.{Answer, Outcome, outcome, refuse, judged, at, applies, Clear}
 use Rattle.answers.specs.Steps.{FirstOf}
@@ -27,7 +26,7 @@ use Rattle.fits.specs.declared.Gap.{Gap}
 use Rattle.fits.specs.Fits.{gaps, fits, anywhere, aligned, start_in, place_in}
 use Rattle.fits.specs.Calls.{zero_run, gapless, place_of, answered, fit_call, reserve_call}
 use Rattle.fits.specs.Calls.{last_power, too_high, align_refusals, aligned_place, fit_aligned_call, reserve_aligned_call}
-use Rattle.fits.specs.Steps.{gap_of, Asked, GapIs}
+use Rattle.fits.specs.Steps.{Asked, GapIs}
 use Rattle.fits.proofs.Multiples.{every_start}
 
 -- THE REFUSALS before a place is sought

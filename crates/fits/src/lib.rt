@@ -2,6 +2,7 @@
 // multiple of 2^j. One walk serves all: where any start will do, j is 0.
 // Every call takes any words at all. Its contract names the whole outcome by one definition of specs/Calls.
 #![tactic(auto)]
+
 ghost use Rattle.std.specs.Prelude.{◌≡◌, [], ◌∷◌, suc, ◌+◌, ◌-◌, ◌<◌, ◌≤◌, min, leb};
 ghost use Rattle.entries.specs.Entries.{entry};
 ghost use Rattle.entries.specs.Build.{pick, andb};

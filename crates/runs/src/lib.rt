@@ -1,5 +1,6 @@
 // Runs of item records of one kind, at any place of the bytes: judged, stored into a block, written.
 #![tactic(auto)]
+
 ghost use Rattle.std.specs.Prelude.{◌≡◌, [], ◌∷◌, ◌+◌, ◌*◌, ◌≤◌, length, drop};
 ghost use Rattle.blocks.specs.Blocks.{items_of, words_of, block_of};
 ghost use Rattle.numbers.specs.Numbers.{over};
