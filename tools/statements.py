@@ -45,14 +45,14 @@ INNER = {"Steps"}
 # Two laws that stand for a definition that need not be read, with what the first supposes; and the laws by which an outcome is the only
 # one: of each kind of answer, of a part, of what C is told.
 BUILD = [("entries", "Cuts", "NotIn"), ("entries", "Cuts", "Changes"), ("entries", "Building", "Ends"), ("entries", "Building", "built"), ("entries", "Canon", "canonical")]
-ONLY = [("answers", "Unique", kind + "-only") for kind in ("judged", "truth", "found", "ranged", "sized", "parted", "decided", "placed", "written")] + [
-    ("answers", "UniqueKeys", kind + "-only") for kind in ("found-key", "ranged-keys", "placed-key")] + [
-    ("forms", "Unique", "form-read-only"),
-    ("searches", "Windows", "part-only"),
-    ("told", "Telling", "told-only"),
-    ("told", "Telling", "values-told"),
-    ("told", "Telling", "tells-keys"),
-    ("told", "Telling", "twos-told"),
+ONLY = [("answers", "Unique", kind + "_only") for kind in ("judged", "truth", "found", "ranged", "sized", "parted", "decided", "placed", "written")] + [
+    ("answers", "UniqueKeys", kind + "_only") for kind in ("found_key", "ranged_keys", "placed_key")] + [
+    ("forms", "Unique", "form_read_only"),
+    ("searches", "Windows", "part_only"),
+    ("told", "Telling", "told_only"),
+    ("told", "Telling", "values_told"),
+    ("told", "Telling", "tells_keys"),
+    ("told", "Telling", "twos_told"),
 ]
 # The structs and enums of the code that definitions and contracts name.
 NAMED = [
@@ -72,7 +72,7 @@ def contracts(crate):
     """The public functions of a crate that users are given: comment, signature and contract."""
     folder = os.path.join("crates", crate, "src")
     for name in sorted(os.listdir(os.path.join(antt.ROOT, folder))):
-        for m in re.finditer(r'((?:^//[^\n]*\n)*)(?:^#\[no_mangle\]\n)?^(pub (?:extern "C" )?fn .*?)\n\{', antt.read(folder, name), re.M | re.S):
+        for m in re.finditer(r'((?:^//[^\n]*\n)*)(?:^#\[unsafe\(no_mangle\)\]\n)?^(pub (?:extern "C" )?fn .*?)\n\{', antt.read(folder, name), re.M | re.S):
             comment = " ".join(line[2:].strip() for line in m.group(1).splitlines())
             yield comment, m.group(2).splitlines()
 
@@ -144,7 +144,7 @@ def unread():
     """Definitions to be believed that would not stand on the page: what specs/ takes from proofs/ or from a file of inner promises."""
     for crate, module, path in antt.antt_files("specs"):
         for line in antt.read(path).splitlines():
-            taken = re.match(r"use Rattle·\w+(?:·\w+)?\.(proofs|specs)\.(?:specs\.|proofs\.)?(\w+)", line)
+            taken = re.match(r"(?:pub )?use Rattle\.(?!std\.)\w+\.(proofs|specs)\.(\w+)", line)
             if taken and (taken.group(1) == "proofs" or taken.group(2) in INNER) and module not in INNER and crate != "sweeps":
                 yield f"{path}: {line}"
 
