@@ -22,15 +22,15 @@ esac
 made=build/host_$machine
 mkdir -p build
 
-# Makes a toolchain of links to the kit's, whose compiler leaves the module and the code as text too.
-toolchain_of_links() {
-    rm -rf build/toolchain
-    mkdir -p build/toolchain/bin
-    ln -s "$tools/lib" build/toolchain/lib
+# Makes a toolchain of links to the kit's, whose compiler leaves the module and the code as text too. It lies outside of the checkout,
+# where 'rt ci' wants no links.
+toolchain_of_links() { # FOLDER
+    mkdir -p "$1/bin"
+    ln -s "$tools/lib" "$1/lib"
     for each in "$tools"/bin/*; do
-        [ "${each##*/}" = clang ] || ln -s "$each" build/toolchain/bin/
+        [ "${each##*/}" = clang ] || ln -s "$each" "$1/bin/"
     done
-    cat >build/toolchain/bin/clang <<END
+    cat >"$1/bin/clang" <<END
 #!/bin/sh
 "$tools/bin/clang" "\$@" || exit
 [ -f module.bc ] || exit 0
@@ -42,15 +42,17 @@ done
 "$tools/bin/clang" "\$@" -o "$PWD/$made.s" || exit
 exec "$tools/bin/clang" "\$@" -emit-llvm -Xclang -disable-llvm-passes -o "$PWD/$made.ll"
 END
-    chmod +x build/toolchain/bin/clang
+    chmod +x "$1/bin/clang"
 }
 
 # Proves the library and makes the archive, the object and the texts, if they were not made of the same crates before.
 make_all() {
     [ "$(cat "$made.stamp" 2>/dev/null)" = "$(sources)" ] && return 0
     rm -f "$made".*
-    toolchain_of_links
-    build host lib.rt build/toolchain "$made.a" --crate-type staticlib --target "$machine-unknown-linux-gnu" --cpu "$processor" \
+    room=$(mktemp -d)
+    trap 'rm -rf "$room"' EXIT
+    toolchain_of_links "$room"
+    build host lib.rt "$room" "$made.a" --crate-type staticlib --target "$machine-unknown-linux-gnu" --cpu "$processor" \
         >build/host.log 2>&1 || { cat build/host.log >&2; exit 1; }
     [ -f "$made.s" ] && [ -f "$made.ll" ] || { echo "native.sh: the kit's compiler left no text" >&2; exit 1; }
     "$tools/bin/llvm-ar" p "$made.a" host.o >"$made.o"
