@@ -26,7 +26,7 @@ def signatures(crate):
     folder = os.path.join(ROOT, "crates", crate, "src")
     for name in sorted(os.listdir(folder)):
         source = read("crates", crate, "src", name)
-        for m in re.finditer(r'^(?:#\[no_mangle\]\s+)?pub (?:extern "C" )?fn (\w+)(<[^>]*>)?\s*\((.*?)\)\s*(->\s*[^\n{]+)?\s*$', source, re.M | re.S):
+        for m in re.finditer(r'^(?:#\[unsafe\(no_mangle\)\]\s+)?pub (?:extern "C" )?fn (\w+)(<[^>]*>)?\s*\((.*?)\)\s*(->\s*[^\n{]+)?\s*$', source, re.M | re.S):
             arguments = re.sub(r"\s+", " ", m.group(3)).strip().rstrip(",").replace("'a ", "")
             answer = " " + re.sub(r"\s+", " ", m.group(4)).strip().replace("'a ", "") if m.group(4) else ""
             found[m.group(1)] = f"{m.group(1)}({arguments}){answer}"

@@ -5,8 +5,8 @@
     tools/footprint.py --readme    writes the table of README.md anew
     tools/footprint.py --check     fails if one of the bounds below is passed
 
-The code is the archive's (x86-64) and the object's (Arm). The stack is read from the same code as text, which the kit's compiler
-gives for the module by the same words as an object, whose code must be the archive's, byte for byte. Every way through a function
+The code is the archive's (x86-64) and the object's (Arm). The stack is read from the same code as text, which the kit's compiler left
+beside it; assembled, that must give the same code, byte for byte. Every way through a function
 is followed, with what each instruction does to the stack pointer and what it uses below it (on x86-64 a function that calls nothing
 may use 128 bytes there, the red zone); a call adds what the called function takes, and on x86-64 its return address. Counted is all
 that a call puts on the stack, from its own return address on, without the arguments that its caller put there and without what the
@@ -16,6 +16,7 @@ that of every function it can reach, which is what a linker with --gc-sections k
 
 import os
 import re
+import shutil
 import struct
 import subprocess
 import sys
@@ -84,6 +85,15 @@ def contents(path):
 def made(wanted):
     """What tools/native.sh makes."""
     return subprocess.run([os.path.join(ROOT, "tools/native.sh"), wanted], stdout=subprocess.PIPE, check=True).stdout.decode().strip()
+
+
+def assembled(machine, text):
+    """The object that the kit's compiler makes of a text."""
+    kit = os.path.dirname(os.path.dirname(os.path.realpath(shutil.which("rt"))))
+    to = f"build/again_{machine}.o"
+    words = [f"--target={machine}-unknown-linux-gnu", "-c", "-x", "assembler", text, "-o", to]
+    subprocess.run([os.path.join(kit, "toolchain/bin/clang"), *words], cwd=ROOT, check=True)
+    return to
 
 
 # ---- the stack, from the code as text
@@ -214,15 +224,16 @@ def measured(machine, text):
 def footprint(machine):
     """Code, constants, data, undefined symbols, and (code, stack) of each call."""
     shipped = contents(made("aarch64")) if machine == "aarch64" else member_of(contents(made("archive")))
+    text = f"build/host_{machine}.s"
     parts, undefined = sections(shipped)
     loaded = {name: part for name, part in parts.items() if part[1] & 2 and part[3]}
     code = {name: part for name, part in loaded.items() if part[1] & 4}
     data = {name: part for name, part in loaded.items() if part[1] & 1 or part[0] == 8}
-    again, _ = sections(contents(made(machine)))
+    again, _ = sections(contents(assembled(machine, text)))
     for name, part in code.items():
         if again.get(name, (0, 0, b""))[2] != part[2]:
-            sys.exit(f"footprint: {name} is not the code that the module gives")
-    stacks = measured(machine, contents(f"build/host_{machine}.s").decode("utf-8"))
+            sys.exit(f"footprint: {name} is not the code that the text gives")
+    stacks = measured(machine, contents(text).decode("utf-8"))
     size = {name.removeprefix(".text."): part[3] for name, part in code.items()}
     if set(size) != set(stacks):
         sys.exit(f"footprint: code and text have other functions: {set(size) ^ set(stacks)}")

@@ -30,7 +30,7 @@ def crates():
     for line in read("crates.txt").splitlines():
         name, colon, rest = line.split("#")[0].partition(":")
         if colon:
-            found[name.strip()] = rest.split()
+            found[name.split()[0]] = rest.split()
     return {name: [d for d in deps if d in found] for name, deps in found.items()}
 
 

@@ -1,82 +1,63 @@
 #!/bin/sh
-# Makes the proved library for C programs, target/staticlib/libhost.a and what is made from it, and prints the file to link:
+# Makes the proved library for C programs, of the crate host, and prints the file to link:
 #   tools/native.sh            the file for this machine: on x86-64 the archive, elsewhere the object
-#   tools/native.sh archive    the archive that 'rt staticlib' makes, x86-64 code, on any machine
-#   tools/native.sh MACHINE    an object for that machine (x86_64 or aarch64), on any machine
-# 'rt staticlib' makes x86-64 code on every machine: the kit's compiler gets it from a module. For the objects the module is kept: rt is
-# given a kit of links to its own, whose compiler is a script that copies the module and then calls the kit's. The kit's compiler makes
-# the object from the module, with the same optimisation. In the module each exported function takes the address of its answer as its
-# first argument and returns it, which is C's way of returning a large struct on x86-64 only; before it is compiled, that argument is
-# marked as such an address, so that the function is called as C calls it on either machine. Nothing else in it is changed, and nothing
-# is made again while the crates and the kit are unchanged. tools/footprint.py holds the archive's code to what the marked module gives.
+#   tools/native.sh archive    the archive for x86-64, build/host_x86_64.a
+#   tools/native.sh MACHINE    an object for that machine (x86_64 or aarch64), build/host_MACHINE.o
+# The kit compiles the crate for either machine as 'rt lib' does, for every processor of the machine. Its compiler is called by a script
+# that then does the same again for text: the module, build/host_MACHINE.ll, and the code, build/host_MACHINE.s, which
+# tools/footprint.py and tests/edge/run read. Nothing is made again while the crates and the kit are unchanged.
 set -eu
 cd "$(dirname "$0")/.."
 . tools/kit.sh
 here=$(uname -m)
 wanted=${1:-$here}
 [ $# -gt 0 ] || [ "$here" != x86_64 ] || wanted=archive
-archive=target/staticlib/libhost.a
-module=build/host.bc
+machine=$wanted
+[ "$wanted" != archive ] || machine=x86_64
+case $machine in
+x86_64) processor=x86-64 ;;
+aarch64) processor=generic ;;
+*) echo "native.sh: '$machine' is neither x86_64 nor aarch64" >&2 && exit 2 ;;
+esac
+made=build/host_$machine
 mkdir -p build
 
-# Links everything in a folder but one name from another folder.
-links() { # FROM TO BUT
-    mkdir -p "$2"
-    for each in "$1"/*; do
-        [ "${each##*/}" = "$3" ] || ln -sfn "$each" "$2/${each##*/}"
+# Makes a toolchain of links to the kit's, whose compiler leaves the module and the code as text too. It lies outside of the checkout,
+# where 'rt ci' wants no links.
+toolchain_of_links() { # FOLDER
+    mkdir -p "$1/bin"
+    ln -s "$tools/lib" "$1/lib"
+    for each in "$tools"/bin/*; do
+        [ "${each##*/}" = clang ] || ln -s "$each" "$1/bin/"
     done
+    cat >"$1/bin/clang" <<END
+#!/bin/sh
+"$tools/bin/clang" "\$@" || exit
+[ -f module.bc ] || exit 0
+for word; do
+    [ "\$word" != -c ] || word=-S
+    set -- "\$@" "\$word"
+    shift
+done
+"$tools/bin/clang" "\$@" -o "$PWD/$made.s" || exit
+exec "$tools/bin/clang" "\$@" -emit-llvm -Xclang -disable-llvm-passes -o "$PWD/$made.ll"
+END
+    chmod +x "$1/bin/clang"
 }
 
-# Makes the kit of links, with a compiler that keeps the module.
-kit_of_links() {
-    rm -rf build/kit
-    links "$kit" build/kit on
-    links "$own" "build/kit/on/$here" toolchain
-    links "$tools" "build/kit/on/$here/toolchain" bin
-    links "$tools/bin" "build/kit/on/$here/toolchain/bin" clang
-    compiler=build/kit/on/$here/toolchain/bin/clang
-    printf '#!/bin/sh\n[ ! -f module.bc ] || cp module.bc "%s" || exit 1\nexec "%s" "$@"\n' "$PWD/$module" "$tools/bin/clang" >"$compiler"
-    chmod +x "$compiler"
+# Proves the library and makes the archive, the object and the texts, if they were not made of the same crates before.
+make_all() {
+    [ "$(cat "$made.stamp" 2>/dev/null)" = "$(sources)" ] && return 0
+    rm -f "$made".*
+    room=$(mktemp -d)
+    trap 'rm -rf "$room"' EXIT
+    toolchain_of_links "$room"
+    build host lib.rt "$room" "$made.a" --crate-type staticlib --target "$machine-unknown-linux-gnu" --cpu "$processor" \
+        >build/host.log 2>&1 || { cat build/host.log >&2; exit 1; }
+    [ -f "$made.s" ] && [ -f "$made.ll" ] || { echo "native.sh: the kit's compiler left no text" >&2; exit 1; }
+    "$tools/bin/llvm-ar" p "$made.a" host.o >"$made.o"
+    sources >"$made.stamp"
 }
 
-# Proves the library and makes the archive and the module, if they were not made of the same crates before.
-made() {
-    [ -f "$archive" ] && [ -f "$module" ] && [ "$(cat "$module.stamp" 2>/dev/null)" = "$(sources)" ] && return 0
-    rm -f "$module" "$module.stamp"
-    kit_of_links
-    RATTLE_HOME="$PWD/build/kit" rt staticlib host >build/staticlib.log 2>&1 || { cat build/staticlib.log >&2; exit 1; }
-    [ -f "$module" ] || { echo "native.sh: '$module' was not made" >&2; exit 1; }
-    sources >"$module.stamp"
-}
-
-# The kit's compiler; what it says is shown only if it fails.
-compile() { # WORDS...
-    "$tools/bin/clang" "$@" 2>build/native.log || { cat build/native.log >&2; exit 1; }
-}
-
-# The module as text, with the answers' addresses marked.
-marked_module() {
-    compile --target=x86_64-unknown-linux-gnu -S -emit-llvm -Xclang -disable-llvm-passes -x ir "$module" -o build/host_plain.ll
-    sed '/^define noundef ptr @wimblorque_/,/^}/ {
-        s/^define noundef ptr \(@[a-z_]*\)(ptr noundef %a0/define void \1(ptr noundef sret([48 x i8]) align 8 %a0/
-        s/^  ret ptr %a0$/  ret void/
-    }' build/host_plain.ll >build/host.ll
-    returned=$(grep -c '^WIMBLORQUE_MUST_USE wimblorque_answer wimblorque_' include/wimblorque.h)
-    [ "$(grep -c '^define void @wimblorque_.* sret(' build/host.ll)" = "$returned" ] || {
-        echo "native.sh: the module's functions do not return their answers as they did" >&2
-        exit 1
-    }
-}
-
-# The machine's code: an object (-c, .o), or as text (-S, .s).
-code() { # WAY ENDING
-    compile "--target=$wanted-unknown-linux-gnu" -O3 -fPIC -ffunction-sections -fdata-sections -mllvm -trap-unreachable \
-        -mllvm -no-trap-after-noreturn -Wno-override-module "$1" -x ir build/host.ll -o "build/host_$wanted.$2"
-}
-
-made
-[ "$wanted" != archive ] || { echo "$archive"; exit 0; }
-marked_module
-code -S s # for tools/footprint.py
-code -c o
-echo "build/host_$wanted.o"
+make_all
+if [ "$wanted" = archive ]; then echo "$made.a"; else echo "$made.o"; fi

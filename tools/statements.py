@@ -19,12 +19,12 @@ Made by `tools/statements.py`; do not edit. What a reader has to believe, and no
 
 - `name : A → B → C` declares something that takes an A and a B and gives a C; the lines below it, `name x y = ..`, say what. Application is written without parentheses: `member es x` is `member` of `es` and `x`. A theorem is declared in the same way: it takes what is supposed and gives what follows, so `(x : ℕ) → x ≤ M → P x` reads 'for every number x, if x is at most M, then P of x'.
 - `×` is 'and', `⊎` is 'or', `P → ⊥` is 'not P', `≡` is 'equals'. `ℕ` are the whole numbers from 0 on, without end; `+`, `*` do not wrap; `m - n` is 0 where n is the larger; `/` rounds down, `m % n` is the remainder, `m ^ n` the power.
-- `[]` is the empty list, `x ∷ xs` is x and then the list xs, `xs ++ ys` the one after the other. `length`, `take n`, `drop n` are as usual; `getD w i 0` is element i of w, counted from 0, and 0 past its end; `set w i x` is w with x for element i; `replicate n x` is x, n times.
-- `none` and `some v` are nothing and the value v. `true`, `false`, `not`, `andb`, `orb` are truth values and what is computed with them; `leb m n`, `ltb m n`, `eqb m n` are the tests ≤, <, =, as truth values; `pick t a b` is a if t is true, and else b. `bitXor m n` is their exclusive or: the number whose binary digits are 1 where those of m and n differ.
-- `ℤ` are the whole numbers below 0 too: `pos n` is n and `negsuc n` is -(n + 1); `+ℤ`, `-ℤ` do not wrap; `leZ k l`, `ltZ k l` are the tests ≤ and <, as truth values; `mag k` is n for n and for -(n + 1); `cond t a b` is `pick t a b`.
-- `record R .. where` lists what an R has; `r .field` is that part of r. Of a record that is a statement, each field is one thing that it says.
+- `[]` is the empty list, `x ∷ xs` is x and then the list xs, `xs ++ ys` the one after the other. `length`, `take n`, `drop n` are as usual; `get_or w i 0` is element i of w, counted from 0, and 0 past its end; `set w i x` is w with x for element i; `replicate n x` is x, n times.
+- `none` and `some v` are nothing and the value v. `true`, `false`, `not`, `andb`, `orb` are truth values and what is computed with them; `leb m n`, `ltb m n`, `eqb m n` are the tests ≤, <, =, as truth values; `pick t a b` is a if t is true, and else b. `bit_xor m n` is their exclusive or: the number whose binary digits are 1 where those of m and n differ.
+- `ℤ` are the whole numbers below 0 too: `pos n` is n and `negsuc n` is -(n + 1); `+ℤ`, `-ℤ` do not wrap; `le_z k l`, `lt_z k l` are the tests ≤ and <, as truth values; `mag k` is n for n and for -(n + 1); `cond t a b` is `pick t a b`.
+- `record R .. where` lists what an R has; `r.field` is that part of r. Of a record that is a statement, each field is one thing that it says.
 - `λ x. e` is the function that gives e for x. `Unit` has the one value `tt`: as a statement it says nothing, and a function of it is something that is computed only where it is asked for.
-- In a contract `now (block .entry)` is the list of words lent as `block` when the call begins, `now (block .exit)` what it is afterwards; `r` is the answer. `judgedSays r`, `truthSays r`, .. give the answer's numbers in the table's terms.
+- In a contract `block.old` is the list of words lent as `block` when the call begins and `block.new` what it is afterwards, and `block.now` those of a block that is lent to be read; `result` is the answer. `judged_says result`, `truth_says result`, .. give the answer's numbers in the table's terms. `block.entry` is the loan itself, of which a part is a part.
 - Two definitions are long and need not be read: `build`, which computes the list of a function (`built` and `canonical` say that it is the one sound list that names exactly that function), and `put`, which is `build` for a change of a..b.
 """
 
@@ -45,14 +45,14 @@ INNER = {"Steps"}
 # Two laws that stand for a definition that need not be read, with what the first supposes; and the laws by which an outcome is the only
 # one: of each kind of answer, of a part, of what C is told.
 BUILD = [("entries", "Cuts", "NotIn"), ("entries", "Cuts", "Changes"), ("entries", "Building", "Ends"), ("entries", "Building", "built"), ("entries", "Canon", "canonical")]
-ONLY = [("answers", "Unique", kind + "-only") for kind in ("judged", "truth", "found", "ranged", "sized", "parted", "decided", "placed", "written")] + [
-    ("answers", "UniqueKeys", kind + "-only") for kind in ("found-key", "ranged-keys", "placed-key")] + [
-    ("forms", "Unique", "form-read-only"),
-    ("searches", "Windows", "part-only"),
-    ("told", "Telling", "told-only"),
-    ("told", "Telling", "values-told"),
-    ("told", "Telling", "tells-keys"),
-    ("told", "Telling", "twos-told"),
+ONLY = [("answers", "Unique", kind + "_only") for kind in ("judged", "truth", "found", "ranged", "sized", "parted", "decided", "placed", "written")] + [
+    ("answers", "UniqueKeys", kind + "_only") for kind in ("found_key", "ranged_keys", "placed_key")] + [
+    ("forms", "Unique", "form_read_only"),
+    ("searches", "Windows", "part_only"),
+    ("told", "Telling", "told_only"),
+    ("told", "Telling", "values_told"),
+    ("told", "Telling", "tells_keys"),
+    ("told", "Telling", "twos_told"),
 ]
 # The structs and enums of the code that definitions and contracts name.
 NAMED = [
@@ -72,7 +72,7 @@ def contracts(crate):
     """The public functions of a crate that users are given: comment, signature and contract."""
     folder = os.path.join("crates", crate, "src")
     for name in sorted(os.listdir(os.path.join(antt.ROOT, folder))):
-        for m in re.finditer(r'((?:^//[^\n]*\n)*)(?:^#\[no_mangle\]\n)?^(pub (?:extern "C" )?fn .*?)\n\{', antt.read(folder, name), re.M | re.S):
+        for m in re.finditer(r'((?:^//[^\n]*\n)*)(?:^#\[unsafe\(no_mangle\)\]\n)?^(pub (?:extern "C" )?fn .*?)\n\{', antt.read(folder, name), re.M | re.S):
             comment = " ".join(line[2:].strip() for line in m.group(1).splitlines())
             yield comment, m.group(2).splitlines()
 
@@ -144,7 +144,7 @@ def unread():
     """Definitions to be believed that would not stand on the page: what specs/ takes from proofs/ or from a file of inner promises."""
     for crate, module, path in antt.antt_files("specs"):
         for line in antt.read(path).splitlines():
-            taken = re.match(r"use Rattle·\w+(?:·\w+)?\.(proofs|specs)\.(?:specs\.|proofs\.)?(\w+)", line)
+            taken = re.match(r"(?:pub )?use Rattle\.(?!std\.)\w+\.(proofs|specs)\.(\w+)", line)
             if taken and (taken.group(1) == "proofs" or taken.group(2) in INNER) and module not in INNER and crate != "sweeps":
                 yield f"{path}: {line}"
 

@@ -80,7 +80,7 @@ def coded(trace):
     for crate in sorted(os.listdir(os.path.join(antt.ROOT, "crates"))):
         folder = os.path.join("crates", crate, "src")
         for name in sorted(os.listdir(os.path.join(antt.ROOT, folder))):
-            for m in re.finditer(r"((?:^[ ]*//[^\n]*\n)+)(?:#\[no_mangle\]\n)?[^\n]*?fn (\w+)", antt.read(folder, name), re.M):
+            for m in re.finditer(r"((?:^[ ]*//[^\n]*\n)+)(?:#\[[^\n]*\]\n)*[^\n]*?fn (\w+)", antt.read(folder, name), re.M):
                 trace.add(folder, m.group(1), "code", f"`{crate}::{m.group(2)}`")
 
 

@@ -22,7 +22,7 @@ BODY = {0x01: 2, 0x02: 2, 0x03: 4, 0x04: 2, 0x10: 16, 0x11: 24, 0x12: 16, 0x13: 
 TABLE = "crates/demands/proofs/Table.antt"
 # What the table must have, by name: the mark of the form, and what it is the form of.
 NEEDED = {"H": (OLD, "H"), "I": (OLD, "I"), "Hnew": (NEW, "H"), "Inew": (NEW, "I")}
-NEEDED |= {"onlyZero": (OLD, "onlyZero"), "wholeLine": (OLD, "wholeLine"), "onlyZeroNew": (NEW, "onlyZero"), "wholeLineNew": (NEW, "wholeLine")}
+NEEDED |= {"only_zero": (OLD, "only_zero"), "whole_line": (OLD, "whole_line"), "only_zero_new": (NEW, "only_zero"), "whole_line_new": (NEW, "whole_line")}
 # Lists of bytes whose records are wrong on purpose: their checks, or marks that are mixed.
 WRONG_ON_PURPOSE = set()
 
@@ -66,16 +66,16 @@ def signed_form(mark, *ranges):
 CONTENT = {
     "H": lambda mark: set_form(mark, (5, 9)),
     "I": set_form,
-    "caseH": lambda mark: set_form(mark, (5, 9)),
-    "caseI": set_form,
-    "oneEntry": lambda mark: form(mark, 0x02, (0x11, [(0, 9, 1)])),
-    "oneEach": lambda mark: form(mark, 0x03, (0x12, [(1, 4)]), (0x13, [(9, 9)])),
-    "keyBytes": lambda mark: signed_form(mark, (-5, 3)),
-    "allButOne": lambda mark: signed_form(mark, (-(2**63), -2), (0, 2**63 - 1)),
-    "byTheirBytes": lambda mark: signed_form(mark, (3, 3), (-5, -1)),
-    "touchingKeys": lambda mark: signed_form(mark, (-5, -1), (0, 3)),
-    "onlyZero": lambda mark: set_form(mark, (0, 0)),
-    "wholeLine": lambda mark: set_form(mark, (0, M)),
+    "case_h": lambda mark: set_form(mark, (5, 9)),
+    "case_i": set_form,
+    "one_entry": lambda mark: form(mark, 0x02, (0x11, [(0, 9, 1)])),
+    "one_each": lambda mark: form(mark, 0x03, (0x12, [(1, 4)]), (0x13, [(9, 9)])),
+    "key_bytes": lambda mark: signed_form(mark, (-5, 3)),
+    "all_but_one": lambda mark: signed_form(mark, (-(2**63), -2), (0, 2**63 - 1)),
+    "by_their_bytes": lambda mark: signed_form(mark, (3, 3), (-5, -1)),
+    "touching_keys": lambda mark: signed_form(mark, (-5, -1), (0, 3)),
+    "only_zero": lambda mark: set_form(mark, (0, 0)),
+    "whole_line": lambda mark: set_form(mark, (0, M)),
 }
 
 # The inputs of the program, with what it must print for each.
@@ -155,7 +155,7 @@ def tables(found):
             if name in WRONG_ON_PURPOSE:
                 continue
             found.records(f"{path}: {name}", data)
-            base = re.sub(r"-?(?:[nN]ew|[oO]ld)$", "", name)
+            base = re.sub(r"_?(?:new|old)$", "", name)
             if base in CONTENT and data[:2] in (OLD, NEW):
                 mark, what = NEEDED[name] if path == TABLE and name in NEEDED else (data[:2], base)
                 found.same(f"{path}: {name}", data, CONTENT[what](mark))

@@ -1,35 +1,37 @@
 #![tactic(auto)]
 // [H3] The program on each of the inputs that its arguments name: the input's name, and what the program writes for it.
+use std::env::{Env, FillError};
+use std::rt::Files;
+use std::{fs, io, str};
 
 // Shows the input with this name, or says why it cannot.
-fn show(name: &[u8]) {
-    let input = os::open_read(name);
-    if input < 0 {
-        os::fail(name);
-        return;
+fn show(rt: &(impl Files + Print + Eprint), name: &str) -> io::Result<()> {
+    match fs::open(rt, name) {
+        Ok(file) => {
+            let mut input = file;
+            println!(rt; "{name}")?;
+            program::run(rt, &mut input)
+        }
+        Err(e) => eprintln!(rt; "{name}: {e}"),
     }
-    io::write_all(1, name);
-    io::write_all(1, b"\n");
-    program::run(input);
-    libc::close(input);
 }
 
-// Shows the input that argument i names.
-fn show_argument(i: usize) {
-    let mut name = io::buffer();
-    let length = os::arg(i, &mut name);
-    if os::errno() != 0 {
-        os::fail(b"argument");
-        return;
+// Shows the input whose name these bytes are.
+fn show_bytes(rt: &(impl Files + Print + Eprint), name: &[u8]) -> io::Result<()> {
+    match str::from_utf8(name) {
+        Ok(text) => show(rt, text),
+        Err(_) => eprintln!(rt; "argument: no text"),
     }
-    show(&name[..length]);
 }
 
-fn main() {
-    let n = os::arg_count();
-    let mut i: usize = 1;
-    while i < n {
-        show_argument(i);
-        i += 1;
+fn main(rt: HostRuntime) -> io::Result<()> {
+    let mut name = [0u8; 4096];
+    for i in 1..usize::MAX {
+        match rt.arg(i, &mut name) {
+            Ok(n) => show_bytes(&rt, &name[..n])?,
+            Err(FillError::NotPresent) => break,
+            Err(FillError::TooLong) => eprintln!(rt; "argument: too long")?,
+        }
     }
+    Ok(())
 }
