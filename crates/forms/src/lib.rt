@@ -1,5 +1,6 @@
 // The byte form of sets, maps, bulletins and signed sets: a form is a value, and one code reads and writes them all, run by run.
 #![tactic(auto)]
+
 ghost use Rattle.std.specs.Prelude.{◌≡◌, [], ◌∷◌, ◌++◌, ◌+◌, ◌*◌, ◌≤◌, ◌<◌, length, drop};
 ghost use Rattle.answers.specs.Answers.{outcome};
 ghost use Rattle.answers.specs.Says.{judged_says, written_says};

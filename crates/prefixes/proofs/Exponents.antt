@@ -2,7 +2,7 @@
 use mathlib.Core.Path.{◌≡◌, ◌∙◌}
 use Prim.Native.Nat.{ℕ, suc, ◌+◌, ◌*◌, ◌-◌, ◌%◌, ◌^◌, ◌≤◌, ◌<◌}
 use native.Mathlib.Omega.{arith}
-use lib.Pow.{pow_mono, pow_pos, shl_exact}
+use lib.Pow.{pow_mono, shl_exact}
 use lib.Count.{count_trailing_zeros, count_leading_zeros, leading_top, trailing_le}
 use Rattle.entries.specs.Sets.{M, past_m}
 use Rattle.tilings.specs.Prefixes.{whole}

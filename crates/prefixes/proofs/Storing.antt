@@ -25,7 +25,6 @@ use Rattle.blocks.proofs.Refusing.{some_words}
 use Rattle.blocks.proofs.Words.{words_length}
 use Rattle.blocks.proofs.Moves.{part_eq, zeros, block_path}
 use Rattle.operations.specs.Calls.{from_one}
-use Rattle.operations.specs.Steps.{Wrote}
 use Rattle.operations.proofs.Making.{wrote_yes, wrote_no, stored_yes, stored_no}
 use Rattle.sets.proofs.Asking.{entries_plain}
 use Rattle.sets.proofs.Sizes.{entries_under}

@@ -1,5 +1,5 @@
 -- What the steps of the code promise each other. No public promise names these.
-use Rattle.std.specs.Prelude.{◌≡◌, Bool, List, [], ◌∷◌, ℕ, ◌+◌, ◌*◌, ◌-◌, ◌^◌, ◌≤◌, ◌<◌, leb, ltb, length, get_or, set}
+use Rattle.std.specs.Prelude.{◌≡◌, Bool, List, [], ◌∷◌, ℕ, ◌+◌, ◌*◌, ◌^◌, ◌≤◌, ◌<◌, leb, ltb, length, get_or, set}
 use Rattle.entries.specs.Build.{pick}
 use Rattle.entries.specs.Sets.{past_m}
 use Rattle.blocks.specs.Blocks.{set_layout, SoundBlock}

@@ -1,6 +1,7 @@
 // Prefix blocks of a set, for label scanners: 2^e numbers from a multiple of 2^e on, as pairs (start, e) in an output.
 // Two methods, which give the same pairs (demands/specs/Prefixes): from each range the largest block that fits, and the plain audit.
 #![tactic(auto)]
+
 ghost use Rattle.std.specs.Prelude.{◌≡◌, [], ◌∷◌, ◌+◌, ◌*◌, ◌-◌, ◌^◌, ◌≤◌, ◌<◌, leb, length, get_or, set};
 ghost use Rattle.entries.specs.Build.{andb};
 ghost use Rattle.answers.specs.Answers.{outcome};

@@ -3,6 +3,7 @@
 // is its contract. The calls of sets without a number (make_empty, size, equal, within, disjoint, union, intersection, difference,
 // symmetric_difference, complement) serve signed sets as they are.
 #![tactic(auto)]
+
 ghost use Rattle.std.specs.Prelude.{◌≡◌, [], ◌∷◌};
 ghost use Rattle.keys.specs.Keys.{word_of};
 ghost use Rattle.answers.specs.Answers.{outcome};

@@ -1,6 +1,7 @@
 // A form is a value: sets, maps, bulletins and signed sets are four of them. Here are its verdicts: the bytes judged as a whole form, run by run, the
 // outputs of a reading, and what can be asked of ranges in bytes.
 #![tactic(auto)]
+
 ghost use Rattle.std.specs.Prelude.{◌≡◌, ◌+◌, ◌*◌, ◌≤◌, ◌<◌, ltb, length, drop};
 ghost use Rattle.entries.specs.Sets.{member};
 ghost use Rattle.entries.specs.Bulletins.{shareb};

@@ -1,6 +1,5 @@
 -- A range at the place is one of the set; a block that is cut has more than one number, and its second half is a node behind the first.
-use Rattle.std.proofs.Common.{◌≡◌, ◌∙◌, ◌+◌, ◌<◌, ◌≤◌, ◌/◌, ℕ, false, leb, sym, arith, get_or}
-use Rattle.entries.specs.Build.{andb}
+use Rattle.std.proofs.Common.{◌∙◌, ◌<◌, sym, arith, get_or}
 use Rattle.prefixes.proofs.Nodes.{dropped_end, dropped_below, kept, more, first_half, second_half, cut}
 use Rattle.prefixes.proofs.+audit_block.Goals as goal
 

@@ -1,5 +1,4 @@
 use mathlib.Core.Path.{subst}
-use mathlib.Core.List.{List}
 use Prim.Native.Nat.{ℕ, ◌+◌, ◌*◌}
 use lib.ListN.{set, length-set}
 use Rattle.blocks.specs.Steps.{Cleared}

@@ -1,9 +1,8 @@
 use mathlib.Core.Path.{◌≡◌, sym, ◌∙◌}
-use Rattle.answers.proofs.Turns.{stops, passes, ends}
+use Rattle.answers.proofs.Turns.{stops, passes}
 use Rattle.blocks.specs.Blocks.{verdict, set_layout}
 use Rattle.blocks.proofs.Judging.{verdict_small}
 use Rattle.prefixes.proofs.Storing.{no_words, with_words}
-use native.Mathlib.Omega.{arith}
 use borrow.Author.Rules.{rules}
 use Rattle.prefixes.proofs.refusal.Statement.{statement}
 use Rattle.prefixes.proofs.refusal.Tie as tie

@@ -1,6 +1,6 @@
 -- Invariant: the blocks from `at` on are left, and noting them gives what is due (`Taking`). Measure: the numbers behind `at`.
 use mathlib.Core.Path.{refl}
-use Prim.Native.Nat.{◌+◌, ◌-◌, ◌≤◌, ◌<◌}
+use Prim.Native.Nat.{◌+◌, ◌-◌, ◌<◌}
 use Rattle.entries.specs.Sets.{past_m}
 use Rattle.prefixes.proofs.Passes.{Taking, taking_on, taking_end}
 use native.Mathlib.Omega.{arith}

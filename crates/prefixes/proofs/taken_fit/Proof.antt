@@ -1,4 +1,3 @@
-use Prim.Native.Nat.{◌*◌}
 use Rattle.prefixes.proofs.Storing.{taken_most, by_bound, by_count}
 use native.Mathlib.Omega.{arith}
 use borrow.Author.Rules.{rules}

@@ -1,5 +1,4 @@
 use borrow.Author.Tests.{le-leb, lt-leb}
-use borrow.Author.Rules.{rules}
 use Rattle.prefixes.proofs.within.Statement.{statement}
 use Rattle.prefixes.proofs.within.Tie as tie
 
