@@ -14,7 +14,7 @@ returns c =
     let s = c.before.before in
     record {
       answer = apart_says c.before.difference.result;
-      as_told = c.tell-apart.ensures;
+      as_told = c.tell_apart.ensures;
       as_called = ap (λ (d : Apart). outcome (apart_says d) [])
           (two_keys apart_of s.args.a s.args.b s.ranges.a.sfits s.ranges.b.sfits c.before.difference.ensures);
     }

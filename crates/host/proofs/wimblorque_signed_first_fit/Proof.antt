@@ -11,4 +11,4 @@ wimblorque_signed_first_fit_spec =
     tie.close (tie.spec (λ c κs. search rules) (λ c κs. search rules) (λ c. let d = c.before in let s = d.before.before in
     key_at_two (λ (k l : ℤ). first_fit_call s.args.block.now (word_of k) (word_of l) s.args.k) s.args.a s.args.b
     s.ranges.a.sfits s.ranges.b.sfits
-    c.tell-placed-key.ensures d.first-fit.ensures))
+    c.tell_placed_key.ensures d.first_fit.ensures))

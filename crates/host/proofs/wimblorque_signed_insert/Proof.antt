@@ -11,4 +11,4 @@ wimblorque_signed_insert_spec =
     tie.close (tie.spec (λ c κs. search rules) (λ c κs. search rules) (λ c. search rules)
     (λ c. let d = c.before.before.before in let s = d.before.before.before in
     at_two (λ (k l : ℤ). insert_call s.args.block.now (word_of k) (word_of l)) s.args.a s.args.b s.ranges.a.sfits s.ranges.b.sfits
-    c.tell-judged.ensures d.insert.ensures))
+    c.tell_judged.ensures d.insert.ensures))

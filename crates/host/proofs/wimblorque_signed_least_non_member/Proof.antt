@@ -10,4 +10,4 @@ pub wimblorque_signed_least_non_member_spec : {M : Type 1} → statement M
 wimblorque_signed_least_non_member_spec =
     tie.close (tie.spec (λ c κs. search rules) (λ c κs. search rules) (λ c. let s = c.before.before.before in
     key_at_one (λ (k : ℤ). least_non_member_call s.args.block.now (word_of k))
-    s.args.x s.ranges.x.sfits c.tell-found-key.ensures c.before.least-non-member.ensures))
+    s.args.x s.ranges.x.sfits c.tell_found_key.ensures c.before.least_non_member.ensures))

@@ -9,4 +9,4 @@ use Rattle.host.proofs.wimblorque_signed_member.Tie as tie
 pub wimblorque_signed_member_spec : {M : Type 1} → statement M
 wimblorque_signed_member_spec =
     tie.close (tie.spec (λ c κs. search rules) (λ c κs. search rules) (λ c. let s = c.before.before.before in
-    at_one (λ (k : ℤ). member_call s.args.block.now (word_of k)) s.args.x s.ranges.x.sfits c.tell-seated.ensures c.before.member.ensures))
+    at_one (λ (k : ℤ). member_call s.args.block.now (word_of k)) s.args.x s.ranges.x.sfits c.tell_seated.ensures c.before.member.ensures))

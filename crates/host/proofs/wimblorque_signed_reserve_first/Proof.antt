@@ -12,4 +12,4 @@ wimblorque_signed_reserve_first_spec =
     (λ c. let d = c.before.before.before in let s = d.before.before.before in
     key_at_two (λ (k l : ℤ). reserve_first_call s.args.block.now (word_of k) (word_of l) s.args.k) s.args.a s.args.b
     s.ranges.a.sfits s.ranges.b.sfits
-    c.tell-placed-key.ensures d.reserve-first.ensures))
+    c.tell_placed_key.ensures d.reserve_first.ensures))

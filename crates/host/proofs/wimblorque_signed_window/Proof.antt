@@ -10,4 +10,4 @@ pub wimblorque_signed_window_spec : {M : Type 1} → statement M
 wimblorque_signed_window_spec =
     tie.close (tie.spec (λ c κs. search rules) (λ c κs. search rules) (λ c. let d = c.before in let s = d.before.before in
     at_two (λ (k l : ℤ). set_window_at_call s.args.block.now (word_of k) (word_of l)) s.args.a s.args.b s.ranges.a.sfits s.ranges.b.sfits
-    c.tell-parted.ensures d.window-at.ensures))
+    c.tell_parted.ensures d.window_at.ensures))
