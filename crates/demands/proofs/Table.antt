@@ -233,7 +233,7 @@ table =
     ∷ case (insert_call (1 ∷ 5 ∷ 9 ∷ 7 ∷ 7 ∷ []) 11 12) (accepted (2 ∷ 5 ∷ 9 ∷ 11 ∷ 12 ∷ []))
     -- [N-D] {0..M} remove 7..7
     ∷ case (remove_call (1 ∷ 0 ∷ M ∷ 0 ∷ 0 ∷ []) 7 7) (accepted (2 ∷ 0 ∷ 6 ∷ 8 ∷ M ∷ []))
-    -- [N-E, R18] complement of empty, its size less one, no non_member_lem at or above 0
+    -- [N-E, R18] complement of empty, its size less one, no non-member at or above 0
     ∷ case (complement_call (0 ∷ []) (9 ∷ 9 ∷ 9 ∷ [])) (accepted (1 ∷ 0 ∷ M ∷ []))
     ∷ case (size_call (1 ∷ 0 ∷ M ∷ [])) (answer (M ∷ []))
     ∷ case (least_non_member_call (1 ∷ 0 ∷ M ∷ []) 0) (answer [])

@@ -45,7 +45,7 @@ LeastMember = (w : List ℕ) (x : ℕ) → SoundSet w
     → ((y : ℕ) → least_member_call w x ≡ answers (y ∷ []) → (x ≤ y) × (In w y ≡ true) × ((z : ℕ) → x ≤ z → z < y → In w z ≡ false))
     × Iff (least_member_call w x ≡ answers []) ((z : ℕ) → x ≤ z → In w z ≡ false)
 
--- [S5] y is the least non_member_lem at or above x; none exactly if every number from x to M is a member
+-- [S5] y is the least non-member at or above x; none exactly if every number from x to M is a member
 abbrev pub LeastNonMember : Type 0
 LeastNonMember = (w : List ℕ) (x : ℕ) → SoundSet w
     → ((y : ℕ) → least_non_member_call w x ≡ answers (y ∷ []) → (x ≤ y) × (y ≤ M) × (In w y ≡ false) × ((z : ℕ) → x ≤ z → z < y → In w z ≡ true))

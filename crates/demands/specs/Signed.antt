@@ -66,7 +66,7 @@ LeastKey = (w : List ℕ) (x : ℤ) → SoundSet w → Lent w → IsKey x
     → (le_z x y ≡ true) × (InKeys w y ≡ true) × ((z : ℤ) → IsKey z → le_z x z ≡ true → lt_z z y ≡ true → InKeys w z ≡ false))
     × Iff (least_member_call w (word_of x) ≡ answers []) ((z : ℤ) → IsKey z → le_z x z ≡ true → InKeys w z ≡ false)
 
--- [K2, K3] the least non_member_lem at or above x as a key, or there is none
+-- [K2, K3] the least non-member at or above x as a key, or there is none
 abbrev pub LeastFreeKey : Type 0
 LeastFreeKey = (w : List ℕ) (x : ℤ) → SoundSet w → IsKey x
     → ((y : ℤ) → IsKey y → least_non_member_call w (word_of x) ≡ answers (word_of y ∷ [])

@@ -10,7 +10,7 @@ range_at [] i = none
 range_at (e ∷ es) zero = some e
 range_at (e ∷ es) (suc i) = range_at es i
 
--- [S3] how many numbers the ranges hold (`size-Counts` in proofs/Questions: as many as there are members)
+-- [S3] how many numbers the ranges hold (`size_counts` in proofs/Questions: as many as there are members)
 abbrev pub size_of : List Entry → ℕ
 size_of [] = 0
 size_of (e ∷ es) = (suc e.high - e.low) + size_of es

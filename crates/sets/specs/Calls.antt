@@ -45,7 +45,7 @@ size_call w = asked w (λ es. less_one (size_of es))
 unfoldable pub least_member_call : List ℕ → ℕ → Outcome
 least_member_call w x = asked w (λ es. optional (least_member es x))
 
--- [S5] the least non_member_lem at or above x, or none: the least member of the complement within 0..M
+-- [S5] the least non-member at or above x, or none: the least member of the complement within 0..M
 abbrev pub non_member : List Entry → ℕ → Option ℕ
 non_member es x = least_member (complement es) x
 
