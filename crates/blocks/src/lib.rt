@@ -87,6 +87,7 @@ pub fn same_words(a: &[u64], p: usize, b: &[u64], q: usize, len: usize) -> bool
 
 // Whether the item at word p has its low at most its high, and the next one may stand after it: it begins past that high, and
 // where it touches it has another value.
+#[tactic(auto, using(crate::proofs::Tests::backwards, crate::proofs::Tests::overlaps, crate::proofs::Tests::apart, crate::proofs::Tests::touching))]
 fn follows(block: &[u64], s: usize, p: usize) -> bool
     requires { (2 ≤ s) × (p + s + s ≤ length block.now) }
     ensures { result ≡ fine (item_from s block.now p) (item_from s block.now (p + s) ∷ []) }

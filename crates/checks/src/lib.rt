@@ -173,6 +173,7 @@ fn crc_of(bytes: &[u8]) -> u64
 }
 
 // The check that a record with this mark has for at most 33 bytes, byte by byte.
+#[tactic(auto, using(crate::proofs::Marks::check_old, crate::proofs::Marks::check_new))]
 pub fn check_of(bytes: &[u8], mark: u16) -> u64
     requires { length bytes.now ≤ 33 }
     ensures { (result ≡ check_of mark bytes.now) × (result < past2) }

@@ -238,6 +238,7 @@ pub fn edit_put(block: &mut [u64], new: &mut [u64], layout: Layout) -> u8
 }
 
 // Takes the range a..b out of any words lent as a block: 0, or the number of the refusal.
+#[tactic(auto, using(crate::proofs::Sides::edit_refused, crate::proofs::Sides::edit_ok, crate::proofs::Sides::edit_backwards, crate::proofs::Sides::edit_kept))]
 pub fn edit_out(block: &mut [u64], layout: Layout, a: u64, b: u64) -> u8
     requires { 2 ≤ layout.width }
     ensures { outcome (number_says result 0) (block.new ∷ []) ≡ edit_call layout block.old a b none }

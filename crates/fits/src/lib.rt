@@ -54,6 +54,7 @@ fn within(best: Gap, less: u64) -> bool
 }
 
 // The gap held after low..high came: it is taken if it is shorter than the one held and k numbers fit in it from a multiple of 2^j on.
+#[tactic(auto, using(crate::proofs::Walking::tried_short, crate::proofs::Walking::tried_keep, crate::proofs::Walking::tried_none, crate::proofs::Walking::tried_over, crate::proofs::Walking::tried_new))]
 fn tried(best: Gap, low: u64, high: u64, k: u64, j: u64) -> Gap
     requires { Trying j best low high k }
     ensures { Took j k best (entry low high [] ∷ []) result }
@@ -135,6 +136,7 @@ fn gap_for(block: &[u64], a: u64, b: u64, k: u64, j: u64, shortest: bool) -> Gap
 }
 
 // The number of the first refusal of a run of k in the window a..b from a multiple of 2^j on, before a place is sought; 0 where there is none.
+#[tactic(auto, using(crate::proofs::Asking::ask_window, crate::proofs::Asking::ask_zero, crate::proofs::Asking::ask_high, crate::proofs::Asking::ask_right))]
 fn ask_verdict(block: &[u64], a: u64, b: u64, k: u64, j: u64) -> u8
     ensures { FirstOf (align_refusals block.now a b k j) (at 0 result) }
 {

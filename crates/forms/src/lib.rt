@@ -43,6 +43,7 @@ fn store_runs(bytes: &[u8], form: Form, n: usize, m: usize, first: &mut [u64], s
 }
 
 // Reads a form into a block for each run: judges all of it, then fills. The second block is not touched where the form has one run.
+#[tactic(auto, using(verdicts::proofs::Whole::start_long, crate::proofs::Reading::bytes_refused, crate::proofs::Reading::Opened, crate::proofs::Reading::outs_refused, crate::proofs::Reading::to_store, crate::proofs::Reading::read_good))]
 fn read_form(bytes: &[u8], first: &mut [u64], second: &mut [u64], form: Form) -> Judged
     requires { FormKind form }
     ensures { outcome (judged_says result) (each_of form first.new second.new)

@@ -40,6 +40,7 @@ pub fn key_of(word: u64) -> i64
 }
 
 // The first key less the second, or too far exactly where that is no key. Each test is made where it cannot overflow, before the subtraction.
+#[tactic(auto, using(crate::proofs::Machine::top_fits, crate::proofs::Machine::over_top, crate::proofs::Machine::under_top, crate::proofs::Machine::bottom_fits, crate::proofs::Machine::under_bottom, crate::proofs::Machine::over_bottom, crate::proofs::Machine::less_fits, crate::proofs::Machine::less_is))]
 pub fn difference(a: i64, b: i64) -> Apart
     ensures { result ≡ apart_of a b }
 {

@@ -17,6 +17,7 @@ use answers::{Decided, Found, Judged, Parted};
 use operations::Layouts;
 
 // The value of x in a sound map.
+#[tactic(auto, using(crate::proofs::Looking::value_none, crate::proofs::Looking::value_held, crate::proofs::Looking::value_is))]
 fn value_in(block: &[u64], x: u64) -> Found
     requires { SoundBlock map_layout block.now }
     ensures { found_says result ≡ worth (value_at (map_entries block.now) x) }
@@ -165,6 +166,7 @@ pub fn site_over_factory<'a>(site: &'a [u64], factory: &'a [u64], x: u64) -> &'a
 }
 
 // The same entry, as the place and the length of its part and the position of its map; or that no entry decides.
+#[tactic(auto, using(blocks::proofs::Judging::verdict_sound, answers::proofs::Turns::refusal_by, answers::proofs::Turns::given_by, crate::proofs::Sites::decided_nothing, crate::proofs::Sites::decided_entry), unfolding(crate::specs::Calls::site_over_factory_at_call, crate::specs::Calls::site_over_factory_at_call, crate::specs::Calls::site_over_factory_at_call))]
 pub fn site_over_factory_at(site: &[u64], factory: &[u64], x: u64) -> Decided
     ensures { outcome (decided_says result) [] ≡ site_over_factory_at_call site.now factory.now x }
 {

@@ -69,6 +69,7 @@ pub fn any_of_two(a: &[u64], b: &[u64], plan: Plan) -> bool
 }
 
 // What a table keeps of any words lent as two blocks, into o.
+#[tactic(auto, using(blocks::proofs::Judging::verdict_sound, crate::proofs::Making::refused_here, crate::proofs::Making::passes, crate::proofs::Making::no_words, crate::proofs::Making::with_words, crate::proofs::Making::bound_fits, crate::proofs::Making::two_ok, crate::proofs::Making::stored_yes, crate::proofs::Making::stored_no))]
 pub fn from_two(
     a: &[u64],
     b: &[u64],
@@ -116,6 +117,7 @@ fn store_one(a: &[u64], plan: Plan, bound: usize, limit: usize, o: &mut [u64]) -
 }
 
 // What a table keeps of any words lent as a block, into o.
+#[tactic(auto, using(blocks::proofs::Judging::verdict_sound, crate::proofs::Making::refused_here, crate::proofs::Making::passes, crate::proofs::Making::no_words, crate::proofs::Making::with_words, crate::proofs::Making::count_small, crate::proofs::Making::one_ok, crate::proofs::Making::stored_yes, crate::proofs::Making::stored_no))]
 pub fn from_one(a: &[u64], table: u8, first: Layout, out: Layout, o: &mut [u64]) -> Judged
     requires { OneFit table first out }
     ensures { outcome (judged_says result) (o.new ∷ []) ≡ from_one first out

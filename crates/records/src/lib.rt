@@ -61,6 +61,7 @@ pub fn body_length(kind: u8) -> Body
 }
 
 // The verdict on the record at the front of the bytes as far as its length: 0, or the number of the refusal.
+#[tactic(auto, using(crate::proofs::Table::body_small, crate::proofs::Table::told_known, crate::proofs::Table::told_unknown, crate::proofs::Table::fits_known, crate::proofs::Heads::front_short, crate::proofs::Heads::front_mark, crate::proofs::Heads::front_kind, crate::proofs::Heads::front_body, crate::proofs::Heads::front_unknown, crate::proofs::Heads::length_short))]
 fn read_front(bytes: &[u8], mark: u16, due: u8) -> u8
     ensures { Fronted mark due bytes.now result }
 {
@@ -211,6 +212,7 @@ fn item_here(bytes: &[u8], s: usize) -> Item
 }
 
 // The item that an item record of a kind says with these words.
+#[tactic(auto, using(crate::proofs::Items::said_as_it_is, crate::proofs::Items::said_turned))]
 fn item_said(kind: u8, item: Item) -> Item
     ensures { result ≡ item_said kind item }
 {
@@ -271,6 +273,7 @@ fn item_check(kind: u8, mark: u16, item: Item, s: usize) -> u64
 }
 
 // Whether two items of s words have the same value.
+#[tactic(auto, using(crate::proofs::Items::same_none, crate::proofs::Items::same_differ, crate::proofs::Items::same_one, crate::proofs::Items::same_two))]
 fn same_value(a: Item, b: Item, s: usize) -> bool
     requires { (2 ≤ s) × (s ≤ 4) }
     ensures { result ≡ same_words (entry_of s a).value (entry_of s b).value }
@@ -288,6 +291,7 @@ fn same_value(a: Item, b: Item, s: usize) -> bool
 }
 
 // Whether an item may stand right after another.
+#[tactic(auto, using(crate::proofs::Items::overlaps, crate::proofs::Items::apart, crate::proofs::Items::touching))]
 fn may_follow(before: Item, item: Item, s: usize) -> bool
     requires { (2 ≤ s) × (s ≤ 4) }
     ensures { result ≡ afterb (entry_of s before) (entry_of s item) }

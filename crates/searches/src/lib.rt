@@ -178,6 +178,7 @@ pub fn window(block: &[u64], layout: Layout, a: u64, b: u64) -> &[u64]
 }
 
 // The same part, as its place and its length; or that it is empty.
+#[tactic(auto, using(answers::proofs::Turns::refusal_by, answers::proofs::Turns::given_by, crate::proofs::Windows::clear_window, crate::proofs::Windows::part_empty, crate::proofs::Windows::part_some), unfolding(crate::specs::Calls::window_at_call, crate::specs::Calls::window_at_call, crate::specs::Calls::window_at_call))]
 pub fn window_at(block: &[u64], layout: Layout, a: u64, b: u64) -> Parted
     requires { 2 ≤ layout.width }
     ensures { outcome (parted_says result) [] ≡ window_at_call layout block.now a b }

@@ -23,6 +23,7 @@ use operations::Layouts;
 use sweeps::Plan;
 
 // Makes the block the empty set. Its old words are not judged.
+#[tactic(auto, using(crate::proofs::Emptying::empty_refused, crate::proofs::Emptying::empty_done))]
 pub fn make_empty(block: &mut [u64]) -> Judged
     ensures { outcome (judged_says result) (block.new ∷ []) ≡ make_empty_call block.old }
 {
@@ -49,6 +50,7 @@ pub fn member(block: &[u64], x: u64) -> Seated
 }
 
 // The range at index i of a sound set.
+#[tactic(auto, using(crate::proofs::Asking::range_none, crate::proofs::Asking::range_is))]
 fn range_in(block: &[u64], i: u64) -> Ranged
     requires { SoundBlock set_layout block.now }
     ensures { ranged_says result ≡ ends (range_at (entries_of 2 block.now) i) }
@@ -92,6 +94,7 @@ fn size_less_one(block: &[u64], n: usize) -> u64
 }
 
 // How many members: empty, or the number of them less one.
+#[tactic(auto, using(blocks::proofs::Judging::verdict_sound, crate::proofs::Asking::refuse_asked, crate::proofs::Asking::give_asked, crate::proofs::Sizes::size_none, crate::proofs::Sizes::size_some), unfolding(crate::specs::Calls::size_call, crate::specs::Calls::size_call, crate::specs::Calls::size_call))]
 pub fn size(block: &[u64]) -> Sized
     ensures { outcome (sized_says result) [] ≡ size_call block.now }
 {

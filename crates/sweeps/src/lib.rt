@@ -149,6 +149,7 @@ fn begin(a: &[u64], b: &[u64], c: &[u64], plan: Plan) -> Starts
 }
 
 // The run at x from inside an item whose high word stands at p: to its high end, and then into the next item where that touches it.
+#[tactic(auto, using(crate::proofs::Runs::in_here, crate::proofs::Runs::leave_last, crate::proofs::Runs::next_later, crate::proofs::Runs::next_here, crate::proofs::Runs::leave_touching, crate::proofs::Runs::leave_apart))]
 fn leave(w: &[u64], s: usize, p: usize, end: usize, x: u64) -> Run
     requires input { Input s w.now }
     requires point { Point s w.now x (cursor p true end) }

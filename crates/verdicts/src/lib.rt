@@ -112,6 +112,7 @@ fn mark_of(bytes: &[u8]) -> u16
 }
 
 // The first refusal behind the start of a form with this mark and these counts, or number 0.
+#[tactic(auto, using(crate::proofs::Two::first_bad, crate::proofs::Two::second_bad, crate::proofs::Two::trails, crate::proofs::Two::last_is, crate::proofs::Two::to_share, crate::proofs::Two::shared_is, crate::proofs::Two::one_run))]
 fn judge_runs(bytes: &[u8], mark: u16, form: Form, n: usize, m: usize) -> Finding
     requires { FormKind form × (start_size form ≤ length bytes.now) }
     ensures { FirstOf (behind_start mark form n m bytes.now) result }
