@@ -11,7 +11,8 @@ run_x86_64() {
 link_x86_64() {
     "$tools/bin/clang" --target=x86_64-unknown-linux-gnu -O2 -fPIC -ffreestanding -isystem "$(cc -print-file-name=include)" -Iinclude \
         -c "$1" -o "$2.o"
-    "$kit/bin/rattle-link" --target x86_64-unknown-linux-gnu --toolchain "$tools" -o "$2" "$2.o" build/host_x86_64.a >/dev/null
+    "$kit/bin/rattle-link" --target x86_64-unknown-linux-gnu --toolchain "$tools" -o "$2" "$2.o" build/host_x86_64.a >build/link.log 2>&1 ||
+        { cat build/link.log >&2; return 1; }
 }
 
 # What everything that is made of the crates is made from, the kit and the crates of the folder at hand, in one number.
