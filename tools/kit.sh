@@ -17,7 +17,7 @@ link_x86_64() {
 
 # What everything that is made of the crates is made from, the kit and the crates of the folder at hand, in one number.
 sources() {
-    { cat "$kit/KIT-ID" && find crates.txt crates -name out -prune -o -type f -exec sha256sum {} + | sort; } | sha256sum
+    { cat "$kit/KIT-ID" && find crates.txt crates \( -name out -o -name must-fail \) -prune -o -type f -exec sha256sum {} + | sort; } | sha256sum
 }
 
 # The crates that a crate names in crates.txt.
