@@ -27,10 +27,15 @@ uses() { # NAME
 
 # The crates below a crate, each once.
 below() { # NAME
-    for each in $(uses "$1"); do
-        echo "$each"
-        below "$each"
-    done | sort -u
+    awk -F: -v todo="$1" '
+        { split($1, of, " "); uses[of[1]] = $2 }
+        END {
+            while (split(todo, each, " ")) {
+                todo = ""
+                for (i in each) if (!(each[i] in met)) { met[each[i]]; todo = todo " " uses[each[i]] }
+            }
+            for (it in met) print it
+        }' crates.txt | grep -vx "$1"
 }
 
 # Whether each library below a crate stands in its out/ as it was proved of the code that it has now.
