@@ -24,15 +24,16 @@ import sys
 ROOT = os.path.dirname(os.path.dirname(os.path.abspath(__file__)))
 MACHINES = {"x86_64": "x86-64", "aarch64": "64-bit Arm"}
 RETURN_ADDRESS = {"x86_64": 8, "aarch64": 0}
+PADDED = {"x86_64": ["-march=x86-64-v2"], "aarch64": []}
 NEEDED = ["memset"]
 # No more than this, in bytes: near what is measured, so that growth is noticed.
-MOST_CODE = {"x86_64": 27400, "aarch64": 24100}
-MOST_CONSTANTS = {"x86_64": 520, "aarch64": 1040}
-MOST_STACK = {"x86_64": 700, "aarch64": 592}
+MOST_CODE = {"x86_64": 33100, "aarch64": 31000}
+MOST_CONSTANTS = {"x86_64": 690, "aarch64": 920}
+MOST_STACK = {"x86_64": 630, "aarch64": 528}
 # The function that calls itself, how often it can be on the stack at once (its exponent falls from 64 to 0), and the bound for the calls
 # that can reach it.
 TIMES = {"prefixes::audit_block": 65}
-MOST_DEEP_STACK = {"x86_64": 8600, "aarch64": 7600}
+MOST_DEEP_STACK = {"x86_64": 6480, "aarch64": 6480}
 # The calls of README.md's table.
 SHOWN = ["member", "set_member", "set_insert", "set_union", "map_site_over_factory", "set_reserve_best", "bulletin_apply", "set_read", "signed_read"]
 SHOWN += ["set_prefix_blocks", "set_audit_blocks"]
@@ -88,10 +89,10 @@ def made(wanted):
 
 
 def assembled(machine, text):
-    """The object that the kit's compiler makes of a text."""
+    """The object that the kit's compiler makes of a text. Between functions it has to pad as the compiler did, for a newer processor."""
     kit = os.path.dirname(os.path.dirname(os.path.realpath(shutil.which("rt"))))
     to = f"build/again_{machine}.o"
-    words = [f"--target={machine}-unknown-linux-gnu", "-c", "-x", "assembler", text, "-o", to]
+    words = [f"--target={machine}-unknown-linux-gnu", *PADDED[machine], "-c", "-x", "assembler", text, "-o", to]
     subprocess.run([os.path.join(kit, "toolchain/bin/clang"), *words], cwd=ROOT, check=True)
     return to
 

@@ -11,12 +11,13 @@ run_x86_64() {
 link_x86_64() {
     "$tools/bin/clang" --target=x86_64-unknown-linux-gnu -O2 -fPIC -ffreestanding -isystem "$(cc -print-file-name=include)" -Iinclude \
         -c "$1" -o "$2.o"
-    "$kit/bin/rattle-link" --target x86_64-unknown-linux-gnu --toolchain "$tools" -o "$2" "$2.o" build/host_x86_64.a >/dev/null
+    "$kit/bin/rattle-link" --target x86_64-unknown-linux-gnu --toolchain "$tools" -o "$2" "$2.o" build/host_x86_64.a >build/link.log 2>&1 ||
+        { cat build/link.log >&2; return 1; }
 }
 
 # What everything that is made of the crates is made from, the kit and the crates of the folder at hand, in one number.
 sources() {
-    { cat "$kit/KIT-ID" && find crates.txt crates -name out -prune -o -type f -exec sha256sum {} + | sort; } | sha256sum
+    { cat "$kit/KIT-ID" && find crates.txt crates \( -name out -o -name must-fail \) -prune -o -type f -exec sha256sum {} + | sort; } | sha256sum
 }
 
 # The crates that a crate names in crates.txt.
@@ -26,10 +27,15 @@ uses() { # NAME
 
 # The crates below a crate, each once.
 below() { # NAME
-    for each in $(uses "$1"); do
-        echo "$each"
-        below "$each"
-    done | sort -u
+    awk -F: -v todo="$1" '
+        { split($1, of, " "); uses[of[1]] = $2 }
+        END {
+            while (split(todo, each, " ")) {
+                todo = ""
+                for (i in each) if (!(each[i] in met)) { met[each[i]]; todo = todo " " uses[each[i]] }
+            }
+            for (it in met) print it
+        }' crates.txt | grep -vx "$1"
 }
 
 # Whether each library below a crate stands in its out/ as it was proved of the code that it has now.

@@ -43,18 +43,18 @@ def sizes_due():
     """Each number that numbers.c writes, from the definitions and laws."""
     blocks, records = text_of("crates/blocks/specs/*.antt"), text_of("crates/records/specs/*.antt")
     laws = text_of("crates/demands/specs/Bytes.antt")
-    (range_words, ranges), (entry_words, entries) = only(r"^setLayout = layout (\d+) (\d+)$", blocks), only(r"^mapLayout = layout (\d+) (\d+)$", blocks)
-    if "\ncapacity l L = min ((L - 1) / l .width) (l .limit)\n" not in blocks:
+    (range_words, ranges), (entry_words, entries) = only(r"^set_layout = layout (\d+) (\d+)$", blocks), only(r"^map_layout = layout (\d+) (\d+)$", blocks)
+    if "\ncapacity l L = min ((L - 1) / l.width) l.limit\n" not in blocks:
         sys.exit("numbers.py: capacity is no longer defined as the header says")
     pairs = text_of("crates/prefixes/specs/Calls.antt")
-    (pair_words,) = only(r"^pairLayout = layout (\d+) M$", pairs)
+    (pair_words,) = only(r"^pair_layout = layout (\d+) M$", pairs)
     (most,) = only(r"^most = (\d+)$", text_of("crates/tilings/specs/Prefixes.antt"))
     body = {int(kind, 16): int(size) for kind, size in re.findall(r"\(eqb kind (0x\w\w)\) \(some (\d+)\)", records)}
     record = {kind: 5 + size for kind, size in body.items()}  # the mark, the kind and the check are five bytes
-    set_form = only(r"readSetCall b out ≡ leaves w → length b ≡ (\d+) \+ (\d+) \* getD w 0 0\)$", laws)
-    map_form = only(r"readMapCall b out ≡ leaves w → length b ≡ (\d+) \+ (\d+) \* getD w 0 0\)$", laws)
-    bulletin = only(r"readBulletinCall .* → length b ≡ (\d+) \+ (\d+) \* \(getD r 0 0 \+ getD w 0 0\)\)$", laws)
-    signed_form = only(r"readSignedCall b out ≡ leaves w → length b ≡ (\d+) \+ (\d+) \* getD w 0 0\)$", laws)
+    set_form = only(r"read_set_call b out ≡ leaves w → length b ≡ (\d+) \+ (\d+) \* get_or w 0 0\)$", laws)
+    map_form = only(r"read_map_call b out ≡ leaves w → length b ≡ (\d+) \+ (\d+) \* get_or w 0 0\)$", laws)
+    bulletin = only(r"read_bulletin_call .* → length b ≡ (\d+) \+ (\d+) \* \(get_or r 0 0 \+ get_or w 0 0\)\)$", laws)
+    signed_form = only(r"read_signed_call b out ≡ leaves w → length b ≡ (\d+) \+ (\d+) \* get_or w 0 0\)$", laws)
     expect("the records of the laws", [*set_form, *map_form, *bulletin], [record[k] for k in (0x01, 0x10, 0x02, 0x11, 0x03, 0x12)])
     expect("released and withdrawn ranges", record[0x12], record[0x13])
     expect("the form of a signed set, which the header measures as a set's", [*signed_form, record[0x04], record[0x14]], set_form * 2)
@@ -94,7 +94,7 @@ def check_numbers(written):
 
 def check_words(written):
     """The refusals: names, sentences, and the header's constants."""
-    numbers = {int(n): name for name, n in re.findall(r"^numberOf (\w+) = (\d+)$", text_of("crates/answers/specs/*.antt"), re.M)}
+    numbers = {int(n): name for name, n in re.findall(r"^number_of (\w+) = (\d+)$", text_of("crates/answers/specs/*.antt"), re.M)}
     due = {0: "Accepted"} | {16 + number: name for number, name in numbers.items()}
     said = {int(status): (name, sentence) for status, name, sentence in re.findall(r"^(\d+) (\w+): (.*)$", written, re.M)}
     names = {status: name for status, (name, _) in said.items() if name != "Unknown"}

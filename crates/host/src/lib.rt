@@ -1,6 +1,7 @@
 // Every call of the library for a C host. A slice is passed as a pointer and then a length; include/wimblorque.h has the conventions.
 // Each contract is the outcome of the call's own definition, as C is told it: `Tells`, of crate told.
 #![tactic(auto)]
+
 ghost use Rattle.std.specs.Prelude.{◌≡◌, [], ◌∷◌};
 ghost use Rattle.sets.specs.Calls.{make_empty_call, member_call, range_at_call, size_call, least_member_call, least_non_member_call, set_window_at_call, insert_call};
 ghost use Rattle.sets.specs.Calls.{remove_call, equal_call, within_call, disjoint_call, union_call, intersection_call, difference_call, symmetric_difference_call};
