@@ -86,11 +86,17 @@ def turned(text, table, fields, kept):
         name = it.group()
         if name in kept or name not in table:
             return name
-        if it.start() and text[it.start() - 1] == "." and name not in fields:
+        if it.start() and it.string[it.start() - 1] == "." and name not in fields:
             return name
         return table[name]
 
-    return WORD.sub(word, text)
+    def line(it):
+        if not it.lstrip().startswith(("--", "//")):
+            return WORD.sub(word, it)
+        it = re.sub(r"`[^`]+`", lambda q: WORD.sub(word, q.group()), it)
+        return re.sub(r"(?<![\w-])[a-z]+[A-Z]\w*(?![\w-])", lambda q: table.get(q.group(), q.group()), it)
+
+    return "\n".join(line(it) for it in text.split("\n"))
 
 
 def together(table, names):

@@ -448,6 +448,7 @@ fn pair_segment_at(
 }
 
 // Whether two values of an output of s words an item are the same.
+#[tactic(auto, using(crate::proofs::Segments::same_two, crate::proofs::Segments::same_three, crate::proofs::Segments::same_four, crate::proofs::Segments::same_differ))]
 fn same_value(s: usize, u: Words, v: Words) -> bool
     requires { (2 ≤ s) × (s ≤ 4) }
     ensures { result ≡ same_words (value_of s u) (value_of s v) }
