@@ -72,7 +72,7 @@ def contracts(crate):
     """The public functions of a crate that users are given: comment, signature and contract."""
     folder = os.path.join("crates", crate, "src")
     for name in sorted(os.listdir(os.path.join(antt.ROOT, folder))):
-        for m in re.finditer(r'((?:^//[^\n]*\n)*)(?:^#\[unsafe\(no_mangle\)\]\n)?^(pub (?:extern "C" )?fn .*?)\n\{', antt.read(folder, name), re.M | re.S):
+        for m in re.finditer(r'((?:^//[^\n]*\n)*)(?:^#\[[^\n]*\]\n)*^(pub (?:extern "C" )?fn .*?)\n\{', antt.read(folder, name), re.M | re.S):
             comment = " ".join(line[2:].strip() for line in m.group(1).splitlines())
             yield comment, m.group(2).splitlines()
 
