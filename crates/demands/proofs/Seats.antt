@@ -11,7 +11,7 @@ use lib.IntN.{ℤ, pos, negsuc}
 use lib.Signed.{lt_z, le_z}
 use lib.ListN.{length, get_or}
 use borrow.Author.Tests.{le-leb, lt-leb, lt-ltb, le-ltb}
-use Rattle.keys.specs.Keys.{IsKey, word_of, key_of}
+use Rattle.keys.specs.Keys.{word_of, key_of}
 use Rattle.entries.specs.Entries.{Entry, value_at}
 use Rattle.entries.specs.Sets.{has}
 use Rattle.entries.specs.Questions.{bit, wholly_below}
@@ -25,8 +25,8 @@ use Rattle.searches.proofs.Spots.{spot_first}
 use Rattle.searches.proofs.Ends.{first_by, one_first, holding, out}
 use Rattle.sets.specs.Calls.{member_call, range_at_call}
 use Rattle.demands.specs.Plain.{Iff, SoundSet, InRange, In, answers, yes_with, no_with}
-use Rattle.demands.specs.Seats.{MemberIs, CountBelow, MemberCount, Holds, HeldAt, Beside, NextTo, Holder, MemberHolder, Neighbours, MemberNeighbours}
-use Rattle.demands.specs.Seats.{HoldsKey, BesideKey, SeatKey}
+use Rattle.demands.specs.Seats.{MemberIs, CountBelow, MemberCount, Holds, HeldAt, Beside, NextTo, MemberHolder, MemberNeighbours}
+use Rattle.demands.specs.Seats.{SeatKey}
 use Rattle.demands.proofs.Questions.{in_set, seated_sound, range_at_means}
 use Rattle.demands.proofs.Signed.{up_to, down_to, in_keys_lem}
 use Rattle.demands.proofs.Outcomes.{iff_by}
