@@ -27,7 +27,7 @@ pub returns-then-form-eq1 : goal.returns-then-form-eq1
 returns-then-form-eq1 c =
     let a = c.args in
     last_is _ a.form a.n a.m a.bytes.now _ c.judge_run-x.ensures c.if-x-ne0.false _ c.judge_run-y.ensures
-    c.if-y-ne0.false c.if-y-bytes.false 0
+    c.if-y-ne0.false (omega arith) 0
     (sym (ap (λ (t : Bool). applies t 14) (one_run a.form.runs _ _ c.if-form-eq1.true)))
 
 pub share_records-requires : goal.share_records-requires
@@ -41,7 +41,7 @@ pub returns-then-share_records : goal.returns-then-share_records
 returns-then-share_records c =
     let a = c.args in
     last_is _ a.form a.n a.m a.bytes.now _ c.judge_run-x.ensures c.if-x-ne0.false _ c.judge_run-y.ensures
-    c.if-y-ne0.false c.if-y-bytes.false 14
+    c.if-y-ne0.false (omega arith) 14
     (sym (ap (λ (t : Bool). applies t 14) (shared_is _ a.form a.n a.m a.bytes.now _ c.judge_run-x.ensures c.if-x-ne0.false _
     c.judge_run-y.ensures
     c.if-y-ne0.false c.requires.0 c.if-form-eq1.false true (sym
@@ -51,7 +51,7 @@ pub returns : goal.returns
 returns c =
     let a = c.args in
     last_is _ a.form a.n a.m a.bytes.now _ c.judge_run-x.ensures c.if-x-ne0.false _ c.judge_run-y.ensures
-    c.if-y-ne0.false c.if-y-bytes.false 0
+    c.if-y-ne0.false (omega arith) 0
     (sym (ap (λ (t : Bool). applies t 14) (shared_is _ a.form a.n a.m a.bytes.now _ c.judge_run-x.ensures c.if-x-ne0.false _
     c.judge_run-y.ensures
     c.if-y-ne0.false c.requires.0 c.if-form-eq1.false false (sym
