@@ -1,8 +1,6 @@
 -- Signed keys, from -2^63 to 2^63 - 1, by the words that stand for them in a block: a shift of the number line that keeps the order.
-use Rattle.std.specs.Prelude.{cond, ℕ, suc, ◌+◌, ◌-◌, ◌^◌, ◌<◌, ltb, ℤ, pos, negsuc, ◌-ℤ◌}
+use Rattle.std.specs.Prelude.{cond, ℕ, suc, ◌+◌, ◌-◌, ◌^◌, ◌<◌, ltb, ℤ, pos, negsuc, ◌-ℤ◌, Option, Some, None}
 use Rattle.std.specs.Int.Signed.{mag}
-use Rattle.keys.specs.declared.Apart.{Apart}
-use Rattle.keys.specs.declared.Apart.TheVariants.{By, TooFar}
 
 -- 2^63: how far a key is shifted
 abbrev pub half : ℕ
@@ -22,8 +20,8 @@ abbrev pub key_of : ℕ → ℤ
 key_of x = cond (ltb x half) (negsuc (half - suc x)) (pos (x - half))
 
 -- [K5] «the difference of two keys, first less second, exact where it fits a signed word and answered "too far" exactly where it doesn't»
-abbrev pub apart_of : ℤ → ℤ → Apart
-apart_of a b = cond (ltb (mag (a -ℤ b)) half) (By (a -ℤ b)) TooFar
+abbrev pub apart_of : ℤ → ℤ → Option ℤ
+apart_of a b = cond (ltb (mag (a -ℤ b)) half) (Some (a -ℤ b)) None
 
 -- [K6] a key in two's complement, which is a number of 64 bits too: below 0, the key plus 2^64
 abbrev pub twos_of : ℤ → ℕ

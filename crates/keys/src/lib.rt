@@ -4,17 +4,8 @@
 ghost use Rattle.std.specs.Prelude.{◌≡◌};
 ghost use Rattle.keys.specs.Keys.{word_of, key_of, apart_of, turned};
 
-// How far apart two keys are: the first less the second, or that it is no key.
-#[derive(Clone, Copy)]
-pub enum Apart {
-    By(i64),
-    TooFar,
-}
-
-// The least key and the greatest.
-const LEAST: i64 = -9223372036854775808;
-
-const MOST: i64 = 9223372036854775807;
+// The least key.
+const LEAST: i64 = i64::MIN;
 
 // 2^63: how far a key is shifted.
 const HALF: u64 = 9223372036854775808;
@@ -39,21 +30,11 @@ pub fn key_of(word: u64) -> i64
     (word - HALF) as i64
 }
 
-// The first key less the second, or too far exactly where that is no key. Each test is made where it cannot overflow, before the subtraction.
-#[tactic(auto, using(crate::proofs::Machine::top_fits, crate::proofs::Machine::over_top, crate::proofs::Machine::under_top, crate::proofs::Machine::bottom_fits, crate::proofs::Machine::under_bottom, crate::proofs::Machine::over_bottom, crate::proofs::Machine::less_fits, crate::proofs::Machine::less_is))]
-pub fn difference(a: i64, b: i64) -> Apart
+// The first key less the second, or none exactly where that is no key.
+pub fn difference(a: i64, b: i64) -> Option<i64>
     ensures { result ≡ apart_of a b }
 {
-    if b < 0 {
-        if MOST + b < a {
-            return Apart::TooFar;
-        }
-        return Apart::By(a - b);
-    }
-    if a < LEAST + b {
-        return Apart::TooFar;
-    }
-    Apart::By(a - b)
+    a.checked_sub(b)
 }
 
 // The word of the key whose two's complement this is, and the two's complement of the key whose word this is: either way, the lower half
