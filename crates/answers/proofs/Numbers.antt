@@ -1,22 +1,21 @@
 -- Reasons and the table's numbers, either way.
-use mathlib.Core.Path.{◌≡◌, refl, sym, ◌∙◌, ap, subst}
-use mathlib.Core.Bool.{Bool, true}
+use mathlib.Core.Path.{◌≡◌, refl, sym, ◌∙◌, ap}
+use mathlib.Core.Bool.{Bool, true, false}
 use mathlib.Core.List.{List, []}
 use Prim.Native.Nat.{ℕ, zero, suc, ◌≤◌, ◌<◌}
 use native.Mathlib.Omega.{arith}
 use native.Mathlib.Decide.{dec_lt}
 use lib.Dec.{eqb}
+use Rattle.std.proofs.lemmas.Bool.{ne_eqb}
+use Rattle.std.specs.Prelude.{Err}
 use borrow.Author.Tests.{eqb-true}
 use Rattle.entries.specs.Build.{andb}
 use Rattle.entries.proofs.Values.{and_true}
 use Rattle.answers.specs.declared.Reason.{Reason}
 use Rattle.answers.specs.declared.Reason.TheVariants.{NoBlock, Count, Order, Backwards, Room, ZeroRun, NoGap, Short, Mark, Kind, Check}
 use Rattle.answers.specs.declared.Reason.TheVariants.{Content, Trailing, Overlap, NoSpace, Align}
-use Rattle.answers.specs.declared.Refusal.{Refusal}
-use Rattle.answers.specs.declared.Judged.{Judged}
-use Rattle.answers.specs.declared.Judged.TheVariants as judged
-use Rattle.answers.specs.Answers.{Answer, given, refused, Outcome, outcome, judged as judged_by, number_says, last_number}
-use Rattle.answers.specs.Says.{number_of, refusal_says, judged_says, reason_of, refusal_of, judged_of}
+use Rattle.answers.specs.Answers.{Answer, given, refused, Outcome, outcome, judged as judged_by, last_number}
+use Rattle.answers.specs.Says.{number_of, at_place, refusal_says, judged_says, reason_of, refusal_of, judged_of}
 
 -- a test that holds of each number below n, found by computing it
 abbrev below : (ℕ → Bool) → ℕ → Bool
@@ -55,62 +54,81 @@ number_reason Overlap = refl
 number_reason NoSpace = refl
 number_reason Align = refl
 
+-- a number that no reason has, as 0 or one past the table, is read as the table's last
+other_number : (n : ℕ) → ((r : Reason) → number_of r ≡ n → ⊥) → reason_of n ≡ Align
+other_number n h = go n h (dec_lt n 17)
+  where
+    past : (m : ℕ) → 16 < m → reason_of m ≡ Align
+    past m l =
+        let e : (k : ℕ) → k ≤ 16 → eqb m k ≡ false = λ k q. ne_eqb m k (λ z. omega arith) in
+        rw (
+          e 1 (omega arith),
+          e 2 (omega arith),
+          e 3 (omega arith),
+          e 4 (omega arith),
+          e 5 (omega arith),
+          e 6 (omega arith),
+          e 7 (omega arith),
+          e 8 (omega arith),
+          e 9 (omega arith),
+          e 10 (omega arith),
+          e 11 (omega arith),
+          e 12 (omega arith),
+          e 13 (omega arith),
+          e 14 (omega arith),
+          e 15 (omega arith),
+        ) refl
+
+    go : (n : ℕ) → ((r : Reason) → number_of r ≡ n → ⊥) → Dec (n < 17) → reason_of n ≡ Align
+    go zero h d = refl
+    go (suc k) h (yes l) = absurd (h (reason_of (suc k)) (reason_number (suc k) (omega arith) (omega arith)))
+    go (suc k) h (no l) = past (suc k) (omega arith)
+
+-- the refusal of a number that code read as a reason, or that no reason has
+pub read_number : (r : Reason) (n p : ℕ) → number_of r ≡ n → at_place r p ≡ refusal_of n p
+read_number r n p e = ap (λ (x : Reason). at_place x p) (sym (number_reason r) ∙ ap reason_of e)
+
+pub unread_number : (n p : ℕ) → ((r : Reason) → number_of r ≡ n → ⊥) → at_place Align p ≡ refusal_of n p
+unread_number n p h = ap (λ (x : Reason). at_place x p) (sym (other_number n h))
+
 -- the refusal of a number says that number
 pub refusal_says_lem : (k place : ℕ) → 1 ≤ k → k ≤ last_number → refusal_says (refusal_of k place) ≡ refused k place
 refusal_says_lem k place h l = ap (λ (n : ℕ). refused n place) (reason_number k h l)
 
-pub judged_says_lem : (k place : ℕ) → k ≤ last_number → judged_says (judged_of k place) ≡ number_says k place
-judged_says_lem zero place l = refl
-judged_says_lem (suc k) place l = refusal_says_lem (suc k) place (omega arith) l
+-- a number's answer is the outcome that a verdict gives
+pub judged_says_lem : (k place : ℕ) (lent : List (List ℕ)) → k ≤ last_number
+    → outcome (judged_says (judged_of k place)) lent ≡ judged_by k place lent (outcome (given []) lent)
+judged_says_lem zero place lent l = refl
+judged_says_lem (suc k) place lent l = ap (λ (a : Answer). outcome a lent) (refusal_says_lem (suc k) place (omega arith) l)
 
-pub judged_refused : (k place : ℕ) → (k ≡ 0 → ⊥) → judged.Refused (refusal_of k place) ≡ judged_of k place
+pub judged_refused : (k place : ℕ) → (k ≡ 0 → ⊥) → Err (refusal_of k place) ≡ judged_of k place
 judged_refused zero place n = absurd (n refl)
 judged_refused (suc k) place n = refl
-
--- By a verdict: refused with it, or the outcome. A caller names the lent contents, the place and the outcome that would follow.
-pub refused_as : (lent : List (List ℕ)) (place : ℕ) (x : Outcome) (v k : ℕ) (f : Refusal) → v ≡ k → k ≤ last_number → (v ≡ 0 → ⊥) → f ≡ refusal_of v place
-    → outcome (refusal_says f) lent ≡ judged_by k place lent x
-refused_as lent place x v k f e l n r = go k e l
-  where
-    go : (k : ℕ) → v ≡ k → k ≤ last_number → outcome (refusal_says f) lent ≡ judged_by k place lent x
-    go zero e l = absurd (n e)
-    go (suc m) e l =
-        ap (λ (g : Refusal). outcome (refusal_says g) lent) (r ∙ ap (λ (j : ℕ). refusal_of j place) e)
-        ∙ ap (λ (a : Answer). outcome a lent) (refusal_says_lem (suc m) place (omega arith) l)
-
-pub given_as : (lent : List (List ℕ)) (place : ℕ) (x y : Outcome) (v k : ℕ) → v ≡ k → v ≡ 0 → y ≡ x → y ≡ judged_by k place lent x
-given_as lent place x y v k e z q = go k (sym e ∙ z)
-  where
-    go : (k : ℕ) → k ≡ 0 → y ≡ judged_by k place lent x
-    go zero z = q
-    go (suc m) z = absurd (omega arith)
-
--- a number's answer is the outcome that a verdict gives
-pub judged_as : (lent : List (List ℕ)) (place v k : ℕ) (r : Judged) → v ≡ k → k ≤ last_number → r ≡ judged_of v place
-    → outcome (judged_says r) lent ≡ judged_by k place lent (outcome (given []) lent)
-judged_as lent place v k r e l q =
-    ap (λ (x : Judged). outcome (judged_says x) lent) (q ∙ ap (λ (j : ℕ). judged_of j place) e)
-    ∙ ap (λ (a : Answer). outcome a lent) (judged_says_lem k place l) ∙ go k
-  where
-    go : (k : ℕ) → outcome (number_says k place) lent ≡ judged_by k place lent (outcome (given []) lent)
-    go zero = refl
-    go (suc m) = refl
-
--- a number's answer in place of the number
-pub numbered_as : (place : ℕ) {lent : List (List ℕ)} {k : ℕ} {r : Judged} {o : Outcome} → r ≡ judged_of k place → k ≤ last_number
-    → outcome (number_says k place) lent ≡ o → outcome (judged_says r) lent ≡ o
-numbered_as place {lent} {k} {r} {o} q l e =
-    ap (λ (x : Judged). outcome (judged_says x) lent) q ∙ ap (λ (a : Answer). outcome a lent) (judged_says_lem k place l) ∙ e
 
 -- an outcome whose refusal, if it is one, has a number of the table
 abbrev pub Small : Outcome → Type 0
 Small (outcome (given xs) lent) = Unit {0}
 Small (outcome (refused n p) lent) = n ≤ last_number
 
-pub small_number : (k place : ℕ) (lent : List (List ℕ)) (o : Outcome) → outcome (number_says k place) lent ≡ o → Small o → k ≤ last_number
-small_number zero place lent o e s = omega arith
-small_number (suc k) place lent o e s = subst Small (sym e) s
-
 pub judged_small : (v place : ℕ) (lent : List (List ℕ)) (o : Outcome) → v ≤ last_number → Small o → Small (judged_by v place lent o)
 judged_small zero place lent o l s = s
 judged_small (suc v) place lent o l s = l
+
+-- every reason has a number of the table, of which none is 0
+pub reason_small : (r : Reason) → (1 ≤ number_of r) × (number_of r ≤ last_number)
+reason_small NoBlock = (omega arith, omega arith)
+reason_small Count = (omega arith, omega arith)
+reason_small Order = (omega arith, omega arith)
+reason_small Backwards = (omega arith, omega arith)
+reason_small Room = (omega arith, omega arith)
+reason_small ZeroRun = (omega arith, omega arith)
+reason_small NoGap = (omega arith, omega arith)
+reason_small Short = (omega arith, omega arith)
+reason_small Mark = (omega arith, omega arith)
+reason_small Kind = (omega arith, omega arith)
+reason_small Check = (omega arith, omega arith)
+reason_small Content = (omega arith, omega arith)
+reason_small Trailing = (omega arith, omega arith)
+reason_small Overlap = (omega arith, omega arith)
+reason_small NoSpace = (omega arith, omega arith)
+reason_small Align = (omega arith, omega arith)

@@ -1,41 +1,56 @@
 -- Refusals in turn: the first that applies, put together from the tests of the code; and what an outcome that was accepted, or
 -- refused, says of all of them.
-use mathlib.Core.Path.{◌≡◌, refl, sym, ◌∙◌, ap, ap₂}
+use mathlib.Core.Path.{◌≡◌, refl, sym, ◌∙◌, ap}
 use mathlib.Core.Bool.{Bool, true, false}
 use mathlib.Core.List.{List, [], ◌∷◌, ◌++◌}
 use Prim.Native.Nat.{ℕ, zero, suc, ◌≤◌, ◌<◌}
 use native.Mathlib.Omega.{arith}
-use Rattle.answers.specs.declared.Judged.{Judged}
+use Rattle.std.specs.Prelude.{Result, Ok, Err, IfOk}
+use Rattle.answers.specs.declared.Reason.{Reason}
 use Rattle.answers.specs.declared.Refusal.{Refusal}
-use Rattle.answers.specs.Answers.{Answer, given, refused, Outcome, outcome, judged, number_says, at, in_turn, last_number, applies, handed, Keeps, Clear}
-use Rattle.answers.specs.Says.{refusal_says, refusal_of, judged_says, judged_of}
-use Rattle.answers.proofs.Numbers.{judged_says_lem, refused_as, judged_as, Small, judged_small}
-use Rattle.answers.specs.declared.Finding.{Finding}
-use Rattle.answers.specs.Steps.{FirstOf, number_at, place_at, Applies, Named}
+use Rattle.answers.specs.Answers.{Answer, given, refused, Outcome, outcome, judged, at, in_turn, last_number, applies, handed, Keeps, Clear, Finding}
+use Rattle.answers.specs.Says.{number_of, reason_of, at_place, refusal_says, judged_says, judged_of}
+use Rattle.answers.proofs.Numbers.{reason_number, reason_small, Small, judged_small}
+use Rattle.answers.specs.Steps.{FirstOf, by, number_at, place_at, Applies, Named}
 
-judged_again : (v p : ℕ) (lent : List (List ℕ)) (x y : Outcome) → (v ≡ 0 → ⊥) → judged v p lent x ≡ judged v p lent y
-judged_again zero p lent x y n = absurd (n refl)
-judged_again (suc v) p lent x y n = refl
+-- a verdict that refuses is followed by nothing
+judged_at : (v p : ℕ) (lent : List (List ℕ)) (x : Outcome) → 1 ≤ v → judged v p lent x ≡ outcome (refused v p) lent
+judged_at zero p lent x h = absurd (omega arith)
+judged_at (suc v) p lent x h = refl
 
 -- a test that refuses
-pub stops : (v k p : ℕ) (fs : List Finding) → v ≡ k → k ≤ last_number → (v ≡ 0 → ⊥) → FirstOf (at p k ∷ fs) (at p v)
-stops v k p fs e l n = record {
-  turn = λ lent x. judged_again v p lent x (in_turn fs lent x) n ∙ ap (λ (m : ℕ). judged m p lent (in_turn fs lent x)) e;
-  clear = λ z. absurd (n z);
-  small = omega arith;
+pub stops : (r : Reason) (f : Refusal) (k p : ℕ) (fs : List Finding) → f ≡ at_place r p → number_of r ≡ k → FirstOf (at p k ∷ fs) (Err f)
+stops r f k p fs q e = record {
+  turn =
+      λ lent x. ap (λ (g : Refusal). outcome (refusal_says g) lent) q
+      ∙ sym (judged_at (number_of r) p lent (in_turn fs lent x) ((reason_small r).0))
+      ∙ ap (λ (m : ℕ). judged m p lent (in_turn fs lent x)) e;
+  clear = tt;
 }
 
 -- a test that does not
-pub passes : (k p : ℕ) (fs : List Finding) (r : Finding) → k ≡ 0 → FirstOf fs r → FirstOf (at p k ∷ fs) r
+pub passes : (k p : ℕ) (fs : List Finding) (r : Result (Unit {0}) Refusal) → k ≡ 0 → FirstOf fs r → FirstOf (at p k ∷ fs) r
 passes k p fs r z f = record {
   turn = λ lent x. f.turn lent x ∙ sym (ap (λ (m : ℕ). judged m p lent (in_turn fs lent x)) z);
-  clear = λ y. (z, f.clear y);
-  small = f.small;
+  clear = pass_clear r f.clear;
 }
+  where
+    pass_clear : (r : Result (Unit {0}) Refusal) → IfOk r (λ u. Clear fs) → IfOk r (λ u. (k ≡ 0) × Clear fs)
+    pass_clear (Ok u) c = (z, c)
+    pass_clear (Err e) c = tt
 
--- the last test
-pub ends : (v k p : ℕ) → v ≡ k → k ≤ last_number → FirstOf (at p k ∷ []) (at p v)
-ends v k p e l = record { turn = λ lent x. ap (λ (m : ℕ). judged m p lent x) e; clear = λ z. (sym e ∙ z, tt); small = omega arith }
+-- no test is left
+pub none_left : FirstOf [] (Ok tt)
+none_left = record { turn = λ lent x. refl; clear = tt }
+
+-- the last test, which does not refuse
+pub ends : (k p : ℕ) → k ≡ 0 → FirstOf (at p k ∷ []) (Ok tt)
+ends k p z = passes k p [] (Ok tt) z none_left
+
+-- a test by a verdict, whatever it is
+pub tested : (k p : ℕ) → k ≤ last_number → FirstOf (at p k ∷ []) (judged_of k p)
+tested zero p l = ends 0 p refl
+tested (suc k) p l = stops (reason_of (suc k)) (at_place (reason_of (suc k)) p) (suc k) p [] refl (reason_number (suc k) (omega arith) l)
 
 in_turn_lem : (fs gs : List Finding) (lent : List (List ℕ)) (x : Outcome) → in_turn (fs ++ gs) lent x ≡ in_turn fs lent (in_turn gs lent x)
 in_turn_lem [] gs lent x = refl
@@ -51,66 +66,58 @@ clear_split [] gs c = (tt, c)
 clear_split (f ∷ fs) gs c = let k = clear_split fs gs c.1 in ((c.0, k.0), k.1)
 
 -- several tests at once, of which one refuses
-pub stops_in : (fs gs : List Finding) (r : Finding) → FirstOf fs r → (r.number ≡ 0 → ⊥) → FirstOf (fs ++ gs) r
-stops_in fs gs r f n = record {
-  turn = λ lent x. judged_again r.number r.place lent x (in_turn gs lent x) n ∙ f.turn lent (in_turn gs lent x) ∙ sym (in_turn_lem fs gs lent x);
-  clear = λ z. absurd (n z);
-  small = f.small;
-}
+pub stops_in : (fs gs : List Finding) (e : Refusal) → FirstOf fs (Err e) → FirstOf (fs ++ gs) (Err e)
+stops_in fs gs e f = record { turn = λ lent x. f.turn lent (in_turn gs lent x) ∙ sym (in_turn_lem fs gs lent x); clear = tt }
 
 -- or none does
-pub passes_in : (fs gs : List Finding) (r q : Finding) → FirstOf fs r → r.number ≡ 0 → FirstOf gs q → FirstOf (fs ++ gs) q
-passes_in fs gs r q f z g = record {
-  turn =
-      λ lent x. g.turn lent x ∙ sym (ap (λ (m : ℕ). judged m r.place lent (in_turn gs lent x)) z) ∙ f.turn lent (in_turn gs lent x)
-      ∙ sym (in_turn_lem fs gs lent x);
-  clear = λ y. clear_both fs gs (f.clear z) (g.clear y);
-  small = g.small;
+pub passes_in : (fs gs : List Finding) (u : Unit {0}) (q : Result (Unit {0}) Refusal) → FirstOf fs (Ok u) → FirstOf gs q → FirstOf (fs ++ gs) q
+passes_in fs gs u q f g = record {
+  turn = λ lent x. g.turn lent x ∙ f.turn lent (in_turn gs lent x) ∙ sym (in_turn_lem fs gs lent x);
+  clear = both q g.clear;
 }
+  where
+    both : (q : Result (Unit {0}) Refusal) → IfOk q (λ v. Clear gs) → IfOk q (λ v. Clear (fs ++ gs))
+    both (Ok v) c = clear_both fs gs f.clear c
+    both (Err e) c = tt
 
--- the answer of a call by the first refusal: refused with it, or else the outcome that follows
-module _ (fs : List Finding) (r : Finding) (f : FirstOf fs r) (lent : List (List ℕ)) (next : Outcome) where
-  pub refused_by : (x : Judged) → (r.number ≡ 0 → ⊥) → x ≡ judged_of r.number r.place → outcome (judged_says x) lent ≡ in_turn fs lent next
-  refused_by x n e =
-      ap (λ (y : Judged). outcome (judged_says y) lent) e
-      ∙ ap (λ (a : Answer). outcome a lent) (judged_says_lem r.number r.place f.small)
-      ∙ go r.number n
-      ∙ f.turn lent next
-    where
-      go : (v : ℕ) → (v ≡ 0 → ⊥) → outcome (number_says v r.place) lent ≡ judged v r.place lent next
-      go zero n = absurd (n refl)
-      go (suc v) n = refl
+-- one test that refuses, before others; or does not
+pub stop_first : (f : Finding) (fs : List Finding) (e : Refusal) → FirstOf (f ∷ []) (Err e) → FirstOf (f ∷ fs) (Err e)
+stop_first f fs e h = stops_in (f ∷ []) fs e h
 
-  pub given_by : (y : Outcome) → r.number ≡ 0 → y ≡ next → y ≡ in_turn fs lent next
-  given_by y z q = q ∙ sym (ap (λ (m : ℕ). judged m r.place lent next) z) ∙ f.turn lent next
+pub pass_first : (f : Finding) (fs : List Finding) (u : Unit {0}) (q : Result (Unit {0}) Refusal)
+    → FirstOf (f ∷ []) (Ok u) → FirstOf fs q → FirstOf (f ∷ fs) q
+pass_first f fs u q h g = passes_in (f ∷ []) fs u q h g
 
--- the same of an answer that names the refusal itself
-pub refusal_by : (fs : List Finding) (r : Finding) → FirstOf fs r → (lent : List (List ℕ)) (next : Outcome) (x : Refusal) → (r.number ≡ 0 → ⊥)
-    → x ≡ refusal_of r.number r.place → outcome (refusal_says x) lent ≡ in_turn fs lent next
-refusal_by fs r f lent next x n e = refused_as lent r.place next r.number r.number x refl f.small n e ∙ f.turn lent next
+-- the answer of a call by the first refusal: refused with it,
+pub refused_by : {fs : List Finding} {e : Refusal} → FirstOf fs (Err e) → (lent : List (List ℕ)) (next : Outcome)
+    → outcome (refusal_says e) lent ≡ in_turn fs lent next
+refused_by f lent next = f.turn lent next
+
+-- or the outcome that follows
+pub given_by : {fs : List Finding} {u : Unit {0}} → FirstOf fs (Ok u) → (lent : List (List ℕ)) (y next : Outcome) → y ≡ next → y ≡ in_turn fs lent next
+given_by f lent y next q = q ∙ f.turn lent next
+
+-- a refusal that code named, by its number and its place
+pub named : (r : Reason) (p : ℕ) {f : Refusal} → f ≡ at_place r p → (lent : List (List ℕ))
+    → outcome (refusal_says f) lent ≡ outcome (refused (number_of r) p) lent
+named r p e lent = ap (λ (g : Refusal). outcome (refusal_says g) lent) e
 
 -- a question that asks only for the refusal
-pub answered_by : (fs : List Finding) (r : Finding) → FirstOf fs r → (lent : List (List ℕ)) (x : Judged) → x ≡ judged_of r.number r.place
-    → outcome (judged_says x) lent ≡ in_turn fs lent (outcome (given []) lent)
-answered_by fs r f lent x e = judged_as lent r.place r.number r.number x refl f.small e ∙ f.turn lent (outcome (given []) lent)
+pub answered_by : {fs : List Finding} {r : Result (Unit {0}) Refusal} → FirstOf fs r → (lent : List (List ℕ))
+    → outcome (judged_says r) lent ≡ in_turn fs lent (outcome (given []) lent)
+answered_by {fs} {r} f lent = go r ∙ f.turn lent (outcome (given []) lent)
+  where
+    go : (r : Result (Unit {0}) Refusal) → outcome (judged_says r) lent ≡ by r lent (outcome (given []) lent)
+    go (Ok u) = refl
+    go (Err e) = refl
 
 -- what a call hands back by the first refusal
-module _ {A : Type 0} (fs : List Finding) (r : Finding) (f : FirstOf fs r) (lent : List (List ℕ)) (xs : List ℕ) (after : List (List ℕ)) (part empty : A) where
-  pub refused_part : (r.number ≡ 0 → ⊥) → empty ≡ handed (in_turn fs lent (outcome (given xs) after)) part empty
-  refused_part n = go r.number n ∙ ap (λ (o : Outcome). handed o part empty) (f.turn lent (outcome (given xs) after))
-    where
-      go : (v : ℕ) → (v ≡ 0 → ⊥) → empty ≡ handed (judged v r.place lent (outcome (given xs) after)) part empty
-      go zero n = absurd (n refl)
-      go (suc v) n = refl
+module _ {A : Type 0} {fs : List Finding} (lent : List (List ℕ)) (xs : List ℕ) (after : List (List ℕ)) (part empty : A) where
+  pub refused_part : {e : Refusal} → FirstOf fs (Err e) → empty ≡ handed (in_turn fs lent (outcome (given xs) after)) part empty
+  refused_part f = ap (λ (o : Outcome). handed o part empty) (f.turn lent (outcome (given xs) after))
 
-  pub given_part : r.number ≡ 0 → part ≡ handed (in_turn fs lent (outcome (given xs) after)) part empty
-  given_part z =
-      sym (ap (λ (m : ℕ). handed (judged m r.place lent (outcome (given xs) after)) part empty) z)
-      ∙ ap (λ (o : Outcome). handed o part empty) (f.turn lent (outcome (given xs) after))
-
-pub accepted_as : (place : ℕ) (x : Judged) (after due : List (List ℕ)) → x ≡ judged_of 0 place → after ≡ due
-    → outcome (judged_says x) after ≡ outcome (given []) due
-accepted_as place x after due e q = ap₂ (λ (y : Judged) (l : List (List ℕ)). outcome (judged_says y) l) e q
+  pub given_part : {u : Unit {0}} → FirstOf fs (Ok u) → part ≡ handed (in_turn fs lent (outcome (given xs) after)) part empty
+  given_part f = ap (λ (o : Outcome). handed o part empty) (f.turn lent (outcome (given xs) after))
 
 -- [R0, D1] refused: nothing lent is changed, by one verdict,
 pub judged_keeps : (v p : ℕ) (lent : List (List ℕ)) (o : Outcome) → Keeps lent o → Keeps lent (judged v p lent o)
@@ -170,8 +177,8 @@ clear_at [] c i = refl
 clear_at (f ∷ fs) c zero = c.0
 clear_at (f ∷ fs) c (suc i) = clear_at fs c.1 i
 
-pub clear_by : {fs : List Finding} {r : Finding} → FirstOf fs r → r.number ≡ 0 → (i : ℕ) → number_at fs i ≡ 0
-clear_by {fs} f z = clear_at fs (f.clear z)
+pub clear_by : {fs : List Finding} {u : Unit {0}} → FirstOf fs (Ok u) → (i : ℕ) → number_at fs i ≡ 0
+clear_by {fs} f = clear_at fs f.clear
 
 -- a test that gives a number: it is clear exactly where it does not hold
 pub applies_clear : (t : Bool) (n : ℕ) → applies t (suc n) ≡ 0 → t ≡ false

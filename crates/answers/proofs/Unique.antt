@@ -1,37 +1,20 @@
 -- No second outcome: an outcome has one answer of each kind that says it, and one content of everything lent.
 -- Every contract has the form `outcome (says r) lent ≡ due`, where `due` is made from the inputs alone; so this is one law.
 use mathlib.Core.Path.{◌≡◌, refl, sym, ◌∙◌, ap}
+use mathlib.Core.Bool.{Bool, true, false}
 use mathlib.Core.List.{List, [], ◌∷◌}
 use Prim.Native.Nat.{ℕ, zero, suc}
+use Rattle.std.specs.Prelude.{Option, Some, None, Result, Ok, Err}
 use Rattle.answers.specs.declared.Reason.{Reason}
 use Rattle.answers.specs.declared.Refusal.{Refusal}
-use Rattle.answers.specs.declared.Judged.{Judged}
-use Rattle.answers.specs.declared.Judged.TheVariants as judged
-use Rattle.answers.specs.declared.Truth.{Truth}
-use Rattle.answers.specs.declared.Truth.TheVariants as truth
 use Rattle.answers.specs.declared.Seated.{Seated}
-use Rattle.answers.specs.declared.Seated.TheVariants as seated
-use Rattle.answers.specs.declared.Found.{Found}
-use Rattle.answers.specs.declared.Found.TheVariants as found
-use Rattle.answers.specs.declared.Ranged.{Ranged}
-use Rattle.answers.specs.declared.Ranged.TheVariants as ranged
-use Rattle.answers.specs.declared.Valued.{Valued}
-use Rattle.answers.specs.declared.Valued.TheVariants as valued
-use Rattle.answers.specs.declared.Sized.{Sized}
-use Rattle.answers.specs.declared.Sized.TheVariants as sized
-use Rattle.answers.specs.declared.Parted.{Parted}
-use Rattle.answers.specs.declared.Parted.TheVariants as parted
-use Rattle.answers.specs.declared.Decided.{Decided}
-use Rattle.answers.specs.declared.Decided.TheVariants as decided
-use Rattle.answers.specs.declared.Placed.{Placed}
-use Rattle.answers.specs.declared.Placed.TheVariants as placed
-use Rattle.answers.specs.declared.Written.{Written}
-use Rattle.answers.specs.declared.Written.TheVariants as written
+use Rattle.answers.specs.declared.Seated.TheVariants.{Yes, No}
+use Rattle.answers.specs.declared.Part.{Part}
+use Rattle.answers.specs.declared.Deciding.{Deciding}
 use Rattle.answers.specs.Answers.{Answer, given, refused, Outcome, outcome}
-use Rattle.answers.specs.Says.{number_of, refusal_of, judged_says, truth_says, found_says, ranged_says, sized_says, parted_says, decided_says}
+use Rattle.answers.specs.Says.{number_of, refusal_of, says, if_any, no_values, truth_value, seat_values, one_value, two_values, part_values, deciding_values}
+use Rattle.answers.specs.Says.{judged_says, truth_says, seated_says, found_says, ranged_says, valued_says, sized_says, parted_says, decided_says}
 use Rattle.answers.specs.Says.{placed_says, written_says}
-use Rattle.answers.specs.Says.{seated_says}
-use Rattle.answers.specs.Says.{valued_says}
 use Rattle.answers.proofs.Numbers.{number_reason}
 
 abbrev answer_of : Outcome → Answer
@@ -55,151 +38,121 @@ only says back undo due r s k l p q = only_two says back due r s k l (undo r) (u
 pub refusal_back : (f : Refusal) → refusal_of (number_of f.reason) f.place ≡ f
 refusal_back f = ap (λ (x : Reason). record { reason = x; place = f.place }) (number_reason f.reason)
 
-abbrev judged_back : Answer → Judged
-judged_back (given xs) = judged.Accepted
-judged_back (refused n p) = judged.Refused (refusal_of n p)
+-- an answer is told back from what it says where what it gives is
+abbrev pub says_back : {A : Type 0} → (List ℕ → A) → Answer → Result A Refusal
+says_back back (given xs) = Ok (back xs)
+says_back back (refused n p) = Err (refusal_of n p)
 
-judged_undo : (r : Judged) → judged_back (judged_says r) ≡ r
-judged_undo judged.Accepted = refl
-judged_undo (judged.Refused f) = ap judged.Refused (refusal_back f)
+pub says_undo : {A : Type 0} (values : A → List ℕ) (back : List ℕ → A) → (r : Result A Refusal) → ((a : A) → r ≡ Ok a → back (values a) ≡ a)
+    → says_back back (says values r) ≡ r
+says_undo values back (Ok a) undo = ap Ok (undo a refl)
+says_undo values back (Err f) undo = ap Err (refusal_back f)
 
-pub judged_only : (due : Outcome) (r s : Judged) (k l : List (List ℕ)) → outcome (judged_says r) k ≡ due → outcome (judged_says s) l ≡ due → (r ≡ s) × (k ≡ l)
-judged_only = only judged_says judged_back judged_undo
+-- [D8] one law of all kinds: two answers with the same outcome are the same, and leave the same
+pub says_only : {A : Type 0} (values : A → List ℕ) (back : List ℕ → A) → ((a : A) → back (values a) ≡ a)
+    → (due : Outcome) (r s : Result A Refusal) (k l : List (List ℕ))
+    → outcome (says values r) k ≡ due → outcome (says values s) l ≡ due → (r ≡ s) × (k ≡ l)
+says_only values back undo = only (says values) (says_back back) (λ r. says_undo values back r (λ a e. undo a))
 
-abbrev truth_back : Answer → Truth
-truth_back (given []) = truth.No
-truth_back (given (zero ∷ xs)) = truth.No
-truth_back (given (suc n ∷ xs)) = truth.Yes
-truth_back (refused n p) = truth.Refused (refusal_of n p)
+-- the number at the front; 0 where there is none
+abbrev pub front : List ℕ → ℕ
+front [] = 0
+front (n ∷ xs) = n
 
-truth_undo : (r : Truth) → truth_back (truth_says r) ≡ r
-truth_undo truth.Yes = refl
-truth_undo truth.No = refl
-truth_undo (truth.Refused f) = ap truth.Refused (refusal_back f)
+abbrev pub rest : List ℕ → List ℕ
+rest [] = []
+rest (n ∷ xs) = xs
 
-pub truth_only : (due : Outcome) (r s : Truth) (k l : List (List ℕ)) → outcome (truth_says r) k ≡ due → outcome (truth_says s) l ≡ due → (r ≡ s) × (k ≡ l)
-truth_only = only truth_says truth_back truth_undo
+-- what was found, told back from its values, of which there is at least one
+abbrev pub any_back : {A : Type 0} → (List ℕ → A) → List ℕ → Option A
+any_back back [] = None
+any_back back (n ∷ xs) = Some (back (n ∷ xs))
 
-abbrev seated_back : Answer → Seated
-seated_back (given []) = seated.No 0
-seated_back (given (t ∷ [])) = seated.No 0
-seated_back (given (zero ∷ below ∷ xs)) = seated.No below
-seated_back (given (suc t ∷ below ∷ xs)) = seated.Yes below
-seated_back (refused n p) = seated.Refused (refusal_of n p)
+pub judged_only : (due : Outcome) (r s : Result (Unit {0}) Refusal) (k l : List (List ℕ))
+    → outcome (judged_says r) k ≡ due → outcome (judged_says s) l ≡ due → (r ≡ s) × (k ≡ l)
+judged_only = says_only no_values (λ xs. tt) (λ u. refl)
 
-seated_undo : (r : Seated) → seated_back (seated_says r) ≡ r
-seated_undo (seated.Yes below) = refl
-seated_undo (seated.No below) = refl
-seated_undo (seated.Refused f) = ap seated.Refused (refusal_back f)
+abbrev truth_back : List ℕ → Bool
+truth_back [] = false
+truth_back (zero ∷ xs) = false
+truth_back (suc n ∷ xs) = true
 
-pub seated_only : (due : Outcome) (r s : Seated) (k l : List (List ℕ)) → outcome (seated_says r) k ≡ due → outcome (seated_says s) l ≡ due → (r ≡ s) × (k ≡ l)
-seated_only = only seated_says seated_back seated_undo
+truth_undo : (b : Bool) → truth_back (truth_value b) ≡ b
+truth_undo true = refl
+truth_undo false = refl
 
-abbrev found_back : Answer → Found
-found_back (given []) = found.Nothing
-found_back (given (n ∷ xs)) = found.Number n
-found_back (refused n p) = found.Refused (refusal_of n p)
+pub truth_only : (due : Outcome) (r s : Result Bool Refusal) (k l : List (List ℕ))
+    → outcome (truth_says r) k ≡ due → outcome (truth_says s) l ≡ due → (r ≡ s) × (k ≡ l)
+truth_only = says_only truth_value truth_back truth_undo
 
-found_undo : (r : Found) → found_back (found_says r) ≡ r
-found_undo (found.Number n) = refl
-found_undo found.Nothing = refl
-found_undo (found.Refused f) = ap found.Refused (refusal_back f)
+abbrev seated_back : List ℕ → Seated
+seated_back [] = No 0
+seated_back (zero ∷ xs) = No (front xs)
+seated_back (suc n ∷ xs) = Yes (front xs)
 
-pub found_only : (due : Outcome) (r s : Found) (k l : List (List ℕ)) → outcome (found_says r) k ≡ due → outcome (found_says s) l ≡ due → (r ≡ s) × (k ≡ l)
-found_only = only found_says found_back found_undo
+seated_undo : (s : Seated) → seated_back (seat_values s) ≡ s
+seated_undo (Yes below) = refl
+seated_undo (No below) = refl
 
-abbrev ranged_back : Answer → Ranged
-ranged_back (given []) = ranged.Nothing
-ranged_back (given (l ∷ [])) = ranged.Nothing
-ranged_back (given (l ∷ h ∷ xs)) = ranged.Range l h
-ranged_back (refused n p) = ranged.Refused (refusal_of n p)
+pub seated_only : (due : Outcome) (r s : Result Seated Refusal) (k l : List (List ℕ))
+    → outcome (seated_says r) k ≡ due → outcome (seated_says s) l ≡ due → (r ≡ s) × (k ≡ l)
+seated_only = says_only seat_values seated_back seated_undo
 
-ranged_undo : (r : Ranged) → ranged_back (ranged_says r) ≡ r
-ranged_undo (ranged.Range l h) = refl
-ranged_undo ranged.Nothing = refl
-ranged_undo (ranged.Refused f) = ap ranged.Refused (refusal_back f)
+-- a number, or none
+number_undo : (o : Option ℕ) → any_back front (if_any one_value o) ≡ o
+number_undo (Some n) = refl
+number_undo None = refl
 
-pub ranged_only : (due : Outcome) (r s : Ranged) (k l : List (List ℕ)) → outcome (ranged_says r) k ≡ due → outcome (ranged_says s) l ≡ due → (r ≡ s) × (k ≡ l)
-ranged_only = only ranged_says ranged_back ranged_undo
+pub found_only : (due : Outcome) (r s : Result (Option ℕ) Refusal) (k l : List (List ℕ))
+    → outcome (found_says r) k ≡ due → outcome (found_says s) l ≡ due → (r ≡ s) × (k ≡ l)
+found_only = says_only (if_any one_value) (any_back front) number_undo
 
-abbrev valued_back : Answer → Valued
-valued_back (given []) = valued.Nothing
-valued_back (given (v ∷ [])) = valued.Nothing
-valued_back (given (v ∷ t ∷ xs)) = valued.Value v t
-valued_back (refused n p) = valued.Refused (refusal_of n p)
+pub sized_only : (due : Outcome) (r s : Result (Option ℕ) Refusal) (k l : List (List ℕ))
+    → outcome (sized_says r) k ≡ due → outcome (sized_says s) l ≡ due → (r ≡ s) × (k ≡ l)
+sized_only = found_only
 
-valued_undo : (r : Valued) → valued_back (valued_says r) ≡ r
-valued_undo (valued.Value v t) = refl
-valued_undo valued.Nothing = refl
-valued_undo (valued.Refused f) = ap valued.Refused (refusal_back f)
+-- two numbers, or none
+abbrev pair_back : List ℕ → ℕ × ℕ
+pair_back xs = (front xs, front (rest xs))
 
-pub valued_only : (due : Outcome) (r s : Valued) (k l : List (List ℕ)) → outcome (valued_says r) k ≡ due → outcome (valued_says s) l ≡ due → (r ≡ s) × (k ≡ l)
-valued_only = only valued_says valued_back valued_undo
+pair_undo : (o : Option (ℕ × ℕ)) → any_back pair_back (if_any two_values o) ≡ o
+pair_undo (Some (l, h)) = refl
+pair_undo None = refl
 
-abbrev sized_back : Answer → Sized
-sized_back (given []) = sized.Empty
-sized_back (given (n ∷ xs)) = sized.LessOne n
-sized_back (refused n p) = sized.Refused (refusal_of n p)
+pub ranged_only : (due : Outcome) (r s : Result (Option (ℕ × ℕ)) Refusal) (k l : List (List ℕ))
+    → outcome (ranged_says r) k ≡ due → outcome (ranged_says s) l ≡ due → (r ≡ s) × (k ≡ l)
+ranged_only = says_only (if_any two_values) (any_back pair_back) pair_undo
 
-sized_undo : (r : Sized) → sized_back (sized_says r) ≡ r
-sized_undo sized.Empty = refl
-sized_undo (sized.LessOne n) = refl
-sized_undo (sized.Refused f) = ap sized.Refused (refusal_back f)
+pub valued_only : (due : Outcome) (r s : Result (Option (ℕ × ℕ)) Refusal) (k l : List (List ℕ))
+    → outcome (valued_says r) k ≡ due → outcome (valued_says s) l ≡ due → (r ≡ s) × (k ≡ l)
+valued_only = ranged_only
 
-pub sized_only : (due : Outcome) (r s : Sized) (k l : List (List ℕ)) → outcome (sized_says r) k ≡ due → outcome (sized_says s) l ≡ due → (r ≡ s) × (k ≡ l)
-sized_only = only sized_says sized_back sized_undo
+abbrev part_back : List ℕ → Part
+part_back xs = record { place = front xs; length = front (rest xs) }
 
-abbrev parted_back : Answer → Parted
-parted_back (given []) = parted.Nothing
-parted_back (given (p ∷ [])) = parted.Nothing
-parted_back (given (p ∷ n ∷ xs)) = parted.Part p n
-parted_back (refused n p) = parted.Refused (refusal_of n p)
+part_undo : (o : Option Part) → any_back part_back (if_any part_values o) ≡ o
+part_undo (Some p) = refl
+part_undo None = refl
 
-parted_undo : (r : Parted) → parted_back (parted_says r) ≡ r
-parted_undo (parted.Part p n) = refl
-parted_undo parted.Nothing = refl
-parted_undo (parted.Refused f) = ap parted.Refused (refusal_back f)
-
-pub parted_only : (due : Outcome) (r s : Parted) (k l : List (List ℕ))
+pub parted_only : (due : Outcome) (r s : Result (Option Part) Refusal) (k l : List (List ℕ))
     → outcome (parted_says r) k ≡ due → outcome (parted_says s) l ≡ due → (r ≡ s) × (k ≡ l)
-parted_only = only parted_says parted_back parted_undo
+parted_only = says_only (if_any part_values) (any_back part_back) part_undo
 
-abbrev decided_back : Answer → Decided
-decided_back (given []) = decided.Nothing
-decided_back (given (p ∷ [])) = decided.Nothing
-decided_back (given (p ∷ n ∷ [])) = decided.Nothing
-decided_back (given (p ∷ n ∷ k ∷ xs)) = decided.Entry p n k
-decided_back (refused n p) = decided.Refused (refusal_of n p)
+abbrev deciding_back : List ℕ → Deciding
+deciding_back xs = record { position = front (rest (rest xs)); place = front xs; length = front (rest xs) }
 
-decided_undo : (r : Decided) → decided_back (decided_says r) ≡ r
-decided_undo (decided.Entry p n k) = refl
-decided_undo decided.Nothing = refl
-decided_undo (decided.Refused f) = ap decided.Refused (refusal_back f)
+deciding_undo : (o : Option Deciding) → any_back deciding_back (if_any deciding_values o) ≡ o
+deciding_undo (Some d) = refl
+deciding_undo None = refl
 
-pub decided_only : (due : Outcome) (r s : Decided) (k l : List (List ℕ))
+pub decided_only : (due : Outcome) (r s : Result (Option Deciding) Refusal) (k l : List (List ℕ))
     → outcome (decided_says r) k ≡ due → outcome (decided_says s) l ≡ due → (r ≡ s) × (k ≡ l)
-decided_only = only decided_says decided_back decided_undo
+decided_only = says_only (if_any deciding_values) (any_back deciding_back) deciding_undo
 
-abbrev placed_back : Answer → Placed
-placed_back (given []) = placed.At 0
-placed_back (given (s ∷ xs)) = placed.At s
-placed_back (refused n p) = placed.Refused (refusal_of n p)
+pub placed_only : (due : Outcome) (r s : Result ℕ Refusal) (k l : List (List ℕ))
+    → outcome (placed_says r) k ≡ due → outcome (placed_says s) l ≡ due → (r ≡ s) × (k ≡ l)
+placed_only = says_only one_value front (λ n. refl)
 
-placed_undo : (r : Placed) → placed_back (placed_says r) ≡ r
-placed_undo (placed.At s) = refl
-placed_undo (placed.Refused f) = ap placed.Refused (refusal_back f)
-
-pub placed_only : (due : Outcome) (r s : Placed) (k l : List (List ℕ)) → outcome (placed_says r) k ≡ due → outcome (placed_says s) l ≡ due → (r ≡ s) × (k ≡ l)
-placed_only = only placed_says placed_back placed_undo
-
-abbrev written_back : Answer → Written
-written_back (given []) = written.Length 0
-written_back (given (n ∷ xs)) = written.Length n
-written_back (refused n p) = written.Refused (refusal_of n p)
-
-written_undo : (r : Written) → written_back (written_says r) ≡ r
-written_undo (written.Length n) = refl
-written_undo (written.Refused f) = ap written.Refused (refusal_back f)
-
-pub written_only : (due : Outcome) (r s : Written) (k l : List (List ℕ)) → outcome (written_says r) k ≡ due → outcome (written_says s) l ≡ due → (r ≡ s) × (k ≡ l)
-written_only = only written_says written_back written_undo
+pub written_only : (due : Outcome) (r s : Result ℕ Refusal) (k l : List (List ℕ))
+    → outcome (written_says r) k ≡ due → outcome (written_says s) l ≡ due → (r ≡ s) × (k ≡ l)
+written_only = placed_only

@@ -1,57 +1,51 @@
 -- No second outcome, of the answers with keys: what an answer says is the word of a key, and a key is told by its word.
-use mathlib.Core.Path.{◌≡◌, refl, ap, ap₂}
-use mathlib.Core.List.{List, [], ◌∷◌}
+use mathlib.Core.Path.{◌≡◌, refl, ap, ap₂, subst}
+use mathlib.Core.List.{List}
 use Prim.Native.Nat.{ℕ}
-use Rattle.keys.specs.Keys.{key_of}
+use native.Mathlib.Omega.{arith}
+use lib.IntN.{ℤ}
+use Rattle.std.specs.Prelude.{Option, Some, None, Result, Ok, Err}
+use Rattle.keys.specs.Keys.{IsKey, key_of}
 use Rattle.keys.proofs.Shift.{key_back}
-use Rattle.answers.specs.declared.FoundKey.{FoundKey}
-use Rattle.answers.specs.declared.FoundKey.TheVariants as found_key
-use Rattle.answers.specs.declared.RangedKeys.{RangedKeys}
-use Rattle.answers.specs.declared.RangedKeys.TheVariants as ranged_keys
-use Rattle.answers.specs.declared.PlacedKey.{PlacedKey}
-use Rattle.answers.specs.declared.PlacedKey.TheVariants as placed_key
-use Rattle.answers.specs.Answers.{Answer, given, refused, Outcome, outcome}
-use Rattle.answers.specs.Says.{refusal_of, found_key_says, ranged_keys_says, placed_key_says, FoundKeyHolds, RangedKeysHold, PlacedKeyHolds}
-use Rattle.answers.proofs.Unique.{only_two, refusal_back}
+use Rattle.answers.specs.declared.Refusal.{Refusal}
+use Rattle.answers.specs.Answers.{Outcome, outcome}
+use Rattle.answers.specs.Says.{says, if_any, key_value, key_values, Holds, HoldsIfAny, found_key_says, ranged_keys_says, placed_key_says}
+use Rattle.answers.specs.Says.{FoundKeyHolds, RangedKeysHold, PlacedKeyHolds}
+use Rattle.answers.proofs.Unique.{only_two, says_back, says_undo, any_back, front, rest}
 
-abbrev found_back : Answer → FoundKey
-found_back (given []) = found_key.Nothing
-found_back (given (x ∷ xs)) = found_key.Key (key_of x)
-found_back (refused n p) = found_key.Refused (refusal_of n p)
+-- [D8] one law of all kinds: two answers of which P holds, with the same outcome, are the same, and leave the same
+says_only_where : {A : Type 0} (P : A → Type 0) (values : A → List ℕ) (back : List ℕ → A) → ((a : A) → P a → back (values a) ≡ a)
+    → (due : Outcome) (r s : Result A Refusal) (k l : List (List ℕ)) → Holds P r → Holds P s
+    → outcome (says values r) k ≡ due → outcome (says values s) l ≡ due → (r ≡ s) × (k ≡ l)
+says_only_where {A} P values back undo due r s k l h g =
+    only_two (says values) (says_back back) due r s k l (says_undo values back r (held r h)) (says_undo values back s (held s g))
+  where
+    held : (r : Result A Refusal) → Holds P r → (a : A) → r ≡ Ok a → back (values a) ≡ a
+    held (Ok b) h a e = let q : b ≡ a = cc in undo a (subst P q h)
+    held (Err f) h a e = let z : ◌≡◌ {A = ℕ} 0 1 = cc in absurd (omega arith)
 
-found_undo : (r : FoundKey) → FoundKeyHolds r → found_back (found_key_says r) ≡ r
-found_undo (found_key.Key k) h = ap found_key.Key (key_back k h)
-found_undo found_key.Nothing h = refl
-found_undo (found_key.Refused f) h = ap found_key.Refused (refusal_back f)
+abbrev key_front : List ℕ → ℤ
+key_front xs = key_of (front xs)
 
-pub found_key_only : (due : Outcome) (r s : FoundKey) (k l : List (List ℕ)) → FoundKeyHolds r → FoundKeyHolds s
+abbrev keys_back : List ℕ → ℤ × ℤ
+keys_back xs = (key_of (front xs), key_of (front (rest xs)))
+
+key_undo : (o : Option ℤ) → HoldsIfAny IsKey o → any_back key_front (if_any key_value o) ≡ o
+key_undo (Some k) h = ap Some (key_back k h)
+key_undo None h = refl
+
+keys_undo : (o : Option (ℤ × ℤ)) → HoldsIfAny (λ p. IsKey p.0 × IsKey p.1) o → any_back keys_back (if_any key_values o) ≡ o
+keys_undo (Some (low, high)) h = ap₂ (λ (x y : ℤ). Some (x, y)) (key_back low h.0) (key_back high h.1)
+keys_undo None h = refl
+
+pub found_key_only : (due : Outcome) (r s : Result (Option ℤ) Refusal) (k l : List (List ℕ)) → FoundKeyHolds r → FoundKeyHolds s
     → outcome (found_key_says r) k ≡ due → outcome (found_key_says s) l ≡ due → (r ≡ s) × (k ≡ l)
-found_key_only due r s k l h g = only_two found_key_says found_back due r s k l (found_undo r h) (found_undo s g)
+found_key_only = says_only_where (HoldsIfAny IsKey) (if_any key_value) (any_back key_front) key_undo
 
-abbrev ranged_back : Answer → RangedKeys
-ranged_back (given []) = ranged_keys.Nothing
-ranged_back (given (x ∷ [])) = ranged_keys.Nothing
-ranged_back (given (x ∷ y ∷ xs)) = ranged_keys.Range (key_of x) (key_of y)
-ranged_back (refused n p) = ranged_keys.Refused (refusal_of n p)
-
-ranged_undo : (r : RangedKeys) → RangedKeysHold r → ranged_back (ranged_keys_says r) ≡ r
-ranged_undo (ranged_keys.Range low high) h = ap₂ ranged_keys.Range (key_back low h.0) (key_back high h.1)
-ranged_undo ranged_keys.Nothing h = refl
-ranged_undo (ranged_keys.Refused f) h = ap ranged_keys.Refused (refusal_back f)
-
-pub ranged_keys_only : (due : Outcome) (r s : RangedKeys) (k l : List (List ℕ)) → RangedKeysHold r → RangedKeysHold s
+pub ranged_keys_only : (due : Outcome) (r s : Result (Option (ℤ × ℤ)) Refusal) (k l : List (List ℕ)) → RangedKeysHold r → RangedKeysHold s
     → outcome (ranged_keys_says r) k ≡ due → outcome (ranged_keys_says s) l ≡ due → (r ≡ s) × (k ≡ l)
-ranged_keys_only due r s k l h g = only_two ranged_keys_says ranged_back due r s k l (ranged_undo r h) (ranged_undo s g)
+ranged_keys_only = says_only_where (HoldsIfAny (λ p. IsKey p.0 × IsKey p.1)) (if_any key_values) (any_back keys_back) keys_undo
 
-abbrev placed_back : Answer → PlacedKey
-placed_back (given []) = placed_key.At (key_of 0)
-placed_back (given (x ∷ xs)) = placed_key.At (key_of x)
-placed_back (refused n p) = placed_key.Refused (refusal_of n p)
-
-placed_undo : (r : PlacedKey) → PlacedKeyHolds r → placed_back (placed_key_says r) ≡ r
-placed_undo (placed_key.At k) h = ap placed_key.At (key_back k h)
-placed_undo (placed_key.Refused f) h = ap placed_key.Refused (refusal_back f)
-
-pub placed_key_only : (due : Outcome) (r s : PlacedKey) (k l : List (List ℕ)) → PlacedKeyHolds r → PlacedKeyHolds s
+pub placed_key_only : (due : Outcome) (r s : Result ℤ Refusal) (k l : List (List ℕ)) → PlacedKeyHolds r → PlacedKeyHolds s
     → outcome (placed_key_says r) k ≡ due → outcome (placed_key_says s) l ≡ due → (r ≡ s) × (k ≡ l)
-placed_key_only due r s k l h g = only_two placed_key_says placed_back due r s k l (placed_undo r h) (placed_undo s g)
+placed_key_only = says_only_where IsKey key_value key_front (λ k h. key_back k h)

@@ -2,7 +2,6 @@
 use Rattle.std.specs.Prelude.{◌≡◌, Bool, true, false, List, [], ◌∷◌, ℕ, zero, suc, ◌-◌, eqb}
 use Rattle.std.proofs.Math.Option.{Option, none, some}
 use Rattle.entries.specs.Build.{pick}
-use Rattle.answers.specs.declared.Finding.{Finding}
 
 -- the highest number of the table of refusals, that of Align
 abbrev pub last_number : ℕ
@@ -26,7 +25,12 @@ abbrev pub judged : ℕ → ℕ → List (List ℕ) → Outcome → Outcome
 judged zero position lent x = x
 judged (suc v) position lent x = refuse (suc v) position lent
 
--- a refusal that may apply: its place, and its number, or 0 where it does not apply
+-- a refusal that may apply: its number in the table, or 0 where it does not apply, and its place
+pub record Finding : Type 0 where
+  pub number : ℕ
+  pub place : ℕ
+
+-- one with this number at this place
 abbrev pub at : ℕ → ℕ → Finding
 at place number = record { number = number; place = place }
 
@@ -39,11 +43,6 @@ in_turn (f ∷ fs) lent x = judged f.number f.place lent (in_turn fs lent x)
 abbrev pub Clear : List Finding → Type 0
 Clear [] = Unit {0}
 Clear (f ∷ fs) = (f.number ≡ 0) × Clear fs
-
--- what an answer from a verdict says: 0, accepted with no value
-abbrev pub number_says : ℕ → ℕ → Answer
-number_says zero place = given []
-number_says (suc v) place = refused (suc v) place
 
 -- the answer of a question that is true (1) or not (0)
 abbrev pub truth : Bool → Answer

@@ -1,41 +1,16 @@
--- The table's number, and the values, for each case of an answer.
-use Rattle.std.specs.Prelude.{[], ◌∷◌, ℕ, zero, suc, eqb}
+-- The table's number, and the values, of each kind of answer.
+use Rattle.std.specs.Prelude.{◌≡◌, List, [], ◌∷◌, ℕ, zero, suc, eqb, Bool, true, false, ℤ, Option, Some, None, Result, Ok, Err, MatchResult}
 use Rattle.keys.specs.Keys.{IsKey, word_of}
-use Rattle.keys.specs.declared.Apart.{Apart}
-use Rattle.keys.specs.declared.Apart.TheVariants as apart
 use Rattle.entries.specs.Build.{pick}
 use Rattle.answers.specs.declared.Reason.{Reason}
 use Rattle.answers.specs.declared.Reason.TheVariants.{NoBlock, Count, Order, Backwards, Room, ZeroRun, NoGap, Short, Mark, Kind, Check}
 use Rattle.answers.specs.declared.Reason.TheVariants.{Content, Trailing, Overlap, NoSpace, Align}
 use Rattle.answers.specs.declared.Refusal.{Refusal}
-use Rattle.answers.specs.declared.Judged.{Judged}
-use Rattle.answers.specs.declared.Judged.TheVariants as judged
-use Rattle.answers.specs.declared.Truth.{Truth}
-use Rattle.answers.specs.declared.Truth.TheVariants as truth
+use Rattle.answers.specs.declared.UnknownNumber.{UnknownNumber}
 use Rattle.answers.specs.declared.Seated.{Seated}
-use Rattle.answers.specs.declared.Seated.TheVariants as seated
-use Rattle.answers.specs.declared.Found.{Found}
-use Rattle.answers.specs.declared.Found.TheVariants as found
-use Rattle.answers.specs.declared.Ranged.{Ranged}
-use Rattle.answers.specs.declared.Ranged.TheVariants as ranged
-use Rattle.answers.specs.declared.Valued.{Valued}
-use Rattle.answers.specs.declared.Valued.TheVariants as valued
-use Rattle.answers.specs.declared.FoundKey.{FoundKey}
-use Rattle.answers.specs.declared.FoundKey.TheVariants as found_key
-use Rattle.answers.specs.declared.RangedKeys.{RangedKeys}
-use Rattle.answers.specs.declared.RangedKeys.TheVariants as ranged_keys
-use Rattle.answers.specs.declared.Sized.{Sized}
-use Rattle.answers.specs.declared.Sized.TheVariants as sized
-use Rattle.answers.specs.declared.Parted.{Parted}
-use Rattle.answers.specs.declared.Parted.TheVariants as parted
-use Rattle.answers.specs.declared.Decided.{Decided}
-use Rattle.answers.specs.declared.Decided.TheVariants as decided
-use Rattle.answers.specs.declared.Placed.{Placed}
-use Rattle.answers.specs.declared.Placed.TheVariants as placed
-use Rattle.answers.specs.declared.PlacedKey.{PlacedKey}
-use Rattle.answers.specs.declared.PlacedKey.TheVariants as placed_key
-use Rattle.answers.specs.declared.Written.{Written}
-use Rattle.answers.specs.declared.Written.TheVariants as written
+use Rattle.answers.specs.declared.Seated.TheVariants.{Yes, No}
+use Rattle.answers.specs.declared.Part.{Part}
+use Rattle.answers.specs.declared.Deciding.{Deciding}
 use Rattle.answers.specs.Answers.{Answer, given, refused}
 
 -- [G7] the table's number of each reason
@@ -57,114 +32,146 @@ number_of Overlap = 14
 number_of NoSpace = 15
 number_of Align = 16
 
+-- the refusal with a reason, at a place
+abbrev pub at_place : Reason → ℕ → Refusal
+at_place reason place = record { reason = reason; place = place }
+
 -- [R0, G7] a refusal: its number and its place
 abbrev pub refusal_says : Refusal → Answer
 refusal_says f = refused (number_of f.reason) f.place
 
+-- [R0, G7] what a call says: the values of what it gives, or its refusal
+abbrev pub says : {A : Type 0} → (A → List ℕ) → Result A Refusal → Answer
+says values (Ok a) = given (values a)
+says values (Err f) = refusal_says f
+
+-- the values of what was found, or none
+abbrev pub if_any : {A : Type 0} → (A → List ℕ) → Option A → List ℕ
+if_any values (Some a) = values a
+if_any values None = []
+
+-- accepted, and nothing more
+abbrev pub no_values : Unit {0} → List ℕ
+no_values u = []
+
+-- yes is 1, no is 0
+abbrev pub truth_value : Bool → List ℕ
+truth_value true = 1 ∷ []
+truth_value false = 0 ∷ []
+
+-- [W1] yes is 1, no is 0; then how many ranges lie wholly below
+abbrev pub seat_values : Seated → List ℕ
+seat_values (Yes below) = 1 ∷ below ∷ []
+seat_values (No below) = 0 ∷ below ∷ []
+
+-- a number
+abbrev pub one_value : ℕ → List ℕ
+one_value n = n ∷ []
+
+-- two numbers, as a low and a high, or a value and its expiry
+abbrev pub two_values : ℕ × ℕ → List ℕ
+two_values p = p.0 ∷ p.1 ∷ []
+
+-- a part of a block: its place and its length
+abbrev pub part_values : Part → List ℕ
+part_values p = p.place ∷ p.length ∷ []
+
+-- the deciding entry: its place and its length, and the position of its block
+abbrev pub deciding_values : Deciding → List ℕ
+deciding_values d = d.place ∷ d.length ∷ d.position ∷ []
+
+-- Keys say their words, so that a call on keys and the call on their words have one outcome.
+-- [K3] a key
+abbrev pub key_value : ℤ → List ℕ
+key_value k = word_of k ∷ []
+
+-- [K3] two keys
+abbrev pub key_values : ℤ × ℤ → List ℕ
+key_values p = word_of p.0 ∷ word_of p.1 ∷ []
+
 -- [G7] accepted, with no value; or refused
-abbrev pub judged_says : Judged → Answer
-judged_says judged.Accepted = given []
-judged_says (judged.Refused f) = refusal_says f
+abbrev pub judged_says : Result (Unit {0}) Refusal → Answer
+judged_says = says no_values
 
 -- [G7] yes is 1, no is 0
-abbrev pub truth_says : Truth → Answer
-truth_says truth.Yes = given (1 ∷ [])
-truth_says truth.No = given (0 ∷ [])
-truth_says (truth.Refused f) = refusal_says f
+abbrev pub truth_says : Result Bool Refusal → Answer
+truth_says = says truth_value
 
 -- [W1, G7] yes is 1, no is 0; then how many ranges lie wholly below
-abbrev pub seated_says : Seated → Answer
-seated_says (seated.Yes below) = given (1 ∷ below ∷ [])
-seated_says (seated.No below) = given (0 ∷ below ∷ [])
-seated_says (seated.Refused f) = refusal_says f
+abbrev pub seated_says : Result Seated Refusal → Answer
+seated_says = says seat_values
 
 -- [G7] the number, or no value
-abbrev pub found_says : Found → Answer
-found_says (found.Number n) = given (n ∷ [])
-found_says found.Nothing = given []
-found_says (found.Refused f) = refusal_says f
+abbrev pub found_says : Result (Option ℕ) Refusal → Answer
+found_says = says (if_any one_value)
 
 -- [G7] low and high, or no value
-abbrev pub ranged_says : Ranged → Answer
-ranged_says (ranged.Range low high) = given (low ∷ high ∷ [])
-ranged_says ranged.Nothing = given []
-ranged_says (ranged.Refused f) = refusal_says f
+abbrev pub ranged_says : Result (Option (ℕ × ℕ)) Refusal → Answer
+ranged_says = says (if_any two_values)
 
 -- [G7] value and expiry, or no value
-abbrev pub valued_says : Valued → Answer
-valued_says (valued.Value v expiry) = given (v ∷ expiry ∷ [])
-valued_says valued.Nothing = given []
-valued_says (valued.Refused f) = refusal_says f
+abbrev pub valued_says : Result (Option (ℕ × ℕ)) Refusal → Answer
+valued_says = says (if_any two_values)
 
 -- [S3, G7] no value of the empty set, else the size less one
-abbrev pub sized_says : Sized → Answer
-sized_says sized.Empty = given []
-sized_says (sized.LessOne n) = given (n ∷ [])
-sized_says (sized.Refused f) = refusal_says f
+abbrev pub sized_says : Result (Option ℕ) Refusal → Answer
+sized_says = says (if_any one_value)
 
 -- [G7] a part of a block: its place and its length; no value where there is none
-abbrev pub parted_says : Parted → Answer
-parted_says (parted.Part place words) = given (place ∷ words ∷ [])
-parted_says parted.Nothing = given []
-parted_says (parted.Refused f) = refusal_says f
+abbrev pub parted_says : Result (Option Part) Refusal → Answer
+parted_says = says (if_any part_values)
 
 -- [G7] the deciding entry: its place and its length, and the position of its block; no value where there is none
-abbrev pub decided_says : Decided → Answer
-decided_says (decided.Entry place words position) = given (place ∷ words ∷ position ∷ [])
-decided_says decided.Nothing = given []
-decided_says (decided.Refused f) = refusal_says f
+abbrev pub decided_says : Result (Option Deciding) Refusal → Answer
+decided_says = says (if_any deciding_values)
 
--- [F4, G7] the place s of a fit, which a reservation returns too
-abbrev pub placed_says : Placed → Answer
-placed_says (placed.At s) = given (s ∷ [])
-placed_says (placed.Refused f) = refusal_says f
+-- [F4, G7] the place of a fit, which a reservation returns too
+abbrev pub placed_says : Result ℕ Refusal → Answer
+placed_says = says one_value
 
 -- [G7] the length of the form that was written
-abbrev pub written_says : Written → Answer
-written_says (written.Length n) = given (n ∷ [])
-written_says (written.Refused f) = refusal_says f
+abbrev pub written_says : Result ℕ Refusal → Answer
+written_says = says one_value
 
--- Answers with keys say the words of the keys, so that a call on keys and the call on their words have one outcome.
 -- [K3, G7] the word of the key, or no value
-abbrev pub found_key_says : FoundKey → Answer
-found_key_says (found_key.Key k) = given (word_of k ∷ [])
-found_key_says found_key.Nothing = given []
-found_key_says (found_key.Refused f) = refusal_says f
+abbrev pub found_key_says : Result (Option ℤ) Refusal → Answer
+found_key_says = says (if_any key_value)
 
 -- [K3, G7] the words of the low and the high key, or no value
-abbrev pub ranged_keys_says : RangedKeys → Answer
-ranged_keys_says (ranged_keys.Range low high) = given (word_of low ∷ word_of high ∷ [])
-ranged_keys_says ranged_keys.Nothing = given []
-ranged_keys_says (ranged_keys.Refused f) = refusal_says f
+abbrev pub ranged_keys_says : Result (Option (ℤ × ℤ)) Refusal → Answer
+ranged_keys_says = says (if_any key_values)
 
 -- [K3, G7] the word of the key that a fit chose
-abbrev pub placed_key_says : PlacedKey → Answer
-placed_key_says (placed_key.At s) = given (word_of s ∷ [])
-placed_key_says (placed_key.Refused f) = refusal_says f
+abbrev pub placed_key_says : Result ℤ Refusal → Answer
+placed_key_says = says key_value
 
 -- [K5, G7] the word of the difference of two keys; no value where they are too far apart
-abbrev pub apart_says : Apart → Answer
-apart_says (apart.By d) = given (word_of d ∷ [])
-apart_says apart.TooFar = given []
+abbrev pub apart_says : Option ℤ → Answer
+apart_says d = given (if_any key_value d)
 
 -- What an answer holds are keys, as they are wherever code made it, since an i64 is a key: then no second answer says the same
 -- (proofs/UniqueKeys).
+-- what is said of a value where a call gives one
+abbrev pub Holds : {A : Type 0} → (A → Type 0) → Result A Refusal → Type 0
+Holds P (Ok a) = P a
+Holds P (Err f) = Unit {0}
+
+-- what is said of a value where one was found
+abbrev pub HoldsIfAny : {A : Type 0} → (A → Type 0) → Option A → Type 0
+HoldsIfAny P (Some a) = P a
+HoldsIfAny P None = Unit {0}
+
 -- [K1] the key that was found
-abbrev pub FoundKeyHolds : FoundKey → Type 0
-FoundKeyHolds (found_key.Key k) = IsKey k
-FoundKeyHolds found_key.Nothing = Unit {0}
-FoundKeyHolds (found_key.Refused f) = Unit {0}
+abbrev pub FoundKeyHolds : Result (Option ℤ) Refusal → Type 0
+FoundKeyHolds = Holds (HoldsIfAny IsKey)
 
 -- [K1] the two ends of the range that was found
-abbrev pub RangedKeysHold : RangedKeys → Type 0
-RangedKeysHold (ranged_keys.Range low high) = IsKey low × IsKey high
-RangedKeysHold ranged_keys.Nothing = Unit {0}
-RangedKeysHold (ranged_keys.Refused f) = Unit {0}
+abbrev pub RangedKeysHold : Result (Option (ℤ × ℤ)) Refusal → Type 0
+RangedKeysHold = Holds (HoldsIfAny (λ p. IsKey p.0 × IsKey p.1))
 
 -- [K1] the key that a fit chose
-abbrev pub PlacedKeyHolds : PlacedKey → Type 0
-PlacedKeyHolds (placed_key.At s) = IsKey s
-PlacedKeyHolds (placed_key.Refused f) = Unit {0}
+abbrev pub PlacedKeyHolds : Result ℤ Refusal → Type 0
+PlacedKeyHolds = Holds IsKey
 
 -- The other way, for code that has a number: the reason of a number of the table; of any other number, the table's last.
 abbrev pub reason_of : ℕ → Reason
@@ -186,11 +193,15 @@ reason_of number =
     (pick (eqb number 15) NoSpace
     Align))))))))))))))
 
+-- a number read as a reason: the one that has it, or none has
+abbrev pub Decodes : ℕ → Result Reason UnknownNumber → Type 0
+Decodes number r = MatchResult r (λ reason. number_of reason ≡ number) (λ e. (e.0 ≡ number) × ((reason : Reason) → number_of reason ≡ number → ⊥))
+
 -- the refusal of a number at a place
 abbrev pub refusal_of : ℕ → ℕ → Refusal
-refusal_of number place = record { reason = reason_of number; place = place }
+refusal_of number place = at_place (reason_of number) place
 
 -- accepted for 0, else the refusal of that number
-abbrev pub judged_of : ℕ → ℕ → Judged
-judged_of zero place = judged.Accepted
-judged_of (suc v) place = judged.Refused (refusal_of (suc v) place)
+abbrev pub judged_of : ℕ → ℕ → Result (Unit {0}) Refusal
+judged_of zero place = Ok tt
+judged_of (suc v) place = Err (refusal_of (suc v) place)

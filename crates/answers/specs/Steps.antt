@@ -1,13 +1,18 @@
 -- What code that tries the refusals of a call in turn promises. No public promise names these.
-use Rattle.std.specs.Prelude.{◌≡◌, List, [], ◌∷◌, ℕ, zero, suc, ◌≤◌, ◌<◌}
-use Rattle.answers.specs.declared.Finding.{Finding}
-use Rattle.answers.specs.Answers.{Outcome, judged, in_turn, last_number, Clear}
+use Rattle.std.specs.Prelude.{◌≡◌, List, [], ◌∷◌, ℕ, zero, suc, ◌<◌, Result, Ok, Err, IfOk}
+use Rattle.answers.specs.declared.Refusal.{Refusal}
+use Rattle.answers.specs.Answers.{Finding, Outcome, outcome, in_turn, Clear}
+use Rattle.answers.specs.Says.{refusal_says}
 
--- r is the first of fs that applies, or none of them does and its number is 0
-pub record FirstOf (fs : List Finding) (r : Finding) : Type 0 where
-  pub turn : (lent : List (List ℕ)) (x : Outcome) → judged r.number r.place lent x ≡ in_turn fs lent x
-  pub clear : r.number ≡ 0 → Clear fs
-  pub small : r.number ≤ last_number
+-- by what was found: refused with it, or what follows
+abbrev pub by : Result (Unit {0}) Refusal → List (List ℕ) → Outcome → Outcome
+by (Ok u) lent x = x
+by (Err f) lent x = outcome (refusal_says f) lent
+
+-- r is the first of fs that applies, or none of them does
+pub record FirstOf (fs : List Finding) (r : Result (Unit {0}) Refusal) : Type 0 where
+  pub turn : (lent : List (List ℕ)) (x : Outcome) → by r lent x ≡ in_turn fs lent x
+  pub clear : IfOk r (λ u. Clear fs)
 
 -- the number of finding i, counted from 0, and its place; 0 past the last
 abbrev pub number_at : List Finding → ℕ → ℕ
