@@ -71,14 +71,7 @@ unfoldable pub byte : ℕ → ℕ → ℕ
 byte s x =
     let y = bit_xor (s / 256) x in
     let t = bit_xor y (y / 16) in
-    bit_xor (s % 256 * 256) (bit_xor (t % 16 * 4096) (bit_xor (t * 32) t))
-
--- its t is a byte
-pub turned_lt : (s x : ℕ) → s < 65536 → x < 256 → (let y = bit_xor (s / 256) x in bit_xor y (y / 16) < 256)
-turned_lt s x h l =
-    let y = bit_xor (s / 256) x in
-    let k : y < 256 = xor_lt 8 (s / 256) x (omega arith) l in
-    xor_lt 8 y (y / 16) k (omega arith)
+    bit_xor (bit_xor (bit_xor (s * 256 % 65536) (t * 4096 % 65536)) (t * 32 % 65536)) t
 
 -- it keeps exclusive or
 pub lin_byte : {f g : ℕ → ℕ} → Linear f → Linear g → Linear (λ n. byte (f n) (g n))
@@ -86,7 +79,7 @@ unfolding byte
 lin_byte l m =
     let y = lin_xor (lin_div l 8) m in
     let t = lin_xor y (lin_div y 4) in
-    lin_xor (lin_mul (lin_mod l 8) 8) (lin_xor (lin_mul (lin_mod t 4) 12) (lin_xor (lin_mul t 5) t))
+    lin_xor (lin_xor (lin_xor (lin_mod (lin_mul l 8) 16) (lin_mod (lin_mul t 12) 16)) (lin_mod (lin_mul t 5) 16)) t
 
 -- AT ONCE IS DIGIT BY DIGIT: both keep exclusive or, of register and byte together, and agree at the 24 powers of 2
 at_once : (s x : ℕ) → s < 65536 → x < 256 → times 8 bit (bit_xor s (x * 256)) ≡ byte s x

@@ -72,7 +72,7 @@ stands s v r h k m e ys = after_on s v h k ys ∙ ap (λ (t : ℕ). crc_from t y
 
 -- the register comes into the first two bytes
 abbrev join : ℕ → ℕ → ℕ
-join s v = bit_xor v (s * 281474976710656)
+join s v = bit_xor v (s * 2 ^ 48 % 2 ^ 64)
 
 -- the two leave the same at the powers of 2: computed, as the next two are
 join_rows : rows (at 64 after) 80 ≡ rows (at 64 (λ s v. after 0 (join s v))) 80
@@ -82,18 +82,18 @@ join_rows = refl
 -- [C1] JOINED: the word stands for the register and the bytes of v
 pub joined_law : (s v : ℕ) → s < 65536 → v < 2 ^ 64 → Joined s v (join s v)
 joined_law s v h k =
-    stands s v (join s v) h k (xor_lt 64 v (s * 281474976710656) k (omega arith))
-    (same_at 16 64 after (λ s v. after 0 (join s v)) (lin8 first second) (lin_word (lin_xor second (lin_mul first 48))) join_rows s v h k)
+    stands s v (join s v) h k (xor_lt 64 v (s * 2 ^ 48 % 2 ^ 64) k (omega arith))
+    (same_at 16 64 after (λ s v. after 0 (join s v)) (lin8 first second) (lin_word (lin_xor second (lin_mod (lin_mul first 48) 64))) join_rows s v h k)
 
 -- the word before comes into the word behind
 abbrev mix : ℕ → ℕ → ℕ
-mix q v = bit_xor (bit_xor v q) (bit_xor (q % 17592186044416 * 1048576) (q % 65536 * 281474976710656))
+mix q v = bit_xor (bit_xor (bit_xor v q) (q * 2 ^ 20 % 2 ^ 64)) (q * 2 ^ 48 % 2 ^ 64)
 
 mix_lt : (q v : ℕ) → q < 2 ^ 64 → v < 2 ^ 64 → mix q v < 2 ^ 64
 mix_lt q v h k =
-    let a = q % 17592186044416 * 1048576 in
-    let b = q % 65536 * 281474976710656 in
-    xor_lt 64 (bit_xor v q) (bit_xor a b) (xor_lt 64 v q k h) (xor_lt 64 a b (omega arith) (omega arith))
+    let a = q * 2 ^ 20 % 2 ^ 64 in
+    let b = q * 2 ^ 48 % 2 ^ 64 in
+    xor_lt 64 (bit_xor (bit_xor v q) a) b (xor_lt 64 (bit_xor v q) a (xor_lt 64 v q k h) (omega arith)) (omega arith)
 
 mix_rows : rows (at 64 (λ u v. after (after 0 u) v)) 128 ≡ rows (at 64 (λ u v. after 0 (mix (carry u) v))) 128
 unfolding after run byte carry
@@ -103,7 +103,7 @@ mix_same : (u v : ℕ) → u < 2 ^ 64 → v < 2 ^ 64 → after (after 0 u) v ≡
 mix_same =
     let q = lin_carry first in
     same_at 64 64 (λ u v. after (after 0 u) v) (λ u v. after 0 (mix (carry u) v)) (lin8 (lin_word first) second)
-    (lin_word (lin_xor (lin_xor second q) (lin_xor (lin_mul (lin_mod q 44) 20) (lin_mul (lin_mod q 16) 48)))) mix_rows
+    (lin_word (lin_xor (lin_xor (lin_xor second q) (lin_mod (lin_mul q 20) 64)) (lin_mod (lin_mul q 48) 64))) mix_rows
 
 -- [C1] MIXED: the word stands for the words u and v
 pub mixed_law : (u v q : ℕ) → u < 2 ^ 64 → v < 2 ^ 64 → q < 2 ^ 64 → q ≡ carry u → Mixed u v (mix q v)
@@ -115,10 +115,10 @@ mixed_law u v q h k l e ys =
 -- the register that a word leaves
 abbrev reduce : ℕ → ℕ
 reduce q =
-    let r = bit_xor (bit_xor q (q / 256)) (bit_xor (q / 4194304) (q / 4294967296)) in
-    let t = bit_xor (bit_xor r (r / 16)) (bit_xor (r / 2048) (r / 65536)) in
-    let c = t % 65536 in
-    bit_xor c (bit_xor (c % 2048 * 32) (c % 16 * 4096))
+    let r = bit_xor (bit_xor (bit_xor q (q / 2 ^ 8)) (q / 2 ^ 22)) (q / 2 ^ 32) in
+    let t = bit_xor (bit_xor (bit_xor r (r / 2 ^ 4)) (r / 2 ^ 11)) (r / 2 ^ 16) in
+    let c = t % 2 ^ 16 in
+    bit_xor (bit_xor c (c * 2 ^ 5 % 2 ^ 16)) (c * 2 ^ 12 % 2 ^ 16)
 
 reduce_rows : rows (λ u. reduce (carry u)) 64 ≡ rows (after 0) 64
 unfolding after run byte carry
@@ -127,10 +127,10 @@ reduce_rows = refl
 reduce_same : (u : ℕ) → u < 2 ^ 64 → reduce (carry u) ≡ after 0 u
 reduce_same =
     let q = lin_carry lin_self in
-    let r = lin_xor (lin_xor q (lin_div q 8)) (lin_xor (lin_div q 22) (lin_div q 32)) in
-    let t = lin_xor (lin_xor r (lin_div r 4)) (lin_xor (lin_div r 11) (lin_div r 16)) in
+    let r = lin_xor (lin_xor (lin_xor q (lin_div q 8)) (lin_div q 22)) (lin_div q 32) in
+    let t = lin_xor (lin_xor (lin_xor r (lin_div r 4)) (lin_div r 11)) (lin_div r 16) in
     let c = lin_mod t 16 in
-    same (lin_xor c (lin_xor (lin_mul (lin_mod c 11) 5) (lin_mul (lin_mod c 4) 12))) (lin_word lin_self) 64 reduce_rows
+    same (lin_xor (lin_xor c (lin_mod (lin_mul c 5) 16)) (lin_mod (lin_mul c 12) 16)) (lin_word lin_self) 64 reduce_rows
 
 -- [C1] REDUCED: the register is the CRC of the word's bytes from register 0 on
 pub reduced_law : (u q : ℕ) → u < 2 ^ 64 → q ≡ carry u → (reduce q ≡ on_word u []) × (reduce q < 65536)

@@ -1,5 +1,5 @@
 -- Numbers and words in bytes: shifted, read back from their bytes, and their bytes from what was read.
-use Prim.Native.Nat.{ℕ, zero, suc, ◌+◌, ◌-◌, ◌*◌, ◌^◌, ◌<◌, ◌≤◌}
+use Prim.Native.Nat.{ℕ, zero, suc, ◌+◌, ◌*◌, ◌^◌, ◌<◌, ◌≤◌}
 use mathlib.Core.List.{List, [], ◌∷◌, ◌++◌}
 use mathlib.Core.Path.{◌≡◌, refl, sym, ap, ap₂, ◌∙◌}
 use native.Mathlib.Omega.{arith}
@@ -37,19 +37,18 @@ pub length_counts : (ns : List ℕ) → length (count_bytes ns) ≡ 2 * length n
 length_counts [] = refl
 length_counts (n ∷ ns) = omega (arith, length_counts ns)
 
--- one more word
+-- the bytes of one word less, of one word more, and one more word
 pub bytes_more : (ws : List ℕ) (j : ℕ) → j < length ws → word_bytes (drop j ws) ≡ be8 (get_or ws j 0) ++ word_bytes (drop (j + 1) ws)
 bytes_more ws j h = rw (add-one, drop-cons ws j 0)
 
-pub words_more : (n : ℕ) (b : List ℕ) (q : ℕ) → 0 < n → words_in n b q ≡ num8 b q ∷ words_in (n - 1) b (q + 8)
-words_more zero b q h = absurd (omega arith)
-words_more (suc n) b q h = let m : suc n - 1 ≡ n = omega arith in rw m
+pub bytes_so_far : (ws : List ℕ) (j : ℕ) → j < length ws → word_bytes (take (suc j) ws) ≡ word_bytes (take j ws) ++ be8 (get_or ws j 0)
+bytes_so_far [] j h = absurd (omega arith)
+bytes_so_far (w ∷ ws) zero h = refl
+bytes_so_far (w ∷ ws) (suc j) h = rw (bytes_so_far ws j (omega arith)) refl
 
--- byte after byte
-pub num8_bytes : (b : List ℕ) (q s t u v w x y z : ℕ) → s ≡ get_or b q 0 → t ≡ get_or b (q + 1) 0 → u ≡ get_or b (q + 2) 0 → v ≡ get_or b (q + 3) 0
-    → w ≡ get_or b (q + 4) 0 → x ≡ get_or b (q + 5) 0 → y ≡ get_or b (q + 6) 0 → z ≡ get_or b (q + 7) 0
-    → ((((((s * 256 + t) * 256 + u) * 256 + v) * 256 + w) * 256 + x) * 256 + y) * 256 + z ≡ num8 b q
-num8_bytes b q s t u v w x y z es et eu ev ew ex ey ez = simp add_assoc (omega arith)
+pub words_so_far : (j : ℕ) (b : List ℕ) (q r : ℕ) → r ≡ q + 8 * j → words_in (suc j) b q ≡ words_in j b q ++ (num8 b r ∷ [])
+words_so_far zero b q r e = let z : q ≡ r = omega arith in ap (λ (k : ℕ). num8 b k ∷ []) z
+words_so_far (suc j) b q r e = ap (λ (l : List ℕ). num8 b q ∷ l) (words_so_far j b (q + 8) r (omega arith))
 
 -- read back from its bytes
 pub num8_back : (v : ℕ) (r : List ℕ) → num8 (be8 v ++ r) 0 ≡ v

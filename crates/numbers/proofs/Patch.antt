@@ -1,7 +1,7 @@
 -- A part that was lent and has come back, and writing one run after the other.
 use Prim.Native.Nat.{ℕ, ◌+◌, ◌-◌, ◌≤◌, ◌<◌}
 use mathlib.Core.List.{List, [], ◌∷◌, ◌++◌, append_assoc, append-nil}
-use mathlib.Core.Path.{◌≡◌, refl, sym, ap, ◌∙◌}
+use mathlib.Core.Path.{◌≡◌, sym, ap, ◌∙◌}
 use native.Mathlib.Omega.{arith}
 use native.Mathlib.Nat.{add_assoc}
 use lib.ListN.{length, take, drop, set, length-drop, length-append, take-append-drop, drop_of_length-le}
@@ -49,8 +49,9 @@ pub lent_turn : (us vs b y whole : List ℕ) (p k : ℕ) → length us ≡ k →
     → y ≡ over us (take (length b - p) (drop p b)) → whole ≡ patch (p + k) vs (put_mid p (length b - p) b y)
 lent_turn us vs b y whole p k l h e m = e ∙ patch_more us vs b p k l h ∙ ap (patch (p + k) vs) (sym (mid_patch p us b y m))
 
--- and of one that stores a word
-pub store_turn : (x : ℕ) (vs b whole : List ℕ) (p : ℕ) → p < length b → whole ≡ patch p (x ∷ vs) b → whole ≡ patch (p + 1) vs (set b p x)
-store_turn x vs b whole p h e =
-    let l : p + 1 ≤ length b = omega arith in
-    e ∙ patch_more (x ∷ []) vs b p 1 refl (omega arith) ∙ ap (patch (p + 1) vs) (sym (sets-eq (x ∷ []) b p l ∙ simp (append_assoc, drop-drop)))
+-- a turn of a loop that stores a word behind what it has written
+pub store_over : (us b : List ℕ) (x p : ℕ) → length us ≡ p → p < length b → set (over us b) p x ≡ over (us ++ (x ∷ [])) b
+store_over us b x p e h =
+    let l : p + 1 ≤ length (over us b) = omega (arith, length_over us b (omega arith)) in
+    let s : set (over us b) p x ≡ patch p (x ∷ []) (over us b) = sets-eq (x ∷ []) (over us b) p l ∙ simp (append_assoc, drop-drop) in
+    s ∙ patch_over us (x ∷ []) b p e
