@@ -6,9 +6,11 @@ use Prim.Native.Nat.{ℕ, zero, suc, ◌+◌, ◌*◌, ◌-◌, ◌≤◌, ◌<�
 use native.Mathlib.Omega.{arith}
 use native.Mathlib.Nat.{mul-suc, mul-add, mul_comm, mul-le-mul_left}
 use lib.Dec.{leb, eqb}
+use Rattle.std.specs.Prelude.{nat_eq}
+use lib.Pointwise.{pointwise}
 use borrow.Author.Tests.{lt-ltb, le-ltb, le-leb, lt-leb, eq-eqb, ne_eqb}
-use lib.ListN.{length, get_or, take, drop}
-use lib.Seq.{drop-cons, drop-drop}
+use lib.ListN.{length, get_or, drop}
+use lib.Seq.{drop-drop}
 use Rattle.entries.specs.Build.{andb, pick, same_words}
 use Rattle.entries.specs.Entries.{Entry}
 use Rattle.blocks.specs.declared.Layout.{Layout}
@@ -16,33 +18,12 @@ use Rattle.blocks.specs.Blocks.{item_of, items_of, capacity, fine, soundb, verdi
 use Rattle.blocks.proofs.Moves.{item_drop}
 use Rattle.blocks.specs.Steps.{item_from}
 
--- the words left to compare
-module _ (a b : List ℕ) (p q len : ℕ) where
-  abbrev pub left : ℕ → Bool
-  left k = same_words (take (len - k) (drop (p + k) a)) (take (len - k) (drop (q + k) b))
-
-  pub left_all : left 0 ≡ same_words (take len (drop p a)) (take len (drop q b))
-  left_all =
-      let e : len - 0 ≡ len = omega arith in let f : p + 0 ≡ p = omega arith in let g : q + 0 ≡ q = omega arith in
-      rw (e, f, g)
-
-  pub left_none : (k : ℕ) → len ≤ k → left k ≡ true
-  left_none k h = let e : len - k ≡ 0 = omega arith in rw e
-
-  module _ (ha : p + len ≤ length a) (hb : q + len ≤ length b) (k : ℕ) (h : k < len) where
-    one : left k ≡ andb (eqb (get_or a (p + k) 0) (get_or b (q + k) 0)) (left (k + 1))
-    one =
-        let e : len - k ≡ suc (len - (k + 1)) = omega arith in
-        let f : suc (p + k) ≡ p + (k + 1) = omega arith in
-        let g : suc (q + k) ≡ q + (k + 1) = omega arith in
-        ap₂ (λ (x y : List ℕ). same_words (take (len - k) x) (take (len - k) y)) (drop-cons a (p + k) 0 (omega arith)) (drop-cons b (q + k) 0 (omega arith))
-        ∙ rw (e, f, g)
-
-    pub left_more : get_or a (p + k) 0 ≡ get_or b (q + k) 0 → left (k + 1) ≡ left k
-    left_more e = sym (one ∙ ap (λ (t : Bool). andb t (left (k + 1))) (eq-eqb (get_or a (p + k) 0) (get_or b (q + k) 0) e))
-
-    pub left_differ : (get_or a (p + k) 0 ≡ get_or b (q + k) 0 → ⊥) → false ≡ left k
-    left_differ e = sym (one ∙ ap (λ (t : Bool). andb t (left (k + 1))) (ne_eqb (get_or a (p + k) 0) (get_or b (q + k) 0) e))
+-- two lists of words compared as the library does
+pub same_pointwise : (a b : List ℕ) → pointwise nat_eq a b ≡ same_words a b
+same_pointwise [] [] = refl
+same_pointwise [] (y ∷ b) = refl
+same_pointwise (x ∷ a) [] = refl
+same_pointwise (x ∷ a) (y ∷ b) = rw (same_pointwise a b) refl
 
 -- an item and the next, by the tests in turn
 module _ (e f : Entry) where
@@ -134,6 +115,29 @@ module _ (s : ℕ) (w : List ℕ) where
       unit : (t : Bool) → andb (andb t true) true ≡ t
       unit true = refl
       unit false = refl
+
+  -- the items from the one before index i on, of n
+  abbrev pub from_before : ℕ → ℕ → Bool
+  from_before n i = rest (s * (i - 1) + 1) (n - (i - 1))
+
+  pub from_first : (n : ℕ) → from_before n 1 ≡ rest 1 n
+  from_first n =
+      let z : s * (1 - 1) + 1 ≡ 1 = omega arith in
+      let y : n - (1 - 1) ≡ n = omega arith in ap₂ rest z y
+
+  module _ (n i : ℕ) (h : 1 ≤ i) (l : i < n) (t : Bool) (e : t ≡ fine (item_from s w (s * (i - 1) + 1)) (item_from s w (s * (i - 1) + 1 + s) ∷ [])) where
+    pub from_next : t ≡ true → from_before n (i + 1) ≡ from_before n i
+    from_next f =
+        let m : (i + 1) - 1 ≡ suc (i - 1) = omega arith in
+        let p : s * ((i + 1) - 1) + 1 ≡ s * (i - 1) + 1 + s = omega (arith, ap (λ (k : ℕ). s * k) m, mul-suc s (i - 1)) in
+        let q : n - ((i + 1) - 1) ≡ n - (i - 1) - 1 = omega arith in
+        ap₂ rest p q ∙ rest_more (s * (i - 1) + 1) (n - (i - 1)) t (omega arith) e f
+
+    pub from_bad : t ≡ false → false ≡ from_before n i
+    from_bad f = rest_bad (s * (i - 1) + 1) (n - (i - 1)) t (omega arith) e f
+
+  pub from_last : (n i : ℕ) → i ≡ n → (n ≡ 0 → ⊥) → leb (get_or w (s * (n - 1) + 1) 0) (get_or w (s * (n - 1) + 1 + 1) 0) ≡ from_before n i
+  from_last n i e h = rw e (rest_one (s * (n - 1) + 1) (n - (n - 1)) (omega arith))
 
 -- the verdict, by the tests of the code
 module _ (l : Layout) (m : List ℕ) where

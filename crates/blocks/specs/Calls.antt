@@ -1,8 +1,7 @@
 -- The refusals that every call on blocks tries, and what it leaves where it writes one.
 use Rattle.std.specs.Prelude.{List, [], ◌∷◌, ℕ, ltb, eqb, length}
 use Rattle.entries.specs.Entries.{Entry}
-use Rattle.answers.specs.Answers.{Outcome, outcome, given, at, applies, in_turn}
-use Rattle.answers.specs.declared.Finding.{Finding}
+use Rattle.answers.specs.Answers.{Outcome, outcome, given, at, applies, in_turn, Finding}
 use Rattle.blocks.specs.declared.Layout.{Layout}
 use Rattle.blocks.specs.Blocks.{capacity, block_of, verdict}
 

@@ -18,13 +18,6 @@ pub record Held (s n : ℕ) (w : List ℕ) : Type 0 where
   pub two : 2 ≤ s
   pub held : 1 + s * n ≤ length w
 
--- ws' is base, but that for lo ≤ k < hi word to + k is src's word from + k
-pub record Copied (src base : List ℕ) (from to lo hi : ℕ) (ws' : List ℕ) : Type 0 where
-  pub same : length ws' ≡ length base
-  pub before : (k : ℕ) → k < to + lo → get_or ws' k 0 ≡ get_or base k 0
-  pub moved : (k : ℕ) → lo ≤ k → k < hi → get_or ws' (to + k) 0 ≡ get_or src (from + k) 0
-  pub after : (k : ℕ) → to + hi ≤ k → get_or ws' k 0 ≡ get_or base k 0
-
 -- every word from `from` on is 0, and each before is as it was
 pub record Cleared (ws : List ℕ) (from : ℕ) (ws' : List ℕ) : Type 0 where
   pub same : length ws' ≡ length ws

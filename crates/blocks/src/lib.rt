@@ -1,14 +1,14 @@
 // Blocks of words: judged, and moved within. A layout says how many words an item takes, two in a set and three in a map.
 #![tactic(auto)]
 
-ghost use Rattle.std.specs.Prelude.{◌≡◌, ◌+◌, ◌<◌, ◌≤◌, [], ◌∷◌, length, get_or, take, drop};
+ghost use Rattle.std.specs.Prelude.{◌≡◌, ℕ, ◌+◌, ◌<◌, ◌≤◌, [], ◌∷◌, length, get_or, take, drop};
 ghost use Rattle.entries.specs.Build.{pick, same_words};
-ghost use Rattle.blocks.specs.Blocks.{items_of, capacity, fine, soundb, verdict};
+ghost use Rattle.blocks.specs.Blocks.{items_of, capacity, fine, soundb};
 ghost use Rattle.answers.specs.Steps.{FirstOf};
-ghost use Rattle.blocks.specs.Calls.{input};
-ghost use Rattle.blocks.specs.Steps.{item_from, Held, Copied, Cleared, Spliced};
+ghost use Rattle.blocks.specs.Calls.{input, output};
+ghost use Rattle.blocks.specs.Steps.{item_from, Held, Cleared, Spliced};
 
-use answers::Finding;
+use answers::{Reason, Refusal};
 
 // The last number that a word says, 2^64 - 1.
 pub const M: u64 = 18446744073709551615;
@@ -47,42 +47,13 @@ pub fn chosen(test: bool, then: usize, otherwise: usize) -> usize
     if test { then } else { otherwise }
 }
 
-// A word as a count or a place: the same number.
-pub fn wide(x: u64) -> usize
-    ensures { result ≡ x }
-{
-    x as usize
-}
-
-// A count or a place as a word: the same number.
-pub fn narrow(x: usize) -> u64
-    ensures { result ≡ x }
-{
-    x as u64
-}
-
-// The word at place k.
-pub fn word(block: &[u64], k: usize) -> u64
-    requires { k < length block.now }
-    ensures { result ≡ get_or block.now k 0 }
-{
-    block[k]
-}
-
 // Whether len words of a from p on are those of b from q on.
+#[tactic(auto, using(crate::proofs::Tests::same_pointwise))]
 pub fn same_words(a: &[u64], p: usize, b: &[u64], q: usize, len: usize) -> bool
     requires { (p + len ≤ length a.now) × (q + len ≤ length b.now) }
     ensures { result ≡ same_words (take len (drop p a.now)) (take len (drop q b.now)) }
 {
-    let mut k: usize = 0;
-    while k < len {
-        if word(a, p + k) == word(b, q + k) {
-            k += 1;
-        } else {
-            return false;
-        }
-    }
-    true
+    a[p..p + len] == b[q..q + len]
 }
 
 // Whether the item at word p has its low at most its high, and the next one may stand after it: it begins past that high, and
@@ -92,22 +63,19 @@ fn follows(block: &[u64], s: usize, p: usize) -> bool
     requires { (2 ≤ s) × (p + s + s ≤ length block.now) }
     ensures { result ≡ fine (item_from s block.now p) (item_from s block.now (p + s) ∷ []) }
 {
-    let low = word(block, p);
-    let high = word(block, p + 1);
+    let low = block[p];
+    let high = block[p + 1];
     if high < low {
         return false;
     }
-    let next = word(block, p + s);
+    let next = block[p + s];
     if next <= high {
         return false;
     }
     if 1 < next - high {
         return true;
     }
-    if same_words(block, p + 2, block, p + s + 2, s - 2) {
-        return false;
-    }
-    true
+    !same_words(block, p + 2, block, p + s + 2, s - 2)
 }
 
 // Whether the n items of s words are sound: each in order, and each may stand after the one before it.
@@ -115,21 +83,16 @@ fn items_sound(block: &[u64], s: usize, n: usize) -> bool
     requires { Held s n block.now }
     ensures { result ≡ soundb (items_of s n (drop 1 block.now)) }
 {
-    let mut p: usize = 1;
-    let mut left = n;
-    while 1 < left {
-        if follows(block, s, p) {
-            p += s;
-            left -= 1;
-        } else {
+    for i in 1..n {
+        if !follows(block, s, s * (i - 1) + 1) {
             return false;
         }
     }
-    if left == 0 {
+    if n == 0 {
         return true;
     }
-    let low = word(block, p);
-    low <= word(block, p + 1)
+    let last = s * (n - 1) + 1;
+    block[last] <= block[last + 1]
 }
 
 // The same, with the words of a range told apart: where every item has two, the compiler knows how far it is to the next.
@@ -143,99 +106,71 @@ fn all_sound(block: &[u64], s: usize, n: usize) -> bool
     items_sound(block, s, n)
 }
 
-// The judge of any words lent as a block: 0 where they are a sound block of the layout, else the number of the refusal, 1, 2 or 3.
-pub fn judge(block: &[u64], layout: Layout) -> u8
+// The judge of any words lent as a block at a position of a call: accepted where they are a sound block of the layout, else its refusal.
+pub fn judge(block: &[u64], layout: Layout, position: usize) -> Result<(), Refusal>
     requires { 2 ≤ layout.width }
-    ensures { result ≡ verdict layout block.now }
+    ensures { FirstOf (input position layout block.now ∷ []) result }
 {
     if block.len() == 0 {
-        return 1;
+        return Err(Reason::NoBlock.at(position));
     }
-    let n = wide(word(block, 0));
+    let n = block[0] as usize;
     if room_for(layout, block.len()) < n {
-        return 2;
+        return Err(Reason::Count.at(position));
     }
     if all_sound(block, layout.width, n) {
-        return 0;
+        return Ok(());
     }
-    3
+    Err(Reason::Order.at(position))
 }
 
 // The first refusal of two blocks that are read, the first of which stands at a position.
-pub fn judge_two(a: &[u64], first: Layout, b: &[u64], second: Layout, position: usize) -> Finding
+#[tactic(auto, using(answers::proofs::Turns::stop_first, answers::proofs::Turns::pass_first))]
+pub fn judge_two(
+    a: &[u64],
+    first: Layout,
+    b: &[u64],
+    second: Layout,
+    position: usize,
+) -> Result<(), Refusal>
     requires { (2 ≤ first.width) × (2 ≤ second.width) × (position < 8) }
     ensures { FirstOf (input position first a.now ∷ input (position + 1) second b.now ∷ []) result }
 {
-    let v = judge(a, first);
-    if v != 0 {
-        return Finding {
-            number: v,
-            place: position,
-        };
-    }
-    let u = judge(b, second);
-    Finding {
-        number: u,
-        place: position + 1,
-    }
+    judge(a, first, position)?;
+    judge(b, second, position + 1)
 }
 
-// Moves the len words from `from` on down to `to`.
-fn shift_down(block: &mut [u64], from: usize, to: usize, len: usize)
-    requires { (to ≤ from) × (from + len ≤ length block.old) }
-    ensures { Copied block.old block.old from to 0 len block.new }
+// The judge of a block of so many words that is to be written, at a position of a call: its old words are not looked at.
+#[tactic(auto, using(crate::proofs::Refusing::output_empty, crate::proofs::Refusing::output_some))]
+pub fn judge_output(words: usize, position: usize) -> Result<(), Refusal>
+    ensures { FirstOf (output position words ∷ []) result }
 {
-    let mut k: usize = 0;
-    while k < len {
-        block[to + k] = block[from + k];
-        k += 1;
+    if words == 0 {
+        return Err(Reason::NoBlock.at(position));
     }
-}
-
-// Moves the len words from `from` on up to `to`.
-fn shift_up(block: &mut [u64], from: usize, to: usize, len: usize)
-    requires { (from ≤ to) × (to + len ≤ length block.old) }
-    ensures { Copied block.old block.old from to 0 len block.new }
-{
-    let mut k = len;
-    while 0 < k {
-        k -= 1;
-        block[to + k] = block[from + k];
-    }
-}
-
-// Moves the len words from `from` on to `to`.
-fn shift(block: &mut [u64], from: usize, to: usize, len: usize)
-    requires { (from + len ≤ length block.old) × (to + len ≤ length block.old) }
-    ensures { Copied block.old block.old from to 0 len block.new }
-{
-    if to < from {
-        shift_down(block, from, to, len);
-        return;
-    }
-    shift_up(block, from, to, len);
-}
-
-// Writes new to block from `to` on.
-fn paste(block: &mut [u64], to: usize, new: &[u64])
-    requires { to + length new.now ≤ length block.old }
-    ensures { Copied new.now block.old 0 to 0 (length new.now) block.new }
-{
-    let mut k: usize = 0;
-    while k < new.len() {
-        block[to + k] = new[k];
-        k += 1;
-    }
+    Ok(())
 }
 
 // Writes 0 to every word from `from` on.
+#[tactic(auto, using(crate::proofs::Copying::cleared_none))]
 pub fn clear(block: &mut [u64], from: usize)
     ensures { Cleared block.old from block.new }
 {
-    let mut k = from;
-    while k < block.len() {
-        block[k] = 0;
-        k += 1;
+    if from < block.len() {
+        block[from..].fill(0);
+    }
+}
+
+// Writes new to block from `at` on. The loop needs no function of the host's, as copy_from_slice would (memmove).
+fn paste(block: &mut [u64], at: usize, new: &[u64])
+    requires { at + length new.now ≤ length block.old }
+    ensures len { length block.new ≡ length block.old }
+    ensures before { (k : ℕ) → k < at → get_or block.new k 0 ≡ get_or block.old k 0 }
+    ensures here { (k : ℕ) → k < length new.now → get_or block.new (at + k) 0 ≡ get_or new.now k 0 }
+    ensures after { (k : ℕ) → at + length new.now ≤ k → get_or block.new k 0 ≡ get_or block.old k 0 }
+{
+    for k in 0..new.len() {
+        block[at + k] = new[k];
     }
 }
 
@@ -247,9 +182,8 @@ pub fn splice(block: &mut [u64], new: &[u64], at: usize, from: usize, end: usize
         × Spliced block.old new.now at from end count block.new }
 {
     let to = at + new.len();
-    let len = end - from;
-    shift(block, from, to, len);
+    block.copy_within(from..end, to);
     paste(block, at, new);
     block[0] = count;
-    clear(block, to + len);
+    clear(block, to + (end - from));
 }
