@@ -12,9 +12,10 @@ use Rattle.blocks.specs.declared.Layout.{Layout}
 use Rattle.blocks.specs.Blocks.{entries_of, items_of, SoundBlock}
 use Rattle.blocks.specs.Steps.{zero_item, item_at, Held}
 use Rattle.blocks.proofs.Words.{items_length}
+use Rattle.blocks.proofs.Tests.{item_in}
 use Rattle.blocks.proofs.Moves.{entry_at}
 use Rattle.blocks.proofs.Items.{entries_count, entry_is, held}
-use Rattle.searches.specs.Steps.{Rises, First, Sorted, FirstFrom}
+use Rattle.searches.specs.Steps.{Rises, Rising, First, Sorted, FirstFrom}
 
 same_or_later : (f : ℕ → ℕ) (i j : ℕ) → i ≤ j → (i < j → f i ≤ f j) → f i ≤ f j
 same_or_later f i j p later = go (dec_lt i j)
@@ -72,6 +73,17 @@ module _ {s n : ℕ} {w : List ℕ} (h : Held s n w) (t : Sound (items_of s n (d
     within = h.two;
     rises = also_rises zero_item es n count (λ k. get_or w (s * k + 2) 0) (λ e. e.high) high_at (highs_rise zero_item es t);
   }
+
+-- what halving asks of sorted highs: their words are in the block, and do not fall
+module _ {s n : ℕ} {w : List ℕ} (h : Sorted s 2 n w) where
+  pub highs_rising : Rising (λ k. get_or w (s * k + 2) 0) n
+  highs_rising = record { rises = h.rises }
+
+  pub high_word : (k : ℕ) → k < n → s * k + 2 < length w
+  high_word k l = omega (arith, item_in s k n l, h.held, h.two)
+
+  pub high_place : (k : ℕ) → k < n → s * k < length w
+  high_place k l = omega (arith, item_in s k n l, h.held, h.two)
 
 -- of a sound block
 module _ {l : Layout} {w : List ℕ} (two : 2 ≤ l.width) (b : SoundBlock l w) {n : ℕ} (e : n ≡ get_or w 0 0) where

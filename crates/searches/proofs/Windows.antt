@@ -15,20 +15,25 @@ use Rattle.entries.specs.Sets.{has}
 use Rattle.entries.specs.Build.{pick}
 use Rattle.entries.specs.Questions.{meeting, wholly_below}
 use Rattle.entries.proofs.Windows.{Passed, Begun, meeting_part, in_order as ends-in-order}
-use Rattle.answers.specs.Answers.{Outcome, outcome, given, refused, judged, at, applies, handed, in_turn, Clear}
+use Rattle.answers.specs.Answers.{Outcome, outcome, given, refused, judged, applies, handed, in_turn, Clear}
 use Rattle.answers.specs.Steps.{FirstOf}
-use Rattle.answers.proofs.Turns.{stops, passes, ends, bare, turn_bare}
+use Rattle.std.specs.Prelude.{Ok, Err}
+use Rattle.answers.specs.declared.Reason.TheVariants.{Backwards}
+use Rattle.answers.specs.declared.Refusal.{Refusal}
+use Rattle.answers.specs.Says.{at_place}
+use Rattle.answers.proofs.Turns.{stops, ends, stop_first, pass_first, bare, turn_bare}
 use Rattle.blocks.specs.declared.Layout.{Layout}
 use Rattle.blocks.specs.Blocks.{entries_of, items_of, words_of, verdict}
 use Rattle.blocks.specs.Steps.{zero_item}
-use Rattle.blocks.specs.Calls.{backwards}
+use Rattle.blocks.specs.Calls.{input, backwards}
 use Rattle.blocks.proofs.Refusing.{in_order}
 use Rattle.blocks.proofs.Items.{entries_count, held}
-use Rattle.blocks.proofs.Judging.{verdict_small, verdict_sound}
+use Rattle.blocks.proofs.Judging.{verdict_sound}
 use Rattle.blocks.proofs.Words.{items_drop, items_take, write_back}
 use Rattle.searches.specs.Calls.{window_part, window_refusals, window_call, window_at_call, window_refusal_call}
-use Rattle.searches.specs.declared.Part.{Part}
+use Rattle.answers.specs.declared.Part.{Part}
 use Rattle.searches.specs.Parts.{part, no_part, words_at, IsPart, part_says}
+use Rattle.searches.specs.declared.Spot.{Spot}
 use Rattle.searches.specs.Steps.{FirstFrom, SpotOf, Windowed, PartOf}
 use Rattle.searches.proofs.Finding.{passed, begun}
 use Rattle.searches.proofs.Spots.{below_is, spot_first}
@@ -101,6 +106,11 @@ module _ {l : Layout} {w : List ℕ} {a b : ℕ} (g : Windowed l w a b) {n i j :
       dropped : drop i es ≡ items_of s (n - i) behind
       dropped = ap (λ (k : ℕ). drop i (items_of s k (drop 1 w))) (sym e) ∙ items_drop s g.two n i (drop 1 w) p.within
 
+-- the two items that were found stand in order, and in the block
+pub found : {l : Layout} {w : List ℕ} {a b : ℕ} → Windowed l w a b → {f g : Spot} {e : ℕ} → SpotOf l w a f → SpotOf l w b g
+    → e ≡ pick g.inside (g.below + 1) g.below → Spanned l.width f.below e w
+found p sf sg q = spanned p refl (spot_first p.two p.block sf) (begun_by p.two p.block sg q)
+
 -- [S6, M7] the window holds exactly the words of the items that share a number with a..b, in order
 pub window_words : {l : Layout} {w : List ℕ} {a b : ℕ} → Windowed l w a b
     → words_at w (window_part l.width w a b) ≡ words_of (meeting a b (entries_of l.width w))
@@ -110,19 +120,17 @@ window_words {l} {w} {a} {b} g = words_are g refl (spot_first g.two g.block (sit
     sits x = record { below = refl; inside = refl }
 
 -- the refusals of a window, by the tests of the code
-module _ (l : Layout) (w : List ℕ) (a b : ℕ) {v : ℕ} (e : v ≡ verdict l w) where
-  pub window_refused : (v ≡ 0 → ⊥) → FirstOf (window_refusals l w a b) (at 0 v)
-  window_refused n = stops v (verdict l w) 0 (backwards a b ∷ []) e (verdict_small l w) n
+module _ (l : Layout) (w : List ℕ) (a b : ℕ) where
+  pub window_refused : (e : Refusal) → FirstOf (input 0 l w ∷ []) (Err e) → FirstOf (window_refusals l w a b) (Err e)
+  window_refused e f = stop_first (input 0 l w) (backwards a b ∷ []) e f
 
-  pub window_backwards : v ≡ 0 → b < a → FirstOf (window_refusals l w a b) (at 0 4)
-  window_backwards z h =
-      passes (verdict l w) 0 (backwards a b ∷ []) (at 0 4) (sym e ∙ z)
-      (ends 4 (applies (ltb b a) 4) 0 (rw (lt-ltb b a h)) (rw (lt-ltb b a h) (omega arith)))
+  module _ (u : Unit {0}) (f : FirstOf (input 0 l w ∷ []) (Ok u)) where
+    pub window_backwards : (e : Refusal) → e ≡ at_place Backwards 0 → b < a → FirstOf (window_refusals l w a b) (Err e)
+    window_backwards e q h =
+        pass_first (input 0 l w) (backwards a b ∷ []) u (Err e) f (stops Backwards e (applies (ltb b a) 4) 0 [] q (rw (lt-ltb b a h) refl))
 
-  pub window_right : v ≡ 0 → a ≤ b → FirstOf (window_refusals l w a b) (at 0 0)
-  window_right z h =
-      passes (verdict l w) 0 (backwards a b ∷ []) (at 0 0) (sym e ∙ z)
-      (ends 0 (applies (ltb b a) 4) 0 (rw (le-ltb b a h)) (rw (le-ltb b a h) (omega arith)))
+    pub window_right : a ≤ b → FirstOf (window_refusals l w a b) (Ok tt)
+    window_right h = pass_first (input 0 l w) (backwards a b ∷ []) u (Ok tt) f (ends (applies (ltb b a) 4) 0 (rw (le-ltb b a h) refl))
 
 pub clear_window : (l : Layout) (w : List ℕ) (a b : ℕ) → 2 ≤ l.width → Clear (window_refusals l w a b) → Windowed l w a b
 clear_window l w a b two c = record { two = two; block = verdict_sound l w c.0; order = in_order a b c.1.0 }

@@ -4,12 +4,12 @@ use Rattle.std.specs.Prelude.{List, [], ◌∷◌, ℕ, ◌+◌, ◌*◌, length
 use Rattle.entries.specs.Entries.{Entry}
 use Rattle.entries.specs.Questions.{meeting, wholly_below}
 use Rattle.entries.specs.Bulletins.{shareb}
-use Rattle.answers.specs.declared.Finding.{Finding}
+use Rattle.answers.specs.Answers.{Finding}
 use Rattle.answers.specs.Answers.{Outcome, outcome, given, at, applies, in_turn, handed}
 use Rattle.blocks.specs.declared.Layout.{Layout}
 use Rattle.blocks.specs.Blocks.{entries_of}
 use Rattle.blocks.specs.Calls.{input, backwards}
-use Rattle.searches.specs.declared.Part.{Part}
+use Rattle.answers.specs.declared.Part.{Part}
 use Rattle.searches.specs.Parts.{part, no_part, part_says}
 
 -- where the part of a window begins in the block: behind the count and the ranges wholly below a

@@ -3,7 +3,7 @@ use Rattle.std.specs.Prelude.{◌≡◌, List, [], ◌∷◌, ℕ, ◌+◌, ◌*
 use Rattle.std.specs.Borrow.{Bor}
 use Rattle.entries.specs.Build.{pick}
 use Rattle.answers.specs.Answers.{Answer, given}
-use Rattle.searches.specs.declared.Part.{Part}
+use Rattle.answers.specs.declared.Part.{Part}
 
 -- the part of so many words that begins at a word of its block, counted from 0
 abbrev pub part : ℕ → ℕ → Part

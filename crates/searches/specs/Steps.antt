@@ -7,12 +7,15 @@ use Rattle.entries.specs.Questions.{wholly_below}
 use Rattle.blocks.specs.declared.Layout.{Layout}
 use Rattle.blocks.specs.Blocks.{entries_of, SoundBlock}
 use Rattle.searches.specs.Calls.{window_place, window_length, window_part}
-use Rattle.searches.specs.declared.Part.{Part}
+use Rattle.answers.specs.declared.Part.{Part}
 use Rattle.searches.specs.declared.Spot.{Spot}
 
 -- f does not fall on 0..n-1
 abbrev pub Rises : (ℕ → ℕ) → ℕ → Type 0
 Rises f n = (i j : ℕ) → i ≤ j → j < n → f i ≤ f j
+
+pub record Rising (f : ℕ → ℕ) (n : ℕ) : Type 0 where
+  pub rises : Rises f n
 
 -- r is the first of 0..n-1 at which f is at least x, or n
 pub record First (f : ℕ → ℕ) (n x r : ℕ) : Type 0 where

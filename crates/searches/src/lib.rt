@@ -1,25 +1,18 @@
 // Finding a place in a judged block: where a number sits, the items that meet a window, and whether two sets share a number.
 #![tactic(auto)]
 
-ghost use Rattle.std.specs.Prelude.{◌≡◌, [], ◌+◌, ◌≤◌, ◌<◌, length, get_or};
+ghost use Rattle.std.specs.Prelude.{ℕ, ◌≡◌, [], ◌+◌, ◌≤◌, ◌<◌, length, get_or};
 ghost use Rattle.entries.specs.Bulletins.{shareb};
-ghost use Rattle.answers.specs.Answers.{outcome, at};
+ghost use Rattle.answers.specs.Answers.{outcome};
 ghost use Rattle.answers.specs.Says.{judged_says, parted_says};
 ghost use Rattle.answers.specs.Steps.{FirstOf};
 ghost use Rattle.blocks.specs.Blocks.{SoundBlock, set_layout, entries_of};
 ghost use Rattle.searches.specs.Calls.{window_part, window_refusals, window_refusal_call, window_call, window_at_call};
 ghost use Rattle.searches.specs.Parts.{IsPart};
-ghost use Rattle.searches.specs.Steps.{Sorted, FirstFrom, SpotOf, EntryOf, Windowed, PartOf};
+ghost use Rattle.searches.specs.Steps.{Rising, First, Sorted, FirstFrom, SpotOf, EntryOf, Windowed, PartOf};
 
-use answers::{Judged, Parted};
+use answers::{Part, Reason, Refusal};
 use blocks::Layout;
-
-// A part of a block: where it begins, and its words.
-#[derive(Clone, Copy)]
-pub struct Part {
-    pub place: usize,
-    pub length: usize,
-}
 
 // Where a number sits in a block: how many items lie wholly below it, and whether the next one holds it.
 #[derive(Clone, Copy)]
@@ -33,24 +26,35 @@ pub fn count_of(block: &[u64]) -> usize
     requires { 0 < length block.now }
     ensures { result ≡ get_or block.now 0 0 }
 {
-    blocks::wide(blocks::word(block, 0))
+    block[0] as usize
 }
 
-// [L1] The first of n items of s words whose high is at least x, or n. The highs do not fall, and it is found by halving, in 12 steps at
-// most among 4,095. A step is a choice and not a branch, which no predictor could foretell.
-fn first_from(block: &[u64], s: usize, n: usize, x: u64) -> usize
-    requires { Sorted s 2 n block.now }
-    ensures { FirstFrom block.now s 2 n x result }
+// [L1] The first of n numbers that is at least x, or n. They do not fall, and it is found by halving, in 12 steps at most among 4,095. A
+// step is a choice and not a branch, which no predictor could foretell.
+pub fn first_reaching<F: Fn(usize) -> u64>(n: usize, x: u64, number: F) -> usize
+    ghost numbers: { ℕ → ℕ }
+    requires asked { (k : ℕ) → k < n → F.pre number k }
+    requires told { (k v : ℕ) → k < n → F.post number k v → v ≡ numbers k }
+    requires rising { Rising numbers n }
+    ensures { First numbers n x result }
 {
     let mut low: usize = 0;
     let mut high = n;
     while low < high {
         let middle = low + (high - low) / 2;
-        let under = blocks::word(block, s * middle + 2) < x;
+        let under = number(middle) < x;
         low = blocks::chosen(under, middle + 1, low);
         high = blocks::chosen(under, high, middle);
     }
     low
+}
+
+// The first of n items of s words whose high is at least x, or n.
+fn first_from(block: &[u64], s: usize, n: usize, x: u64) -> usize
+    requires { Sorted s 2 n block.now }
+    ensures { FirstFrom block.now s 2 n x result }
+{
+    first_reaching(n, x, |k| block[s * k + 2])
 }
 
 // [W2] Where x sits in a sound block: how many items lie wholly below it, and whether one holds it. This is the one search of blocks: every
@@ -67,7 +71,7 @@ pub fn spot_of(block: &[u64], layout: Layout, x: u64) -> Spot
             inside: false,
         };
     }
-    let low = blocks::word(block, layout.width * below + 1);
+    let low = block[layout.width * below + 1];
     Spot {
         below,
         inside: low <= x,
@@ -81,7 +85,7 @@ pub fn begun_before(block: &[u64], layout: Layout, x: u64) -> usize
 {
     let spot = spot_of(block, layout, x);
     if spot.inside {
-        let low = blocks::word(block, layout.width * spot.below + 1);
+        let low = block[layout.width * spot.below + 1];
         return blocks::chosen(low < x, spot.below + 1, spot.below);
     }
     spot.below
@@ -94,7 +98,7 @@ pub fn ended_by(block: &[u64], layout: Layout, x: u64) -> usize
 {
     let spot = spot_of(block, layout, x);
     if spot.inside {
-        let high = blocks::word(block, layout.width * spot.below + 2);
+        let high = block[layout.width * spot.below + 2];
         return blocks::chosen(high == x, spot.below + 1, spot.below);
     }
     spot.below
@@ -116,27 +120,18 @@ pub fn entry_part(block: &[u64], layout: Layout, x: u64) -> Part
     Part { place, length: 0 }
 }
 
-// The number of the first refusal of the window a..b of a block: 1, 2, 3 of the block, then 4; 0 where there is none.
-pub fn window_verdict(block: &[u64], layout: Layout, a: u64, b: u64) -> u8
+// The refusal of the window a..b of any words lent as a block, or that there is none: 1, 2, 3 of the block, then 4.
+#[tactic(auto, using(crate::proofs::Windows::window_refused, crate::proofs::Windows::window_backwards, crate::proofs::Windows::window_right, answers::proofs::Turns::answered_by), unfolding(crate::specs::Calls::window_refusal_call))]
+pub fn window_refusal(block: &[u64], layout: Layout, a: u64, b: u64) -> Result<(), Refusal>
     requires { 2 ≤ layout.width }
-    ensures { FirstOf (window_refusals layout block.now a b) (at 0 result) }
+    ensures first { FirstOf (window_refusals layout block.now a b) result }
+    ensures says { outcome (judged_says result) [] ≡ window_refusal_call layout block.now a b }
 {
-    let v = blocks::judge(block, layout);
-    if v != 0 {
-        return v;
-    }
+    blocks::judge(block, layout, 0)?;
     if b < a {
-        return 4;
+        return Err(Reason::Backwards.at(0));
     }
-    0
-}
-
-// The refusal of the window a..b of any words lent as a block, or that there is none.
-pub fn window_refusal(block: &[u64], layout: Layout, a: u64, b: u64) -> Judged
-    requires { 2 ≤ layout.width }
-    ensures { outcome (judged_says result) [] ≡ window_refusal_call layout block.now a b }
-{
-    answers::judged_of(window_verdict(block, layout, a, b), 0)
+    Ok(())
 }
 
 // Where in a sound block the items that share a number with a..b stand, and how many words they take.
@@ -171,27 +166,24 @@ pub fn window(block: &[u64], layout: Layout, a: u64, b: u64) -> &[u64]
     requires { 2 ≤ layout.width }
     ensures { IsPart block.entry result (window_call layout block.now a b) }
 {
-    if window_verdict(block, layout, a, b) != 0 {
-        return &block[0..0];
+    match window_refusal(block, layout, a, b) {
+        Ok(_) => meeting(block, layout, a, b),
+        Err(_) => &block[0..0],
     }
-    meeting(block, layout, a, b)
 }
 
 // The same part, as its place and its length; or that it is empty.
-#[tactic(auto, using(answers::proofs::Turns::refusal_by, answers::proofs::Turns::given_by, crate::proofs::Windows::clear_window, crate::proofs::Windows::part_empty, crate::proofs::Windows::part_some), unfolding(crate::specs::Calls::window_at_call, crate::specs::Calls::window_at_call, crate::specs::Calls::window_at_call))]
-pub fn window_at(block: &[u64], layout: Layout, a: u64, b: u64) -> Parted
+#[tactic(auto, using(answers::proofs::Turns::refused_by, answers::proofs::Turns::given_by, crate::proofs::Windows::part_empty, crate::proofs::Windows::part_some), unfolding(crate::specs::Calls::window_at_call))]
+pub fn window_at(block: &[u64], layout: Layout, a: u64, b: u64) -> Result<Option<Part>, Refusal>
     requires { 2 ≤ layout.width }
     ensures { outcome (parted_says result) [] ≡ window_at_call layout block.now a b }
 {
-    let v = window_verdict(block, layout, a, b);
-    if v != 0 {
-        return Parted::Refused(answers::refusal_of(v, 0));
-    }
+    window_refusal(block, layout, a, b)?;
     let p = part_at(block, layout, a, b);
     if p.length == 0 {
-        return Parted::Nothing;
+        return Ok(None);
     }
-    Parted::Part(p.place, p.length)
+    Ok(Some(p))
 }
 
 // Whether two sound sets share a number: at each step one range is wholly below another and is passed, or they share one.
@@ -207,8 +199,8 @@ pub fn share_number(a: &[u64], b: &[u64]) -> bool
         if others == 0 {
             return false;
         }
-        let below = blocks::word(a, i + 1) < blocks::word(b, j);
-        let above = blocks::word(b, j + 1) < blocks::word(a, i);
+        let below = a[i + 1] < b[j];
+        let above = b[j + 1] < a[i];
         if below == above {
             return true;
         }
