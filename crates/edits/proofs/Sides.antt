@@ -17,7 +17,7 @@ use Rattle.entries.specs.Build.{with, put, same_words}
 use Rattle.entries.proofs.Put.{put_is, put_some, put_none, cap, trim_end, trim_start, Left, Right, JoinsLeft, JoinsRight, cut_here, join_before}
 use Rattle.entries.proofs.Put.{cut_there, join_after}
 use Rattle.blocks.specs.declared.Layout.{Layout}
-use Rattle.blocks.specs.Blocks.{items_of, entries_of, capacity, block_of, verdict}
+use Rattle.blocks.specs.Blocks.{items_of, entries_of, capacity, block_of}
 use Rattle.blocks.proofs.Words.{items_length, items_shaped, items_take}
 use Rattle.entries.proofs.Values.{words_true, words_false}
 use Rattle.blocks.proofs.Judging.{room_words, verdict_sound}
@@ -25,9 +25,16 @@ use Rattle.blocks.specs.Steps.{Spliced, item_at, zero_item}
 use Rattle.searches.specs.Steps.{FirstFrom}
 use Rattle.blocks.proofs.Moves.{entry_at, splice_entries, entries_count}
 use Rattle.edits.proofs.Cuts.{trim_length, placed}
-use Rattle.edits.specs.Steps.{value_of, cut_end, cut_start, PlaceOk, SideOk, EditOk, PutOk, CutOk, room_says}
-use Rattle.answers.specs.Answers.{Outcome, outcome, given, refused, judged, applies, number_says}
-use Rattle.blocks.specs.Calls.{stored}
+use Rattle.edits.specs.Steps.{value_of, cut_end, cut_start, PlaceOk, SideOk, EditOk, PutOk, CutOk}
+use Rattle.std.specs.Prelude.{Ok, Err}
+use Rattle.answers.specs.declared.Refusal.{Refusal}
+use Rattle.answers.specs.Answers.{Outcome, outcome, given, refused}
+use Rattle.answers.specs.Says.{refusal_says}
+use Rattle.answers.specs.Steps.{FirstOf}
+use Rattle.answers.proofs.Turns.{stops_in, refused_by, given_by}
+use Rattle.blocks.proofs.Refusing.{in_order}
+use Rattle.searches.specs.Calls.{window_refusals}
+use Rattle.blocks.specs.Calls.{stored, room, holding}
 use Rattle.edits.specs.Calls.{edited, edit_call}
 use Rattle.blocks.proofs.Tests.{Span, span, item_in, le_mul}
 
@@ -238,11 +245,11 @@ module _ {w : List ℕ} {l : Layout} {n : ℕ} (ok : EditOk w l n) where
   start_length hi [] = refl
   start_length hi (x ∷ l) = refl
 
-  answer_no : (X Y : List Entry) (cap m : ℕ) → X ≡ Y → m ≡ length Y → cap ≡ capacity l (length w) → cap < m → outcome (room_says false) (w ∷ []) ≡ stored 0 l w X
+  answer_no : (X Y : List Entry) (cap m : ℕ) → X ≡ Y → m ≡ length Y → cap ≡ capacity l (length w) → cap < m → outcome (refused 5 0) (w ∷ []) ≡ stored 0 l w X
   answer_no X Y cap m e f g h = let k : capacity l (length w) < length X = omega (arith, ap length e) in rw (lt-ltb (capacity l (length w)) (length X) k)
 
   answer_yes : (X Y : List Entry) (cap m : ℕ) (w' : List ℕ) → X ≡ Y → m ≡ length Y → cap ≡ capacity l (length w) → m ≤ cap
-      → w' ≡ block_of (length w) Y → outcome (room_says true) (w' ∷ []) ≡ stored 0 l w X
+      → w' ≡ block_of (length w) Y → outcome (given []) (w' ∷ []) ≡ stored 0 l w X
   answer_yes X Y cap m w' e f g h b =
       let k : length X ≤ capacity l (length w) = omega (arith, ap length e) in
       rw (le-ltb (capacity l (length w)) (length X) k) (ap (λ (l : List ℕ). outcome (given []) (l ∷ [])) (b ∙ ap (block_of (length w)) (sym e)))
@@ -280,16 +287,16 @@ module _ {w : List ℕ} {l : Layout} {n : ℕ} (ok : EditOk w l n) where
         )
 
     module _ {cap : ℕ} (g : cap ≡ capacity l (length w)) where
-      pub put_no : cap < i + 1 + (n - j) → outcome (room_says false) (w ∷ []) ≡ stored 0 l w (edited l w a b (some v))
+      pub put_no : cap < i + 1 + (n - j) → outcome (refused 5 0) (w ∷ []) ≡ stored 0 l w (edited l w a b (some v))
       put_no h = answer_no _ result cap (i + 1 + (n - j)) put_result result_count g h
 
       pub put_yes : (w' : List ℕ) → i + 1 + (n - j) ≤ cap → w' ≡ block_of (length w) result
-          → outcome (room_says true) (w' ∷ []) ≡ stored 0 l w (edited l w a b (some v))
+          → outcome (given []) (w' ∷ []) ≡ stored 0 l w (edited l w a b (some v))
       put_yes w' h e = answer_yes _ result cap (i + 1 + (n - j)) w' put_result result_count g h e
 
       pub put_done : (new : List ℕ) {new' w' : List ℕ} → v ≡ value_of s new → new' ≡ lo ∷ hi ∷ drop 2 new → i + 1 + (n - j) ≤ cap
           → w' ≡ block_of (length w) (trim_end lo (take i list) ++ (items_of s 1 new' ++ trim_start hi (drop j list)))
-          → outcome (room_says true) (w' ∷ []) ≡ stored 0 l w (edited l w a b (some v))
+          → outcome (given []) (w' ∷ []) ≡ stored 0 l w (edited l w a b (some v))
       put_done new {w' = w'} ve e h b =
           put_yes w' h (b ∙ ap (λ (x : List ℕ). block_of (length w) (trim_end lo (take i list) ++ (items_of s 1 x ++ trim_start hi (drop j list)))) e
           ∙ ap (λ (x : List ℕ). block_of (length w) (trim_end lo (take i list) ++ (entry lo hi x ∷ trim_start hi (drop j list)))) (sym ve))
@@ -330,10 +337,10 @@ module _ {w : List ℕ} {l : Layout} {n : ℕ} (ok : EditOk w l n) where
         )
 
     module _ (cap : ℕ) (g : cap ≡ capacity l (length w)) where
-      pub out_no : cap < i + (n - j) → outcome (room_says false) (w ∷ []) ≡ stored 0 l w (edited l w a b none)
+      pub out_no : cap < i + (n - j) → outcome (refused 5 0) (w ∷ []) ≡ stored 0 l w (edited l w a b none)
       out_no m = answer_no _ rest cap (i + (n - j)) out_result rest_count g m
 
-      pub out_yes : (w' : List ℕ) → i + (n - j) ≤ cap → w' ≡ block_of (length w) rest → outcome (room_says true) (w' ∷ []) ≡ stored 0 l w (edited l w a b none)
+      pub out_yes : (w' : List ℕ) → i + (n - j) ≤ cap → w' ≡ block_of (length w) rest → outcome (given []) (w' ∷ []) ≡ stored 0 l w (edited l w a b none)
       out_yes w' m e = answer_yes _ rest cap (i + (n - j)) w' out_result rest_count g m e
 
       pub out_ok : (new : List ℕ) → length new ≡ 0 → i + (n - j) ≤ cap → PlaceOk w new s n i j 0 b
@@ -353,36 +360,19 @@ module _ {w : List ℕ} {l : Layout} {n : ℕ} (ok : EditOk w l n) where
 pub sides_ok : {w new : List ℕ} {l : Layout} {n : ℕ} → PutOk w new l n → SideOk w new l.width n
 sides_ok {w} {new} p = side_ok p.edit new p.whole
 
--- a block that was judged sound
-pub edit_ok : {l : Layout} {w : List ℕ} {v n : ℕ} → v ≡ verdict l w → v ≡ 0 → 2 ≤ l.width → n ≡ get_or w 0 0 → EditOk w l n
-edit_ok {l} {w} e z two c = record { two = two; block = verdict_sound l w (sym e ∙ z); count = c }
+-- a block that was judged sound, with its range in order
+pub edit_ok : {l : Layout} {w : List ℕ} {a b n : ℕ} {u : Unit {0}} → FirstOf (window_refusals l w a b) (Ok u) → 2 ≤ l.width → n ≡ get_or w 0 0
+    → EditOk w l n × (a ≤ b)
+edit_ok {l} {w} {a} {b} f two c = (record { two = two; block = verdict_sound l w f.clear.0; count = c }, in_order a b f.clear.1.0)
 
--- the call, by the tests of the code
-module _ (l : Layout) (w : List ℕ) (a b : ℕ) (o : Option (List ℕ)) (v : ℕ) (e : v ≡ verdict l w) where
-  abbrev kept : Outcome
-  kept = stored 0 l w (edited l w a b o)
-
-  abbrev ordered : Outcome
-  ordered = judged (applies (ltb b a) 4) 0 (w ∷ []) kept
-
-  by_verdict : (x : Outcome) → x ≡ judged v 0 (w ∷ []) ordered → x ≡ edit_call l w a b o
+-- the call, by the refusals of its block and its range
+module _ (l : Layout) (w : List ℕ) (a b : ℕ) (o : Option (List ℕ)) where
+  pub edit_refused : (e : Refusal) → FirstOf (window_refusals l w a b) (Err e) → outcome (refusal_says e) (w ∷ []) ≡ edit_call l w a b o
   unfolding edit_call
-  by_verdict x d = d ∙ ap (λ (k : ℕ). judged k 0 (w ∷ []) ordered) e
+  edit_refused e f =
+      refused_by (stops_in (window_refusals l w a b) (room 0 l (length w) (edited l w a b o) ∷ []) e f) (w ∷ []) (holding w (edited l w a b o))
 
-  pub edit_refused : (v ≡ 0 → ⊥) → outcome (number_says v 0) (w ∷ []) ≡ edit_call l w a b o
-  edit_refused n = by_verdict (outcome (number_says v 0) (w ∷ [])) (go v n)
-    where
-      go : (k : ℕ) → (k ≡ 0 → ⊥) → outcome (number_says k 0) (w ∷ []) ≡ judged k 0 (w ∷ []) ordered
-      go zero m = absurd (m refl)
-      go (suc k) m = refl
-
-  module _ (z : v ≡ 0) where
-    pub edit_backwards : {x y : ℕ} → x ≡ b → y ≡ a → x < y → outcome (number_says 4 0) (w ∷ []) ≡ edit_call l w a b o
-    edit_backwards p q h = let k : b < a = omega arith in by_verdict (outcome (refused 4 0) (w ∷ [])) (rw (z, lt-ltb b a k))
-
-    -- stored, or refused for want of room
-    pub edit_kept : {x y : ℕ} → x ≡ b → y ≡ a → y ≤ x → {t : Bool} {w' : List ℕ} → outcome (room_says t) (w' ∷ []) ≡ kept → {u : Bool} → t ≡ u
-        → outcome (room_says u) (w' ∷ []) ≡ edit_call l w a b o
-    edit_kept p q h {t} {w'} k {u} f =
-        let m : a ≤ b = omega arith in
-        by_verdict (outcome (room_says u) (w' ∷ [])) (ap (λ (u : Bool). outcome (room_says u) (w' ∷ [])) (sym f) ∙ k ∙ rw (z, le-ltb b a m))
+  -- stored, or refused for want of room
+  pub edit_kept : (u : Unit {0}) (x : Outcome) → FirstOf (window_refusals l w a b) (Ok u) → x ≡ stored 0 l w (edited l w a b o) → x ≡ edit_call l w a b o
+  unfolding edit_call
+  edit_kept u x f k = given_by f (w ∷ []) x (stored 0 l w (edited l w a b o)) k

@@ -3,7 +3,7 @@ use Rattle.std.proofs.Math.Option.{Option}
 use Rattle.std.specs.Prelude.{List, [], ◌∷◌, ℕ, length}
 use Rattle.entries.specs.Entries.{Value, Entry}
 use Rattle.entries.specs.Build.{put}
-use Rattle.answers.specs.declared.Finding.{Finding}
+use Rattle.answers.specs.Answers.{Finding}
 use Rattle.answers.specs.Answers.{Outcome, in_turn}
 use Rattle.blocks.specs.declared.Layout.{Layout}
 use Rattle.blocks.specs.Blocks.{entries_of}

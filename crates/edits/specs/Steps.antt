@@ -1,8 +1,7 @@
 -- What the steps of an edit promise each other. No public promise names these.
-use Rattle.std.specs.Prelude.{ℕ, suc, ◌+◌, ◌*◌, ◌-◌, ◌≤◌, ◌<◌, min, max, ◌≡◌, Bool, true, false, List, [], eqb, ltb, length, get_or, set, take, drop}
+use Rattle.std.specs.Prelude.{ℕ, suc, ◌+◌, ◌*◌, ◌-◌, ◌≤◌, ◌<◌, min, max, ◌≡◌, List, eqb, ltb, length, get_or, set, take, drop}
 use Rattle.entries.specs.Build.{pick}
 use Rattle.entries.specs.Entries.{Sound}
-use Rattle.answers.specs.Answers.{Answer, given, refused}
 use Rattle.blocks.specs.declared.Layout.{Layout}
 use Rattle.blocks.specs.Blocks.{items_of, SoundBlock}
 
@@ -55,8 +54,3 @@ pub record PutOk (w new : List ℕ) (l : Layout) (n : ℕ) : Type 0 where
 -- the value of an item of s words
 abbrev pub value_of : ℕ → List ℕ → List ℕ
 value_of s new = take (s - 2) (drop 2 new)
-
--- whether there was room
-abbrev pub room_says : Bool → Answer
-room_says true = given []
-room_says false = refused 5 0

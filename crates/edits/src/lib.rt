@@ -4,31 +4,23 @@
 ghost use Rattle.std.specs.Prelude.{◌≡◌, suc, ◌+◌, ◌-◌, ◌*◌, ◌<◌, ◌≤◌, min, max, ◌++◌, [], ◌∷◌, ltb, length, get_or, take, drop};
 ghost use Rattle.std.proofs.Math.Option.{none, some};
 ghost use Rattle.entries.proofs.Put.{trim_end, trim_start, JoinsLeft, JoinsRight};
-ghost use Rattle.answers.specs.Answers.{outcome, number_says};
+ghost use Rattle.answers.specs.Answers.{outcome};
+ghost use Rattle.answers.specs.Says.{judged_says};
 ghost use Rattle.blocks.specs.Blocks.{items_of, block_of};
 ghost use Rattle.blocks.specs.Steps.{zero_item};
 ghost use Rattle.blocks.specs.Calls.{stored};
 ghost use Rattle.edits.specs.Calls.{edited, edit_call};
-ghost use Rattle.edits.specs.Steps.{cut_end, cut_start, update, CutOk, PlaceOk, EditOk, PutOk, value_of, room_says};
+ghost use Rattle.edits.specs.Steps.{cut_end, cut_start, update, CutOk, PlaceOk, EditOk, PutOk, value_of};
 
+use answers::{Reason, Refusal};
 use blocks::Layout;
-
-// The high that an entry keeps when every number from lo on is cut off it.
-fn below(high: u64, lo: u64) -> u64
-    ensures { result ≡ min high (lo - 1) }
-{
-    if high < lo {
-        return high;
-    }
-    if lo == 0 { 0 } else { lo - 1 }
-}
 
 // The low that an entry keeps when every number up to hi is cut off it; its high is above hi, so some of it is left.
 pub fn above(low: u64, hi: u64, high: u64) -> u64
     requires { hi < high }
     ensures { result ≡ max low (suc hi) }
 {
-    if hi < low { low } else { hi + 1 }
+    low.max(hi + 1)
 }
 
 // Cuts the entry whose high is word `at`, so that it ends before lo.
@@ -36,7 +28,7 @@ fn lower(block: &mut [u64], at: usize, lo: u64)
     requires { at < length block.old }
     ensures { block.new ≡ update block.old at (λ h. min h (lo - 1)) }
 {
-    block[at] = below(block[at], lo);
+    block[at] = block[at].min(lo.saturating_sub(1));
 }
 
 // Cuts the entry whose low is word `at` and whose high is above hi, so that it begins after hi.
@@ -88,14 +80,7 @@ fn place(
         ++ (items_of s c new.now ++ trim_start hi (drop j (items_of s n (drop 1 block.old))))) }
 {
     let m = i + c + (n - j);
-    blocks::splice(
-        block,
-        new,
-        s * i + 1,
-        s * j + 1,
-        s * n + 1,
-        blocks::narrow(m),
-    );
+    blocks::splice(block, new, s * i + 1, s * j + 1, s * n + 1, m as u64);
     cut_end(block, s, i, lo);
     cut_start(block, s, i + c, m, hi);
 }
@@ -104,13 +89,7 @@ fn place(
 fn beyond(x: u64, y: u64) -> bool
     ensures { result ≡ ltb (suc x) y }
 {
-    if y <= x {
-        return false;
-    }
-    if 1 < y - x {
-        return true;
-    }
-    false
+    x < y && 1 < y - x
 }
 
 // One side of an edit: how many items stay before the new entry, or the first that stays behind it; and the new entry's end there.
@@ -128,17 +107,17 @@ fn left_of(block: &[u64], new: &[u64], layout: Layout, n: usize) -> Side
         (get_or new.now 0 0) (value_of layout.width new.now) }
 {
     let s = layout.width;
-    let a = blocks::word(new, 0);
+    let a = new[0];
     let i = searches::begun_before(block, layout, a);
     if i == 0 {
         return Side { at: 0, end: a };
     }
     let k = i - 1;
-    if beyond(blocks::word(block, s * k + 2), a) {
+    if beyond(block[s * k + 2], a) {
         return Side { at: i, end: a };
     }
     if blocks::same_words(block, s * k + 3, new, 2, s - 2) {
-        let low = blocks::word(block, s * k + 1);
+        let low = block[s * k + 1];
         return Side { at: k, end: low };
     }
     Side { at: i, end: a }
@@ -152,16 +131,16 @@ fn right_of(block: &[u64], new: &[u64], layout: Layout, n: usize) -> Side
         (get_or new.now 1 0) (value_of layout.width new.now) }
 {
     let s = layout.width;
-    let b = blocks::word(new, 1);
+    let b = new[1];
     let j = searches::ended_by(block, layout, b);
     if n <= j {
         return Side { at: j, end: b };
     }
-    if beyond(b, blocks::word(block, s * j + 1)) {
+    if beyond(b, block[s * j + 1]) {
         return Side { at: j, end: b };
     }
     if blocks::same_words(block, s * j + 3, new, 2, s - 2) {
-        let high = blocks::word(block, s * j + 2);
+        let high = block[s * j + 2];
         return Side {
             at: j + 1,
             end: high,
@@ -179,10 +158,15 @@ fn set_ends(new: &mut [u64], lo: u64, hi: u64)
     new[1] = hi;
 }
 
-// Puts the new entry into a sound block of n items; false where there is no room, and then nothing is changed.
-pub fn put_value(block: &mut [u64], new: &mut [u64], n: usize, layout: Layout) -> bool
+// Puts the new entry into a sound block of n items; refused where there is no room, and then nothing is changed.
+pub fn put_value(
+    block: &mut [u64],
+    new: &mut [u64],
+    n: usize,
+    layout: Layout,
+) -> Result<(), Refusal>
     requires { PutOk block.old new.old layout n }
-    ensures { outcome (room_says result) (block.new ∷ []) ≡ stored 0 layout block.old
+    ensures { outcome (judged_says result) (block.new ∷ []) ≡ stored 0 layout block.old
         (edited layout block.old (get_or new.old 0 0) (get_or new.old 1 0)
         (some (value_of layout.width new.old))) }
 {
@@ -194,65 +178,47 @@ pub fn put_value(block: &mut [u64], new: &mut [u64], n: usize, layout: Layout) -
     let lo = l.end;
     let hi = r.end;
     if blocks::room_for(layout, block.len()) < i + 1 + (n - j) {
-        return false;
+        return Err(Reason::Room.at(0));
     }
     set_ends(new, lo, hi);
     place(block, new, s, n, i, j, 1, lo, hi);
-    true
+    Ok(())
 }
 
-// Takes a..b out of a sound block of n items; false where there is no room, and then nothing is changed.
-fn take_out(block: &mut [u64], n: usize, layout: Layout, a: u64, b: u64) -> bool
+// Takes a..b out of a sound block of n items; refused where there is no room, and then nothing is changed.
+fn take_out(block: &mut [u64], n: usize, layout: Layout, a: u64, b: u64) -> Result<(), Refusal>
     requires { EditOk block.old layout n × (a ≤ b) }
-    ensures { outcome (room_says result) (block.new ∷ []) ≡ stored 0 layout block.old (edited layout block.old a b none) }
+    ensures { outcome (judged_says result) (block.new ∷ []) ≡ stored 0 layout block.old (edited layout block.old a b none) }
 {
     let s = layout.width;
     let i = searches::begun_before(block, layout, a);
     let j = searches::ended_by(block, layout, b);
     if blocks::room_for(layout, block.len()) < i + (n - j) {
-        return false;
+        return Err(Reason::Room.at(0));
     }
-    let nothing = [0; 1];
-    place(block, &nothing[0..0], s, n, i, j, 0, a, b);
-    true
+    place(block, &[], s, n, i, j, 0, a, b);
+    Ok(())
 }
 
-// Gives the range new[0]..new[1] of any words lent as a block the value in the rest of new: 0, or the number of the refusal.
-pub fn edit_put(block: &mut [u64], new: &mut [u64], layout: Layout) -> u8
+// Gives the range new[0]..new[1] of any words lent as a block the value in the rest of new, or refuses it.
+#[tactic(auto, using(crate::proofs::Sides::edit_refused, crate::proofs::Sides::edit_kept))]
+pub fn edit_put(block: &mut [u64], new: &mut [u64], layout: Layout) -> Result<(), Refusal>
     requires { (2 ≤ layout.width) × (length new.old ≡ layout.width) }
-    ensures { outcome (number_says result 0) (block.new ∷ []) ≡ edit_call layout block.old
+    ensures { outcome (judged_says result) (block.new ∷ []) ≡ edit_call layout block.old
         (get_or new.old 0 0) (get_or new.old 1 0) (some (value_of layout.width new.old)) }
 {
-    let v = blocks::judge(block, layout);
-    if v != 0 {
-        return v;
-    }
-    if blocks::word(new, 1) < blocks::word(new, 0) {
-        return 4;
-    }
-    let n = blocks::wide(blocks::word(block, 0));
-    if put_value(block, new, n, layout) {
-        return 0;
-    }
-    5
+    searches::window_refusal(block, layout, new[0], new[1])?;
+    let n = searches::count_of(block);
+    put_value(block, new, n, layout)
 }
 
-// Takes the range a..b out of any words lent as a block: 0, or the number of the refusal.
-#[tactic(auto, using(crate::proofs::Sides::edit_refused, crate::proofs::Sides::edit_ok, crate::proofs::Sides::edit_backwards, crate::proofs::Sides::edit_kept))]
-pub fn edit_out(block: &mut [u64], layout: Layout, a: u64, b: u64) -> u8
+// Takes the range a..b out of any words lent as a block, or refuses it.
+#[tactic(auto, using(crate::proofs::Sides::edit_refused, crate::proofs::Sides::edit_kept))]
+pub fn edit_out(block: &mut [u64], layout: Layout, a: u64, b: u64) -> Result<(), Refusal>
     requires { 2 ≤ layout.width }
-    ensures { outcome (number_says result 0) (block.new ∷ []) ≡ edit_call layout block.old a b none }
+    ensures { outcome (judged_says result) (block.new ∷ []) ≡ edit_call layout block.old a b none }
 {
-    let v = blocks::judge(block, layout);
-    if v != 0 {
-        return v;
-    }
-    if b < a {
-        return 4;
-    }
-    let n = blocks::wide(blocks::word(block, 0));
-    if take_out(block, n, layout, a, b) {
-        return 0;
-    }
-    5
+    searches::window_refusal(block, layout, a, b)?;
+    let n = searches::count_of(block);
+    take_out(block, n, layout, a, b)
 }

@@ -6,75 +6,40 @@ use Prim.Native.Nat.{ℕ, zero, suc, ◌+◌, ◌*◌, ◌≤◌, ◌<◌}
 use native.Mathlib.Omega.{arith}
 use lib.Dec.{leb}
 use lib.ListN.{length, get_or, drop, length-drop}
-use borrow.Author.Tests.{leb-true, leb-false, le-ltb, lt-ltb, eq-eqb, ne_eqb}
+use borrow.Author.Tests.{leb-true, leb-false, le-ltb, lt-ltb}
 use Rattle.entries.specs.Entries.{Entry}
-use Rattle.entries.specs.Build.{pick}
-use Rattle.answers.specs.declared.Judged.{Judged}
-use Rattle.answers.specs.Answers.{Outcome, outcome, given, judged as judged_by, last_number}
-use Rattle.answers.specs.Says.{judged_says, judged_of}
-use Rattle.answers.proofs.Numbers.{judged_says_lem}
+use Rattle.answers.specs.declared.Reason.TheVariants.{Room}
+use Rattle.answers.specs.declared.Refusal.{Refusal}
+use Rattle.answers.specs.Answers.{Outcome, outcome, given, judged as judged_by}
+use Rattle.answers.specs.Says.{at_place, refusal_says}
+use Rattle.answers.proofs.Turns.{named}
 use Rattle.blocks.specs.declared.Layout.{Layout}
 use Rattle.blocks.specs.Blocks.{set_layout, map_layout, capacity, block_of, entries_of, verdict, SoundBlock, Lent, Shaped}
 use Rattle.blocks.specs.Calls.{no_block, stored}
-use Rattle.blocks.proofs.Judging.{verdict_sound, room_words, verdict_small}
+use Rattle.blocks.proofs.Judging.{verdict_sound, room_words}
 use Rattle.blocks.proofs.Words.{items_shaped, items_length}
 use Rattle.sweeps.specs.declared.Plan.{Plan}
 use Rattle.sweeps.specs.Sweeps.{Inputs, Fit, result_of}
 use Rattle.sweeps.proofs.Tables.{none_input, input, bounded}
 use Rattle.operations.specs.declared.Layouts.{Layouts}
 use Rattle.operations.specs.Calls.{from_two, from_one}
-use Rattle.operations.specs.Steps.{many, AnyOk, StoreOk, Wrote, Small, TwoFit, OneFit}
+use Rattle.operations.specs.Steps.{many, AnyOk, StoreOk, Small, TwoFit, OneFit}
 
 -- a result within the capacity has its words
 pub has_room : (l : Layout) (L cap n : ℕ) → cap ≡ capacity l L → 0 < L → n ≤ cap → 1 + l.width * n ≤ L
 has_room l L cap n e h k = room_words l L n h (omega arith)
 
-module _ (l : Layout) (es : List Entry) (o : List ℕ) (cap : ℕ) (e : cap ≡ capacity l (length o)) (t : Bool) (q : t ≡ leb (length es) cap) where
-  pub wrote_yes : (o' : List ℕ) → t ≡ true → o' ≡ block_of (length o) es → Wrote l es o true o'
-  wrote_yes o' z b = record { room = sym z ∙ q ∙ ap (leb (length es)) e; words = b }
+-- a result stored, or refused for want of room, by the test of the code
+module _ (position : ℕ) (l : Layout) (es : List Entry) (o : List ℕ) (cap : ℕ) (e : cap ≡ capacity l (length o)) (t : Bool) (q : t ≡ leb (length es) cap) where
+  pub stored_yes : t ≡ true → (o' : List ℕ) → o' ≡ block_of (length o) es → outcome (given []) (o' ∷ []) ≡ stored position l o es
+  stored_yes z o' b =
+      let k : length es ≤ capacity l (length o) = omega (arith, leb-true (length es) cap (sym q ∙ z)) in
+      rw (le-ltb (capacity l (length o)) (length es) k) (ap (λ (w : List ℕ). outcome (given []) (w ∷ [])) b)
 
-  pub wrote_no : t ≡ false → Wrote l es o false o
-  wrote_no z = record { room = sym z ∙ q ∙ ap (leb (length es)) e; words = refl }
-
--- the answers of a block written
-module _ (position : ℕ) (l : Layout) (es : List Entry) (o : List ℕ) (t : Bool) (o' : List ℕ) (g : Wrote l es o t o') (x : Judged) where
-  pub stored_yes : t ≡ true → x ≡ judged_of 0 position → outcome (judged_says x) (o' ∷ []) ≡ stored position l o es
-  stored_yes z e =
-      let k : length es ≤ capacity l (length o) = leb-true (length es) (capacity l (length o)) (sym g.room ∙ z) in
-      rw (le-ltb (capacity l (length o)) (length es) k)
-      (ap (λ (y : Judged). outcome (judged_says y) (o' ∷ [])) e
-      ∙ ap (λ (w : List ℕ). outcome (given []) (w ∷ [])) (g.words ∙ ap (λ (b : Bool). pick b (block_of (length o) es) o) z))
-
-  pub stored_no : t ≡ false → x ≡ judged_of 5 position → outcome (judged_says x) (o' ∷ []) ≡ stored position l o es
-  stored_no z e =
-      let k : capacity l (length o) < length es = leb-false (length es) (capacity l (length o)) (sym g.room ∙ z) in
-      rw (lt-ltb (capacity l (length o)) (length es) k)
-      (ap₂ (λ (y : Judged) (w : List ℕ). outcome (judged_says y) (w ∷ [])) e (g.words ∙ ap (λ (b : Bool). pick b (block_of (length o) es) o) z))
-
--- one block judged: refused, or on to the rest
-module _ (l : Layout) (w : List ℕ) (position : ℕ) (o : List ℕ) (next : Outcome) (v : ℕ) (e : v ≡ verdict l w) where
-  pub refused_here : (x : Judged) → (v ≡ 0 → ⊥) → x ≡ judged_of v position → outcome (judged_says x) (o ∷ []) ≡ judged_by (verdict l w) position (o ∷ []) next
-  refused_here x n q =
-      ap (λ (y : Judged). outcome (judged_says y) (o ∷ [])) (q ∙ ap (λ (k : ℕ). judged_of k position) e)
-      ∙ go (verdict l w) (λ z. n (e ∙ z)) (verdict_small l w)
-    where
-      go : (k : ℕ) → (k ≡ 0 → ⊥) → k ≤ last_number → outcome (judged_says (judged_of k position)) (o ∷ []) ≡ judged_by k position (o ∷ []) next
-      go zero n m = absurd (n refl)
-      go (suc k) n m = ap (λ a. outcome a (o ∷ [])) (judged_says_lem (suc k) position m)
-
-  pub passes : (y : Outcome) → v ≡ 0 → y ≡ next → y ≡ judged_by (verdict l w) position (o ∷ []) next
-  passes y z q = q ∙ sym (ap (λ (m : ℕ). judged_by m position (o ∷ []) next) (sym e ∙ z))
-
--- the output
-module _ (position : ℕ) (o : List ℕ) (next : Outcome) where
-  abbrev written : Outcome
-  written = judged_by (no_block (length o)) position (o ∷ []) next
-
-  pub no_words : (x : Judged) → length o ≡ 0 → x ≡ judged_of 1 position → outcome (judged_says x) (o ∷ []) ≡ written
-  no_words x z q = rw (eq-eqb (length o) 0 z) (ap (λ (y : Judged). outcome (judged_says y) (o ∷ [])) q)
-
-  pub with_words : (y : Outcome) → (length o ≡ 0 → ⊥) → y ≡ next → y ≡ written
-  with_words y n q = rw (ne_eqb (length o) 0 n) q
+  pub stored_no : t ≡ false → (f : Refusal) → f ≡ at_place Room position → outcome (refusal_says f) (o ∷ []) ≡ stored position l o es
+  stored_no z f r =
+      let k : capacity l (length o) < length es = omega (arith, leb-false (length es) cap (sym q ∙ z)) in
+      rw (lt-ltb (capacity l (length o)) (length es) k) (named Room position r (o ∷ []))
 
 -- a sound block's values have all their words
 pub entries_shaped : (l : Layout) (w : List ℕ) → 2 ≤ l.width → SoundBlock l w → Shaped l.width (entries_of l.width w)

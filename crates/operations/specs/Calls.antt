@@ -1,7 +1,7 @@
 -- A result made from one or two blocks into an output, for sets and for maps.
 use Rattle.std.specs.Prelude.{List, [], ◌∷◌, length, ℕ}
 use Rattle.entries.specs.Entries.{Entry}
-use Rattle.answers.specs.declared.Finding.{Finding}
+use Rattle.answers.specs.Answers.{Finding}
 use Rattle.answers.specs.Answers.{Outcome, in_turn}
 use Rattle.blocks.specs.declared.Layout.{Layout}
 use Rattle.blocks.specs.Blocks.{entries_of}

@@ -1,9 +1,8 @@
 -- What the steps of the code promise each other. No public promise names these.
-use Rattle.std.specs.Prelude.{◌≡◌, Bool, List, [], ℕ, ◌+◌, ◌*◌, ◌≤◌, ◌<◌, leb, length}
+use Rattle.std.specs.Prelude.{◌≡◌, List, [], ℕ, ◌+◌, ◌*◌, ◌≤◌, ◌<◌, length}
 use Rattle.entries.specs.Entries.{Entry, Sound}
-use Rattle.entries.specs.Build.{pick}
 use Rattle.blocks.specs.declared.Layout.{Layout}
-use Rattle.blocks.specs.Blocks.{capacity, block_of, entries_of, Shaped}
+use Rattle.blocks.specs.Blocks.{entries_of, Shaped}
 use Rattle.sweeps.specs.Sweeps.{sweep_result, Fit, Input, Bounded}
 use Rattle.sweeps.specs.declared.Plan.{Plan}
 use Rattle.operations.specs.declared.Layouts.{Layouts}
@@ -11,11 +10,6 @@ use Rattle.operations.specs.declared.Layouts.{Layouts}
 -- more than the items of any layout: sums of a few counts stay far below 2^64
 abbrev pub many : ℕ
 many = 65536
-
--- es into o where there is room, else nothing
-pub record Wrote (l : Layout) (es : List Entry) (o : List ℕ) (r : Bool) (o' : List ℕ) : Type 0 where
-  pub room : r ≡ leb (length es) (capacity l (length o))
-  pub words : o' ≡ pick r (block_of (length o) es) o
 
 -- the result of a plan of two inputs
 abbrev pub result_two : Plan → List ℕ → List ℕ → List Entry

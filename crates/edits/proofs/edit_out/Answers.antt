@@ -1,19 +1,12 @@
-use mathlib.Core.Path.{refl, ◌∙◌}
-use Rattle.edits.proofs.Sides.{edit_refused, edit_ok, edit_backwards, edit_kept}
-use borrow.Author.Rules.{rules}
+use Rattle.std.proofs.Common.{refl}
+use Rattle.edits.proofs.Sides.{edit_ok, edit_kept}
 use Rattle.edits.proofs.edit_out.Goals as goal
 
-pub word-requires : goal.word-requires
-word-requires c =
-    (edit_ok c.judge-v.ensures c.if-v-ne0.false c.requires refl).block.some
+pub count_of-n-requires : goal.count_of-n-requires
+count_of-n-requires c = (edit_ok c.in_ok-window_refusal.ensures.first c.requires refl).0.block.some
 
 pub take_out-requires : goal.take_out-requires
-take_out-requires c = (
-  edit_ok c.judge-v.ensures c.if-v-ne0.false c.requires
-      (c.wide-n.ensures ∙ c.word.ensures),
-  c.if-b-a.false,
-)
+take_out-requires c = edit_ok c.in_ok-window_refusal.ensures.first c.requires c.count_of-n.ensures
 
-pub returns-then-take_out : goal.returns-then-take_out
-returns-then-take_out c =
-    edit_kept _ _ _ _ _ _ c.judge-v.ensures c.if-v-ne0.false refl refl c.if-b-a.false c.take_out.ensures c.if-take_out.true
+pub returns : goal.returns
+returns c = edit_kept _ _ _ _ _ _ _ c.in_ok-window_refusal.ensures.first c.take_out.ensures
