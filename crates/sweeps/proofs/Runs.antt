@@ -3,14 +3,14 @@ use mathlib.Core.Path.{◌≡◌, refl, sym, ◌∙◌, ap, ap₂, subst}
 use mathlib.Core.Bool.{Bool, true, false, not}
 use mathlib.Core.Option.{some}
 use mathlib.Core.List.{List, [], ◌∷◌}
-use Prim.Native.Nat.{ℕ, zero, suc, ◌+◌, ◌*◌, ◌-◌, ◌≤◌, ◌<◌}
+use Prim.Native.Nat.{ℕ, zero, suc, ◌+◌, ◌*◌, ◌-◌, ◌%◌, ◌≤◌, ◌<◌}
 use native.Mathlib.Omega.{arith}
 use native.Mathlib.Decide.{ℕ_discrete}
 use native.Mathlib.Nat.{mul-suc, mul-zero}
 use lib.ListN.{length, get_or, take, drop}
 use lib.Seq.{drop-drop}
 use lib.Dec.{eqb}
-use borrow.Author.Tests.{eqb-true, eqb-false}
+use borrow.Author.Tests.{eqb-true, eqb-false, eq-eqb, ne_eqb}
 use Rattle.entries.specs.Sets.{past_m, M}
 use Rattle.entries.specs.Entries.{Entry, value_at, Link, Sound}
 use Rattle.entries.specs.Build.{pick}
@@ -20,7 +20,8 @@ use Rattle.blocks.specs.Steps.{item_from}
 use Rattle.blocks.proofs.Tests.{item_from_lem}
 use Rattle.sweeps.specs.Sweeps.{bit, Input}
 use Rattle.sweeps.specs.declared.Cursor.{Cursor}
-use Rattle.sweeps.specs.Cursors.{Turn, items, cursor, turn, Ahead, Cur, Sided, Point, TurnAt}
+use Rattle.sweeps.specs.declared.Run.{Run}
+use Rattle.sweeps.specs.Cursors.{items, cursor, turn, Ahead, Cur, Sided, Point, TurnAt}
 
 -- items by place and by what is left of the words
 pub items_are : (s k p : ℕ) (w : List ℕ) → items s k p w ≡ items_of s k (drop p w)
@@ -33,7 +34,7 @@ cursor_is c b e = λ i. record { place = c.place; inside = sym e i; end = c.end 
 pub point_as : {s : ℕ} {w : List ℕ} {x : ℕ} {c : Cursor} (b : Bool) → c.inside ≡ b → Point s w x c → Point s w x (cursor c.place b c.end)
 point_as {s} {w} {x} {c} b e p = subst (λ (d : Cursor). Point s w x d) (sym (cursor_is c b e)) p
 
-pub turn_as : {s : ℕ} {w : List ℕ} {x : ℕ} {c : Cursor} {t : Turn} (b : Bool) → c.inside ≡ b → TurnAt s w x (cursor c.place b c.end) t → TurnAt s w x c t
+pub turn_as : {s : ℕ} {w : List ℕ} {x : ℕ} {c : Cursor} {t : Run} (b : Bool) → c.inside ≡ b → TurnAt s w x (cursor c.place b c.end) t → TurnAt s w x c t
 turn_as {s} {w} {x} {c} {t} b e p = subst (λ (d : Cursor). TurnAt s w x d t) (cursor_is c b e) p
 
 ahead_zero : (es : List Entry) → Ahead 0 es
@@ -146,6 +147,7 @@ module _ (s : ℕ) (w : List ℕ) (x : ℕ) (g : Input s w) where
       fits = omega arith;
       same = λ y h l. out_cur.rest y h ∙ ap (λ (k : ℕ). value_at (items s k p w) y) z;
       next = λ e h l. go e h (eqb M e);
+      end = refl;
     }
       where
         at : p ≡ 1 + s * get_or w 0 0
@@ -168,15 +170,13 @@ module _ (s : ℕ) (w : List ℕ) (x : ℕ) (g : Input s w) where
       pub out_side : x < get_or w p 0
       out_side = side_of not_at
 
-      pub out_here : p + s ≤ length w
-      out_here = here s w x p g out_cur not_at
-
       pub turn_out : (l : ℕ) → l ≡ get_or w p 0 → TurnAt s w x (cursor p false end) (turn (l - 1) (cursor (p + 1) true end))
       turn_out l i = rw i (record {
         from_x = omega (arith, out_side);
         fits = omega (arith, g.words p);
         same = λ y h k. f.rest y h ∙ none_under (item_from s w p) (items s f.more (p + s) w) f.sound y (omega (arith, out_side));
         next = λ e h k. go e h k (eqb (get_or w p 0 - 1) e) refl;
+        end = refl;
       })
         where
           f : Front s w x p g
@@ -232,6 +232,7 @@ module _ (s : ℕ) (w : List ℕ) (x : ℕ) (g : Input s w) where
           λ y h l. f.rest y h ∙ val_in (item_from s w b) (items s f.more (b + s) w) y (omega arith) l
           ∙ ap (λ (i : ℕ). some (take (s - 2) (drop i w))) two;
       next = λ e h l. go e h l (eqb (get_or w (b + 1) 0) e) refl;
+      end = refl;
     }
       where
         two : b + 2 ≡ b + 1 + 1
@@ -310,30 +311,26 @@ module _ (s : ℕ) (w : List ℕ) (x : ℕ) (g : Input s w) where
       go true z = absurd (in_not_end (point_as true z o) e)
       go false z = subst (λ (d : Cursor). TurnAt s w x d (turn M d)) (cursor_is c false z) (turn_none (point_as false z o) e f)
 
-  -- before the end a word stands at the cursor
-  pub word_here : {c : Cursor} → Point s w x c → (c.place ≡ c.end → ⊥) → c.place < length w
-  word_here {c} o n = go c.inside refl
-    where
-      go : (t : Bool) → c.inside ≡ t → c.place < length w
-      go true z = omega (arith, in_here (point_as true z o), g.two)
-      go false z = omega (arith, out_here (point_as false z o) n, g.two)
+  -- outside, before the end: the run goes up to the next item
+  pub turn_low : {c : Cursor} → Point s w x c → c.inside ≡ false → (c.place ≡ c.end → ⊥) → (l : ℕ) → l ≡ get_or w c.place 0
+      → TurnAt s w x c (turn (l - 1) (cursor (c.place + 1) true c.end))
+  turn_low {c} o e n l i = turn_as false e (turn_out (point_as false e o) n l i)
 
   -- in a set, before the end: the word found is the run's last number, or the first behind it
-  module _ {p end : ℕ} {inside : Bool} (o : Point s w x (cursor p inside end)) (z : s ≡ 2) (n : p ≡ end → ⊥) (h : ℕ) (eh : h ≡ get_or w p 0) where
-    pub set_found : 1 ≤ h + bit inside
-    set_found = go inside refl
-      where
-        go : (t : Bool) → inside ≡ t → 1 ≤ h + bit t
-        go true e = omega arith
-        go false e = omega (arith, out_side (point_as false e o) n)
+  pub turn_set : {c : Cursor} → Point s w x c → s ≡ 2 → (c.place ≡ c.end → ⊥) → (h : ℕ) → h ≡ get_or w c.place 0 → (f : ℕ) → f ≡ bit (not c.inside)
+      → TurnAt s w x c (turn (h - f) (cursor (c.place + 1) (not c.inside) c.end))
+  turn_set {c} o z n h eh f ef = rw ef (go c.inside refl)
+    where
+      go : (t : Bool) → c.inside ≡ t → TurnAt s w x c (turn (h - bit (not t)) (cursor (c.place + 1) (not t) c.end))
+      go true e =
+          let k : h - 0 ≡ h = omega arith in
+          turn_as true e (rw k (leave_set (point_as true e o) h (c.place + 1) eh (omega arith) z))
+      go false e = turn_low o e n h eh
 
-    pub turn_set : TurnAt s w x (cursor p inside end) (turn (h + bit inside - 1) (cursor (p + 1) (not inside) end))
-    turn_set = go inside refl
-      where
-        go : (t : Bool) → inside ≡ t → TurnAt s w x (cursor p inside end) (turn (h + bit t - 1) (cursor (p + 1) (not t) end))
-        go true e =
-            let k : h + 1 - 1 ≡ h = omega arith in
-            turn_as true e (rw k (leave_set (point_as true e o) h (p + 1) eh (omega arith) z))
-        go false e =
-            let k : h + 0 - 1 ≡ h - 1 = omega arith in
-            turn_as false e (rw k (turn_out (point_as false e o) n h eh))
+-- in a set, the place of a cursor says its side
+pub by_place : {s : ℕ} {w : List ℕ} {x : ℕ} {c : Cursor} → Point s w x c → s ≡ 2 → eqb (c.place % 2) 0 ≡ c.inside
+by_place {s} {w} {x} {c} o z = go c.inside o.place (rw z at o.cur.ends)
+  where
+    go : (t : Bool) → c.place ≡ o.base + bit t → o.base + 2 * o.cur.left ≡ 1 + 2 * get_or w 0 0 → eqb (c.place % 2) 0 ≡ t
+    go true e f = eq-eqb (c.place % 2) 0 (omega arith)
+    go false e f = ne_eqb (c.place % 2) 0 (λ (h : c.place % 2 ≡ 0). omega arith)

@@ -6,27 +6,21 @@ use mathlib.Core.List.{List, ◌∷◌}
 use Prim.Native.Nat.{ℕ, suc, ◌+◌, ◌-◌, ◌≤◌, ◌<◌, min}
 use native.Mathlib.Omega.{arith}
 use lib.ListN.{length, get_or, take, drop}
-use lib.Seq.{drop-cons, take-take}
+use lib.Seq.{drop-cons}
 use lib.Dec.{eqb}
 use borrow.Author.Tests.{lt-ltb, eq-eqb, ne_eqb}
 use Rattle.entries.specs.Entries.{Value}
 use Rattle.entries.specs.Build.{pick, andb, same_words}
 use Rattle.entries.specs.Sets.{has, past_m}
-use Rattle.sweeps.specs.Sweeps.{accepts, mixed, swept, Input, Inputs, width_of, Fit}
+use Rattle.sweeps.specs.Sweeps.{accepts, mixed, swept, width_of}
 use Rattle.sweeps.specs.declared.Cursor.{Cursor}
-use Rattle.sweeps.specs.Cursors.{cursor, turn, shown, value_of, value_behind, first_behind, Point, TurnAt, PointsAt, SegmentAt}
-use Rattle.sweeps.specs.declared.Plan.{Plan}
+use Rattle.sweeps.specs.Cursors.{shown, value_of, value_behind, first_behind, Point, TurnAt, PointsAt, SegmentAt, Swept}
+use Rattle.sweeps.specs.declared.Lists.{Lists}
 use Rattle.sweeps.specs.declared.Words.{Words}
-use Rattle.sweeps.specs.declared.Places.{Places}
-use Rattle.sweeps.specs.declared.Sides.{Sides}
+use Rattle.sweeps.specs.declared.Cursors.{Cursors}
 use Rattle.sweeps.specs.declared.Run.{Run}
 use Rattle.sweeps.specs.declared.Segment.{Segment}
 use Rattle.sweeps.proofs.Runs.{point_as, in_here}
-
--- a choice between the same is no choice
-pub pick_same : {A : Type 0} (t : Bool) (x : A) → x ≡ pick t x x
-pick_same true x = refl
-pick_same false x = refl
 
 -- words as a value, by the words an item has
 module _ (s : ℕ) (v : Words) (w : List ℕ) (p : ℕ) where
@@ -45,9 +39,6 @@ module _ (s : ℕ) (v : Words) (w : List ℕ) (p : ℕ) where
 
 -- two values compared, by the words an item has
 module _ (s : ℕ) (u v : Words) where
-  pub same_two : s ≡ 2 → true ≡ same_words (value_of s u) (value_of s v)
-  same_two e = rw e
-
   pub same_three : s ≡ 3 → u.first ≡ v.first → true ≡ same_words (value_of s u) (value_of s v)
   same_three e f = rw (e, eq-eqb u.first v.first f)
 
@@ -61,67 +52,25 @@ module _ (s : ℕ) (u v : Words) where
   pub same_differ : 2 < s → (u.first ≡ v.first → ⊥) → false ≡ same_words (value_of s u) (value_of s v)
   same_differ h f = let k : s - 2 ≡ suc (s - 3) = omega arith in rw (k, ne_eqb u.first v.first f)
 
--- the value that is carried where the table accepts
-module _ {plan : Plan} {a b c : List ℕ} {x : ℕ} {kept : Bool} (at : Places) (sides : Sides) (ends : Places)
-    (g : Inputs plan.a plan.b plan.c a b c) (f : Fit plan.table plan.out plan.a plan.b plan.c)
-    (o : PointsAt plan a b c x at sides ends) (e : kept ≡ accepts plan.table sides.a sides.b sides.c) where
-  abbrev Carries : Words → Type 0
-  Carries r = shown kept (take (plan.out - 2) (first_behind plan a b c at sides)) ≡ shown kept (value_of plan.out r)
+-- Where the table accepts and neither of the first two is inside, the third is, and has the words of the value.
+module _ {ls : Lists} {x : ℕ} {kept : Bool} (at : Cursors) (g : Swept ls) (o : PointsAt ls x at)
+    (e : kept ≡ accepts ls.plan.table at.a.inside at.b.inside at.c.inside) (y : kept ≡ true) (ia : at.a.inside ≡ false) (ib : at.b.inside ≡ false)
+    (ne : ls.plan.out ≡ 2 → ⊥) where
+  wide : ls.plan.out ≤ width_of ls.plan.a ls.plan.b ls.plan.c false false at.c.inside
+  wide = rw (ia, ib) at (g.fit.wide at.a.inside at.b.inside at.c.inside (sym e ∙ y))
 
-  pub carried_set : (r : Words) → plan.out ≡ 2 → Carries r
-  carried_set r z = rw z
+  -- as a table that accepts outside all makes a set
+  inner : at.c.inside ≡ true
+  inner = go at.c.inside refl
+    where
+      go : (t : Bool) → at.c.inside ≡ t → t ≡ true
+      go true z = refl
+      go false z = absurd (ne (let l = rw z at wide in omega (arith, g.fit.two)))
 
-  pub carried_none : (r : Words) → kept ≡ false → Carries r
-  carried_none r z = rw z
-
-  module _ (y : kept ≡ true) where
-    wide : plan.out ≤ width_of plan.a plan.b plan.c sides.a sides.b sides.c
-    wide = f.wide sides.a sides.b sides.c (sym e ∙ y)
-
-    reach : (s : ℕ) (w : List ℕ) (m : Cursor) → Input s w → Point s w x m → m.inside ≡ true → plan.out ≤ s → m.place + plan.out ≤ 1 + length w
-    reach s w m h p z l = omega (arith, in_here s w x h (point_as true z p))
-
-    cut : (s : ℕ) (w : List ℕ) (p : ℕ) (r : Words) → plan.out ≤ s → value_of plan.out r ≡ value_behind plan.out w p
-        → take (plan.out - 2) (value_behind s w p) ≡ value_of plan.out r
-    cut s w p r l q = take-take (plan.out - 2) (s - 2) (drop (p + 1) w) (omega arith) ∙ sym q
-
-    module _ (ia : sides.a ≡ true) where
-      wide_a : plan.out ≤ plan.a
-      wide_a = rw ia at wide
-
-      pub reach_a : at.a + plan.out ≤ 1 + length a
-      reach_a = reach plan.a a _ g.first o.at_a ia wide_a
-
-      pub carried_a : (r : Words) → value_of plan.out r ≡ value_behind plan.out a at.a → Carries r
-      carried_a r q = rw ia (ap (shown kept) (cut plan.a a at.a r wide_a q))
-
-    module _ (ia : sides.a ≡ false) (ib : sides.b ≡ true) where
-      wide_b : plan.out ≤ plan.b
-      wide_b = rw (ia, ib) at wide
-
-      pub reach_b : at.b + plan.out ≤ 1 + length b
-      reach_b = reach plan.b b _ g.second o.at_b ib wide_b
-
-      pub carried_b : (r : Words) → value_of plan.out r ≡ value_behind plan.out b at.b → Carries r
-      carried_b r q = rw (ia, ib) (ap (shown kept) (cut plan.b b at.b r wide_b q))
-
-    module _ (ia : sides.a ≡ false) (ib : sides.b ≡ false) (ne : plan.out ≡ 2 → ⊥) where
-      -- the third is inside, as a table that accepts outside all makes a set
-      inner : sides.c ≡ true
-      inner = go sides.c refl
-        where
-          go : (t : Bool) → sides.c ≡ t → t ≡ true
-          go true z = refl
-          go false z = absurd (ne (let l = rw (ia, ib, z) at wide in omega (arith, f.two)))
-
-      wide_c : plan.out ≤ plan.c
-      wide_c = rw (ia, ib, inner) at wide
-
-      pub reach_c : at.c + plan.out ≤ 1 + length c
-      reach_c = reach plan.c c _ g.third o.at_c inner wide_c
-
-      pub carried_c : (r : Words) → value_of plan.out r ≡ value_behind plan.out c at.c → Carries r
-      carried_c r q = rw (ia, ib, inner) (ap (shown kept) (cut plan.c c at.c r wide_c q))
+  pub reach_c : at.c.place + ls.plan.out ≤ 1 + length ls.c.now
+  reach_c =
+      let wide_c = rw inner at wide in
+      omega (arith, in_here ls.plan.c ls.c.now x g.inputs.third (point_as true inner o.at_c))
 
 has_shown : (b : Bool) (v : Value) → has (shown b v) ≡ b
 has_shown true v = refl
@@ -131,31 +80,27 @@ shown_pick : (b : Bool) (v : Value) → pick b (some v) none ≡ shown b v
 shown_pick true v = refl
 shown_pick false v = refl
 
-cursor_pick : (t b d : Bool) (p q e : ℕ) → pick t (cursor q d e) (cursor p b e) ≡ cursor (pick t q p) (pick t d b) e
-cursor_pick true b d p q e = refl
-cursor_pick false b d p q e = refl
+pub cursor_pick : (t : Bool) (c d : Cursor) (p e : ℕ) (b : Bool) → p ≡ pick t d.place c.place → b ≡ pick t d.inside c.inside → d.end ≡ c.end → e ≡ c.end
+    → record { place = p; inside = b; end = e } ≡ pick t d c
+cursor_pick true c d p e b x y v z = λ i. record { place = x i; inside = y i; end = (z ∙ sym v) i }
+cursor_pick false c d p e b x y v z = λ i. record { place = x i; inside = y i; end = z i }
 
 -- a cursor behind the segment
-next_point : (s : ℕ) (w : List ℕ) (x p q e last p' : ℕ) (b d b' : Bool) → TurnAt s w x (cursor p b e) (turn last (cursor q d e)) → (h : ℕ) → x ≤ h → h ≤ last
-    → p' ≡ pick (eqb last h) q p → b' ≡ pick (eqb last h) d b → Point s w (h + 1) (cursor p' b' e)
-next_point s w x p q e last p' b d b' t h l m ep eb = rw (ep, eb, ← cursor_pick (eqb last h) b d p q e) (t.next h l m)
+next_point : {s : ℕ} {w : List ℕ} {x : ℕ} {c d : Cursor} {r : Run} → TurnAt s w x c r → (h : ℕ) → x ≤ h → h ≤ r.last
+    → d ≡ pick (eqb r.last h) r.then c → Point s w (h + 1) d
+next_point t h l m e = rw e (t.next h l m)
 
-module _ (plan : Plan) (a b c : List ℕ) (x : ℕ) (at : Places) (sides : Sides) (ends : Places) (i j k : Run) where
-  abbrev turns : Type 0
-  turns = TurnAt plan.a a x (cursor at.a sides.a ends.a) (turn i.last (cursor i.next i.then ends.a))
-      × TurnAt plan.b b x (cursor at.b sides.b ends.b) (turn j.last (cursor j.next j.then ends.b))
-      × TurnAt plan.c c x (cursor at.c sides.c ends.c) (turn k.last (cursor k.next k.then ends.c))
-
-  pub segment_made : (r : Segment) (m : ℕ) → turns → m ≡ min i.last j.last → r.last ≡ min m k.last
-      → r.inside ≡ accepts plan.table sides.a sides.b sides.c
-      → shown r.inside (take (plan.out - 2) (first_behind plan a b c at sides)) ≡ shown r.inside (value_of plan.out r.value)
-      → (r.at.a ≡ pick (eqb i.last r.last) i.next at.a) × (r.at.b ≡ pick (eqb j.last r.last) j.next at.b) ×
-      (r.at.c ≡ pick (eqb k.last r.last) k.next at.c)
-      → (r.sides.a ≡ pick (eqb i.last r.last) i.then sides.a) × (r.sides.b ≡ pick (eqb j.last r.last) j.then sides.b) ×
-      (r.sides.c ≡ pick (eqb k.last r.last) k.then sides.c)
-      → SegmentAt plan a b c x ends r
+module _ (ls : Lists) (x : ℕ) (at : Cursors) (i j k : Run) where
+  pub segment_made : (r : Segment) → TurnAt ls.plan.a ls.a.now x at.a i × TurnAt ls.plan.b ls.b.now x at.b j × TurnAt ls.plan.c ls.c.now x at.c k
+      → r.last ≡ min (min i.last j.last) k.last
+      → r.inside ≡ accepts ls.plan.table at.a.inside at.b.inside at.c.inside
+      → shown r.inside (take (ls.plan.out - 2) (first_behind ls at)) ≡ shown r.inside (value_of ls.plan.out r.value)
+      → r.then.a ≡ pick (eqb i.last r.last) i.then at.a
+      → r.then.b ≡ pick (eqb j.last r.last) j.then at.b
+      → r.then.c ≡ pick (eqb k.last r.last) k.then at.c
+      → SegmentAt ls x r
   unfolding swept mixed
-  segment_made r m t em ee eu ev ep es =
+  segment_made r t em eu ev ea eb ec =
       let h : x ≤ r.last = omega (arith, t.0.from_x, t.1.from_x, t.2.from_x) in
       record {
         from_x = h;
@@ -166,21 +111,15 @@ module _ (plan : Plan) (a b c : List ℕ) (x : ℕ) (at : Places) (sides : Sides
               t.0.same y p (omega arith),
               t.1.same y p (omega arith),
               t.2.same y p (omega arith),
-              has_shown sides.a (value_behind plan.a a at.a),
-              has_shown sides.b (value_behind plan.b b at.b),
-              has_shown sides.c (value_behind plan.c c at.c),
+              has_shown at.a.inside (value_behind ls.plan.a ls.a.now at.a.place),
+              has_shown at.b.inside (value_behind ls.plan.b ls.b.now at.b.place),
+              has_shown at.c.inside (value_behind ls.plan.c ls.c.now at.c.place),
               ← eu,
             )
-            (shown_pick r.inside (take (plan.out - 2) (first_behind plan a b c at sides)) ∙ ev);
+            (shown_pick r.inside (take (ls.plan.out - 2) (first_behind ls at)) ∙ ev);
         points = record {
-          at_a =
-              next_point plan.a a x at.a i.next ends.a i.last r.at.a sides.a i.then r.sides.a t.0 r.last h
-              (omega arith) ep.0 es.0;
-          at_b =
-              next_point plan.b b x at.b j.next ends.b j.last r.at.b sides.b j.then r.sides.b t.1 r.last h
-              (omega arith) ep.1 es.1;
-          at_c =
-              next_point plan.c c x at.c k.next ends.c k.last r.at.c sides.c k.then r.sides.c t.2 r.last h
-              (omega arith) ep.2 es.2;
+          at_a = next_point t.0 r.last h (omega arith) ea;
+          at_b = next_point t.1 r.last h (omega arith) eb;
+          at_c = next_point t.2 r.last h (omega arith) ec;
         };
       }

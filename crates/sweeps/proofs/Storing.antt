@@ -4,10 +4,7 @@ use mathlib.Core.Bool.{Bool, true, false}
 use mathlib.Core.List.{List, [], ◌∷◌, ◌++◌}
 use Prim.Native.Nat.{ℕ, zero, suc, ◌+◌, ◌*◌, ◌-◌, ◌≤◌, ◌<◌, min}
 use native.Mathlib.Omega.{arith}
-use native.Mathlib.Decide.{dec_le}
-use lib.Dec.{leb, ltb}
-use borrow.Author.Tests.{le-leb, lt-leb, le-ltb, lt-ltb}
-use native.Mathlib.Nat.{mul-suc, mul-zero, mul-le-mul_left}
+use native.Mathlib.Nat.{mul-suc, mul-zero}
 use lib.ListN.{length, get_or, set, drop, length-set, take-append-drop}
 use lib.Seq.{get_or-set_same, get_or-set_other}
 use Rattle.entries.specs.Entries.{Value, Entry, entry}
@@ -17,7 +14,7 @@ use Rattle.blocks.specs.Steps.{item_from, Cleared}
 use Rattle.blocks.proofs.Moves.{part_eq, splice_entries}
 use Rattle.blocks.proofs.Tests.{le_mul}
 use Rattle.sweeps.specs.Sweeps.{bit}
-use Rattle.sweeps.specs.Cursors.{items, value_of, begins, raise, grow, Addable, Holds, Laid, Stored}
+use Rattle.sweeps.specs.Cursors.{items, value_of, raise, grow, Addable, Holds, Laid, Stored}
 use Rattle.sweeps.specs.declared.Words.{Words}
 use Rattle.sweeps.proofs.Runs.{items_are}
 use Rattle.sweeps.proofs.Segments.{words_two, words_three, words_four}
@@ -57,11 +54,6 @@ module _ (s : ℕ) (two : 2 ≤ s) where
   laid_over {w} {o} {h} {v} n r l =
       laid_new n r l ∙ sym
       (ap (λ (es : List Entry). raise es h v) (items_snoc w n 1 (1 + s * n) refl) ∙ raise_snoc (items s n 1 w) (item_from s w (1 + s * n)) h v)
-
--- an item's words stored, by how many there are
-pub bit_one : (b : Bool) → bit b ≤ 1
-bit_one true = omega arith
-bit_one false = omega arith
 
 -- x as the low end, or in the high end's place, and h as the high end
 module _ (d : List ℕ) (q x h : ℕ) (join : Bool) (low : ℕ) (el : low ≡ q + bit join) (room : q + 2 ≤ length d) where
@@ -132,18 +124,6 @@ module _ (s : ℕ) (d : List ℕ) (q x h : ℕ) (join : Bool) (low : ℕ) (el : 
   }
 
 -- a segment added to the items
-module _ {keep inside join : Bool} {s n l : ℕ} (g : Addable keep s n inside join l) where
-  -- the place of the item that is laid
-  pub add_room : (k : ℕ) → k ≡ n - bit join → 1 + s * pick keep k 0 ≤ l
-  add_room k e = go keep g.room
-    where
-      go : (t : Bool) → 1 + s * pick t (n + begins inside join) 0 ≤ l → 1 + s * pick t k 0 ≤ l
-      go true h = omega (arith, mul-le-mul_left {m = k} {n = n + begins inside join} s (omega arith))
-      go false h = h
-
-  pub add_count : (k r : ℕ) → k ≡ n - bit join → r ≡ k + bit inside → r ≡ n + begins inside join
-  add_count k r ek er = omega (arith, g.from_one, g.goes_on)
-
 pub added : (keep inside join : Bool) (s n x h : ℕ) (v : Value) (d o : List ℕ) (k r : ℕ) → Addable keep s n inside join (length d) → k ≡ n - bit join
     → r ≡ k + bit inside
     → Stored keep s d k join x h v o → Holds keep s r o (grow inside join (items s n 1 d) x h v)
@@ -165,34 +145,12 @@ added true true true s n x h v d o k r g ek er st =
     let c : n + 0 ≡ suc k = omega arith in
     rw (b, a) (laid_over s g.two k (rw c at g.room) st)
 
--- no room: nothing is laid
-pub laid_not : (s : ℕ) (d : List ℕ) (q x h : ℕ) (v : Value) → length d < q + s → Laid s d q x h v d
-laid_not s d q x h v f = record { long = refl; kept = λ j l. refl; item = λ r. absurd (omega arith) }
-
 -- room for all that is listed: the count stops at none
 pub all_met : (s l r len : ℕ) → 2 ≤ s → 1 + s * l ≤ len → r ≡ min l len → (l < len) × (1 + s * r ≤ len)
 all_met s l r len two h e =
     let k = le_mul s l two in
     let f : r ≡ l = omega arith in
     (omega arith, rw f h)
-
--- the bound, and the count, against a capacity
-pub bound_fits : (l b cap : ℕ) → l ≤ b → b ≤ cap → true ≡ leb l cap
-bound_fits l b cap p q = sym (le-leb l cap (omega arith))
-
-pub few_enough : (l r cap : ℕ) → r ≡ min l (cap + 1) → leb r cap ≡ leb l cap
-few_enough l r cap e = go (dec_le l cap)
-  where
-    go : Dec (l ≤ cap) → leb r cap ≡ leb l cap
-    go (yes h) = le-leb r cap (omega arith) ∙ sym (le-leb l cap h)
-    go (no h) = lt-leb r cap (omega arith) ∙ sym (lt-leb l cap (omega arith))
-
-pub some_met : (l r : ℕ) → r ≡ min l 1 → ltb 0 r ≡ ltb 0 l
-some_met l r e = go (dec_le l 0)
-  where
-    go : Dec (l ≤ 0) → ltb 0 r ≡ ltb 0 l
-    go (yes h) = le-ltb 0 r (omega arith) ∙ sym (le-ltb 0 l h)
-    go (no h) = lt-ltb 0 r (omega arith) ∙ sym (lt-ltb 0 l (omega arith))
 
 -- n items behind word 0, the count set to n, zeros behind: the block
 pub finished : (s : ℕ) → 2 ≤ s → (w o : List ℕ) (n m len : ℕ) (es : List Entry) → length w ≡ len → items s n 1 w ≡ es → m ≡ n → 1 + s * n ≤ len

@@ -3,15 +3,16 @@ use Rattle.std.specs.Prelude.{◌≡◌, Bool, true, false, List, [], ◌∷◌,
 use Rattle.std.proofs.Math.Option.{Option, none, some}
 use Rattle.entries.specs.Sets.{past_m, M}
 use Rattle.entries.specs.Entries.{Value, Entry, entry, value_at, Sound}
-use Rattle.entries.specs.Build.{pick, andb, same_words}
+use Rattle.entries.specs.Build.{pick, same_words}
 use Rattle.blocks.specs.Blocks.{entries_of}
 use Rattle.blocks.specs.Steps.{item_from}
-use Rattle.sweeps.specs.Sweeps.{bit, first_of, swept}
+use Rattle.sweeps.specs.Sweeps.{bit, first_of, swept, result_of, Inputs, Fit}
 use Rattle.sweeps.specs.declared.Plan.{Plan}
+use Rattle.sweeps.specs.declared.Lists.{Lists}
 use Rattle.sweeps.specs.declared.Words.{Words}
 use Rattle.sweeps.specs.declared.Cursor.{Cursor}
-use Rattle.sweeps.specs.declared.Places.{Places}
-use Rattle.sweeps.specs.declared.Sides.{Sides}
+use Rattle.sweeps.specs.declared.Cursors.{Cursors}
+use Rattle.sweeps.specs.declared.Run.{Run}
 use Rattle.sweeps.specs.declared.Segment.{Segment}
 
 -- k items of s words from place p on
@@ -35,21 +36,22 @@ value_behind s w p = take (s - 2) (drop (p + 1) w)
 abbrev pub set_plan : ℕ → Plan
 set_plan t = record { table = t; a = 2; b = 2; c = 2; out = 2 }
 
-abbrev pub only_sets : Plan → Bool
-only_sets plan = andb (eqb plan.a 2) (andb (eqb plan.b 2) (andb (eqb plan.c 2) (eqb plan.out 2)))
+-- judged inputs, and an output that fits them
+pub record Swept (l : Lists) : Type 0 where
+  pub inputs : Inputs l.plan.a l.plan.b l.plan.c l.a.now l.b.now l.c.now
+  pub fit : Fit l.plan.table l.plan.out l.plan.a l.plan.b l.plan.c
 
-abbrev pub swept_of : Plan → List ℕ → List ℕ → List ℕ → ℕ → Option Value
-swept_of plan a b c = swept plan.table plan.out (entries_of plan.a a) (entries_of plan.b b) (entries_of plan.c c)
+abbrev pub swept_of : Lists → ℕ → Option Value
+swept_of l = swept l.plan.table l.plan.out (entries_of l.plan.a l.a.now) (entries_of l.plan.b l.b.now) (entries_of l.plan.c l.c.now)
 
--- the last number of a run, and the cursor behind it
-pub record Turn : Type 0 where
-  pub last : ℕ
-  pub then : Cursor
+-- the items of the result
+abbrev pub listed : Lists → List Entry
+listed l = result_of l.plan l.a.now l.b.now l.c.now
 
 abbrev pub cursor : ℕ → Bool → ℕ → Cursor
 cursor p b e = record { place = p; inside = b; end = e }
 
-abbrev pub turn : ℕ → Cursor → Turn
+abbrev pub turn : ℕ → Cursor → Run
 turn h c = record { last = h; then = c }
 
 abbrev pub Ahead : ℕ → List Entry → Type 0
@@ -78,33 +80,30 @@ pub record Point (s : ℕ) (w : List ℕ) (x : ℕ) (c : Cursor) : Type 0 where
   pub end : c.end ≡ 1 + s * get_or w 0 0
 
 -- from x to the last number of the run the value is the cursor's, or none; behind it the cursor has turned
-pub record TurnAt (s : ℕ) (w : List ℕ) (x : ℕ) (c : Cursor) (t : Turn) : Type 0 where
+pub record TurnAt (s : ℕ) (w : List ℕ) (x : ℕ) (c : Cursor) (t : Run) : Type 0 where
   pub from_x : x ≤ t.last
   pub fits : t.last < past_m
   pub same : (y : ℕ) → x ≤ y → y ≤ t.last → value_at (entries_of s w) y ≡ shown c.inside (value_behind s w c.place)
   pub next : (e : ℕ) → x ≤ e → e ≤ t.last → Point s w (e + 1) (pick (eqb t.last e) t.then c)
+  pub end : t.then.end ≡ c.end
 
 -- the three cursors at x
-pub record Points (plan : Plan) (a b c : List ℕ) (x : ℕ) (i j k : Cursor) : Type 0 where
-  pub at_a : Point plan.a a x i
-  pub at_b : Point plan.b b x j
-  pub at_c : Point plan.c c x k
-
-abbrev pub PointsAt : Plan → List ℕ → List ℕ → List ℕ → ℕ → Places → Sides → Places → Type 0
-PointsAt plan a b c x at sides ends =
-    Points plan a b c x (cursor at.a sides.a ends.a) (cursor at.b sides.b ends.b) (cursor at.c sides.c ends.c)
+pub record PointsAt (l : Lists) (x : ℕ) (at : Cursors) : Type 0 where
+  pub at_a : Point l.plan.a l.a.now x at.a
+  pub at_b : Point l.plan.b l.b.now x at.b
+  pub at_c : Point l.plan.c l.c.now x at.c
 
 -- the value of the first input that is inside
-abbrev pub first_behind : Plan → List ℕ → List ℕ → List ℕ → Places → Sides → Value
-first_behind plan a b c at sides = first_of (shown sides.a (value_behind plan.a a at.a))
-    (shown sides.b (value_behind plan.b b at.b)) (shown sides.c (value_behind plan.c c at.c))
+abbrev pub first_behind : Lists → Cursors → Value
+first_behind l at = first_of (shown at.a.inside (value_behind l.plan.a l.a.now at.a.place))
+    (shown at.b.inside (value_behind l.plan.b l.b.now at.b.place)) (shown at.c.inside (value_behind l.plan.c l.c.now at.c.place))
 
 -- from x to the last number of the segment the sweep gives one value, or none; the cursors behind it
-pub record SegmentAt (plan : Plan) (a b c : List ℕ) (x : ℕ) (ends : Places) (s : Segment) : Type 0 where
+pub record SegmentAt (l : Lists) (x : ℕ) (s : Segment) : Type 0 where
   pub from_x : x ≤ s.last
   pub fits : s.last < past_m
-  pub same : (y : ℕ) → x ≤ y → y ≤ s.last → swept_of plan a b c y ≡ shown s.inside (value_of plan.out s.value)
-  pub points : PointsAt plan a b c (s.last + 1) s.at s.sides ends
+  pub same : (y : ℕ) → x ≤ y → y ≤ s.last → swept_of l y ≡ shown s.inside (value_of l.plan.out s.value)
+  pub points : PointsAt l (s.last + 1) s.then
 
 -- whether a value goes on
 abbrev pub same_as : Option Value → Value → Bool

@@ -2,6 +2,7 @@
 -- table accepts. No public promise names these: each operation is said by its own definition, and a law of proofs/Tables
 -- says that the sweep with its table gives it.
 use Rattle.std.specs.Prelude.{◌≡◌, Bool, true, false, not, List, [], ◌∷◌, ◌++◌, ℕ, ◌+◌, ◌*◌, ◌-◌, ◌/◌, ◌%◌, ◌^◌, ◌≤◌, ◌<◌, ltb, eqb, length, get_or, take}
+use Rattle.std.specs.Int.{from_bool}
 use Rattle.std.proofs.Math.Option.{Option, none, some}
 use Rattle.entries.specs.Entries.{Value, Entry, value_at, Sound}
 use Rattle.entries.specs.Build.{pick, andb, build, cuts_of}
@@ -11,8 +12,7 @@ use Rattle.sweeps.specs.declared.Plan.{Plan}
 
 -- 1 for true
 abbrev pub bit : Bool → ℕ
-bit true = 1
-bit false = 0
+bit = from_bool
 
 -- the table of a test of three memberships a, b, c, one bit for each case: bit a + 2b + 4c
 abbrev pub table_of : (Bool → Bool → Bool → Bool) → ℕ

@@ -2,12 +2,12 @@
 // makes a list from lists is a table of it.
 #![tactic(auto)]
 
-ghost use Rattle.std.specs.Prelude.{◌≡◌, true, false, ◌+◌, ◌*◌, ◌-◌, ◌≤◌, ◌<◌, min, leb, ltb, length, get_or, take};
+ghost use Rattle.std.specs.Prelude.{◌≡◌, true, false, ◌+◌, ◌*◌, ◌-◌, ◌≤◌, ◌<◌, leb, ltb, eqb, length, get_or, take};
 ghost use Rattle.entries.specs.Build.{pick, andb, same_words};
 ghost use Rattle.entries.specs.Sets.{M};
 ghost use Rattle.blocks.specs.Blocks.{block_of};
 ghost use Rattle.sweeps.specs.Sweeps.{bit, accepts, result_of, Input, Inputs, Fit};
-ghost use Rattle.sweeps.specs.Cursors.{set_plan, only_sets, cursor, turn, items, shown, value_of, value_behind, Point, TurnAt, PointsAt};
+ghost use Rattle.sweeps.specs.Cursors.{set_plan, cursor, items, shown, value_of, value_behind, Point, TurnAt, PointsAt, Swept, listed};
 ghost use Rattle.sweeps.specs.Cursors.{first_behind, SegmentAt, same_as, begins, grow, Addable, Holds, Laid, Stored, Stopped};
 
 // The tables of the sweep: bit a + 2b + 4c says whether a number is kept that is in the first (a), the second (b) and the third
@@ -27,7 +27,7 @@ pub const IN_FIRST: u8 = 0b1010_1010;
 pub const WITHOUT_THIRD_JOINED_WITH_SECOND: u8 = 0b1100_1110;
 
 // How the three inputs and the output are laid out, in words an item, and the table of the memberships.
-#[derive(Clone, Copy)]
+#[derive(Clone, Copy, PartialEq, Eq)]
 pub struct Plan {
     pub table: u8,
     pub a: usize,
@@ -36,433 +36,268 @@ pub struct Plan {
     pub out: usize,
 }
 
+// What is swept: three blocks, how they and the output are laid out, and the table. `Swept` says that the blocks are judged and the output
+// fits them.
+#[derive(Clone, Copy)]
+struct Lists<'a> {
+    a: &'a [u64],
+    b: &'a [u64],
+    c: &'a [u64],
+    plan: Plan,
+}
+
 // The words of a value: as many of them as an item of the output has.
 #[derive(Clone, Copy)]
-pub struct Words {
-    pub first: u64,
-    pub second: u64,
-}
-
-// A place in each input.
-#[derive(Clone, Copy)]
-pub struct Places {
-    pub a: usize,
-    pub b: usize,
-    pub c: usize,
-}
-
-// For each input, whether the sweep stands inside an item of it.
-#[derive(Clone, Copy)]
-pub struct Sides {
-    pub a: bool,
-    pub b: bool,
-    pub c: bool,
+struct Words {
+    first: u64,
+    second: u64,
 }
 
 // Where a sweep stands in an input: outside at the low word of the next item or at the end of the items, inside at the item's high word.
 #[derive(Clone, Copy)]
-pub struct Cursor {
-    pub place: usize,
-    pub inside: bool,
-    pub end: usize,
+struct Cursor {
+    place: usize,
+    inside: bool,
+    end: usize,
 }
 
 // The three cursors.
 #[derive(Clone, Copy)]
-pub struct Starts {
-    pub at: Places,
-    pub sides: Sides,
-    pub ends: Places,
+struct Cursors {
+    a: Cursor,
+    b: Cursor,
+    c: Cursor,
 }
 
-// The last number of a run, and the place and the side of the cursor behind it.
+// The last number of a run, and the cursor behind it.
 #[derive(Clone, Copy)]
-pub struct Run {
-    pub last: u64,
-    pub next: usize,
-    pub then: bool,
+struct Run {
+    last: u64,
+    then: Cursor,
 }
 
 // The last number of a segment, whether it has a value, the value, and the cursors behind it.
 #[derive(Clone, Copy)]
-pub struct Segment {
-    pub last: u64,
-    pub inside: bool,
-    pub value: Words,
-    pub at: Places,
-    pub sides: Sides,
+struct Segment {
+    last: u64,
+    inside: bool,
+    value: Words,
+    then: Cursors,
 }
 
+// A segment to be stored: its ends and its value, and whether it goes on from the last item, whose low end then stays.
+#[derive(Clone, Copy)]
+struct Piece {
+    low: u64,
+    high: u64,
+    value: Words,
+    goes_on: bool,
+}
+
+// The words of no value.
+const NOTHING: Words = Words {
+    first: 0,
+    second: 0,
+};
+
 // The cursor at 0: outside at the first low word, or inside the first item where that begins at 0.
+#[tactic(auto, using(crate::proofs::Runs::held_by, crate::proofs::Runs::start_none, crate::proofs::Runs::start_in_lem, crate::proofs::Runs::start_out))]
 fn start(w: &[u64], s: usize) -> Cursor
     requires { Input s w.now }
     ensures { Point s w.now 0 result }
 {
-    let n = blocks::wide(blocks::word(w, 0));
+    let n = w[0] as usize;
     let end = 1 + s * n;
     if n == 0 {
         return Cursor {
             place: 1,
             inside: false,
-            end: end,
+            end,
         };
     }
-    if blocks::word(w, 1) == 0 {
+    if w[1] == 0 {
         return Cursor {
             place: 2,
             inside: true,
-            end: end,
+            end,
         };
     }
     Cursor {
         place: 1,
         inside: false,
-        end: end,
-    }
-}
-
-// The three cursors at 0.
-fn begin(a: &[u64], b: &[u64], c: &[u64], plan: Plan) -> Starts
-    requires { Inputs plan.a plan.b plan.c a.now b.now c.now }
-    ensures { PointsAt plan a.now b.now c.now 0 result.at result.sides result.ends }
-{
-    let i = start(a, plan.a);
-    let j = start(b, plan.b);
-    let k = start(c, plan.c);
-    Starts {
-        at: Places {
-            a: i.place,
-            b: j.place,
-            c: k.place,
-        },
-        sides: Sides {
-            a: i.inside,
-            b: j.inside,
-            c: k.inside,
-        },
-        ends: Places {
-            a: i.end,
-            b: j.end,
-            c: k.end,
-        },
+        end,
     }
 }
 
 // The run at x from inside an item whose high word stands at p: to its high end, and then into the next item where that touches it.
-#[tactic(auto, using(crate::proofs::Runs::in_here, crate::proofs::Runs::leave_last, crate::proofs::Runs::next_later, crate::proofs::Runs::next_here, crate::proofs::Runs::leave_touching, crate::proofs::Runs::leave_apart))]
+#[tactic(auto, using(crate::proofs::Runs::in_here, crate::proofs::Runs::next_here))]
 fn leave(w: &[u64], s: usize, p: usize, end: usize, x: u64) -> Run
     requires input { Input s w.now }
     requires point { Point s w.now x (cursor p true end) }
-    ensures { TurnAt s w.now x (cursor p true end) (turn result.last (cursor result.next result.then end)) }
+    ensures { TurnAt s w.now x (cursor p true end) result }
 {
-    let high = blocks::word(w, p);
+    let high = w[p];
     let q = p + (s - 1);
     if q == end {
         return Run {
             last: high,
-            next: q,
-            then: false,
+            then: Cursor {
+                place: q,
+                inside: false,
+                end,
+            },
         };
     }
-    let low = blocks::word(w, q);
+    let low = w[q];
     if low - high == 1 {
         return Run {
             last: high,
-            next: q + 1,
-            then: true,
+            then: Cursor {
+                place: q + 1,
+                inside: true,
+                end,
+            },
         };
     }
     Run {
         last: high,
-        next: q,
-        then: false,
+        then: Cursor {
+            place: q,
+            inside: false,
+            end,
+        },
     }
-}
-
-// The last number of a run, by the word found behind it or at its end.
-fn last_of(found: u64, inside: bool) -> u64
-    requires { 1 ≤ found + bit inside }
-    ensures { result ≡ found + bit inside - 1 }
-{
-    if inside { found } else { found - 1 }
 }
 
 // The run at x in a set, whose words are low and high ends in turn, and no item touches the next.
-fn flip(w: &[u64], s: usize, p: usize, inside: bool, end: usize, x: u64) -> Run
+#[tactic(auto, using(crate::proofs::Runs::turn_end))]
+fn flip(w: &[u64], s: usize, at: Cursor, x: u64) -> Run
     requires input { Input s w.now }
-    requires point { Point s w.now x (cursor p inside end) }
-    requires s_value { s ≡ 2 }
-    ensures { TurnAt s w.now x (cursor p inside end) (turn result.last (cursor result.next result.then end)) }
+    requires point { Point s w.now x at }
+    requires two { s ≡ 2 }
+    ensures { TurnAt s w.now x at result }
 {
-    if p == end {
+    if at.place == at.end {
         return Run {
-            last: blocks::M,
-            next: p,
-            then: inside,
+            last: u64::MAX,
+            then: at,
         };
     }
-    let found = blocks::word(w, p);
+    let found = w[at.place];
     Run {
-        last: last_of(found, inside),
-        next: p + 1,
-        then: !inside,
+        last: found - u64::from(!at.inside),
+        then: Cursor {
+            place: at.place + 1,
+            inside: !at.inside,
+            ..at
+        },
     }
 }
 
-// The run at x. Only the contract names x.
-fn run_at(w: &[u64], s: usize, p: usize, inside: bool, end: usize, x: u64) -> Run
+// The run at x. Of a set (`SETS`) the items are not told apart; at the end (not `MORE`) nothing is looked at. Only the contract names x.
+#[tactic(auto, using(crate::proofs::Runs::turn_end, crate::proofs::Runs::turn_as, crate::proofs::Runs::point_as))]
+fn run_at<const SETS: bool, const MORE: bool>(w: &[u64], s: usize, at: Cursor, x: u64) -> Run
     requires input { Input s w.now }
-    requires point { Point s w.now x (cursor p inside end) }
-    ensures { TurnAt s w.now x (cursor p inside end) (turn result.last (cursor result.next result.then end)) }
+    requires point { Point s w.now x at }
+    requires sets { SETS ≡ true → s ≡ 2 }
+    requires more { MORE ≡ false → at.place ≡ at.end }
+    ensures turn { TurnAt s w.now x at result }
+    ensures stays { MORE ≡ false → result.then ≡ at }
 {
-    if inside {
-        return leave(w, s, p, end, x);
-    }
-    if p == end {
+    if !MORE {
         return Run {
-            last: blocks::M,
-            next: p,
-            then: false,
+            last: u64::MAX,
+            then: at,
         };
     }
-    let low = blocks::word(w, p);
+    if SETS {
+        return flip(w, s, at, x);
+    }
+    if at.inside {
+        return leave(w, s, at.place, at.end, x);
+    }
+    if at.place == at.end {
+        return Run {
+            last: u64::MAX,
+            then: at,
+        };
+    }
     Run {
-        last: low - 1,
-        next: p + 1,
-        then: true,
+        last: w[at.place] - 1,
+        then: Cursor {
+            place: at.place + 1,
+            inside: true,
+            ..at
+        },
     }
 }
 
-// 1 for true.
-fn bit_of(b: bool) -> u8
-    ensures { (result ≡ bit b) × (result ≤ 1) }
+// The cursor at x. In a set (`SETS`) its place says the side, as low and high ends stand in turn, so that a loop has no side to carry. Only
+// the contract names the words and x.
+#[tactic(auto, using(crate::proofs::Runs::by_place))]
+fn sided<const SETS: bool>(w: &[u64], s: usize, at: Cursor, x: u64) -> Cursor
+    requires point { Point s w.now x at }
+    requires sets { SETS ≡ true → s ≡ 2 }
+    ensures { result ≡ at }
 {
-    if b { 1 } else { 0 }
+    if SETS {
+        return Cursor {
+            inside: at.place % 2 == 0,
+            ..at
+        };
+    }
+    at
 }
 
 // Bit a + 2b + 4c of the table t.
+#[tactic(auto, unfolding(crate::specs::Sweeps::accepts))]
 fn accepted(t: u8, a: bool, b: bool, c: bool) -> bool
     ensures { result ≡ accepts t a b c }
 {
-    let k = bit_of(a) + 2 * bit_of(b) + 4 * bit_of(c);
+    let k = u8::from(a) + 2 * u8::from(b) + 4 * u8::from(c);
     (t >> k) % 2 == 1
 }
 
-// The lesser of two.
-fn least(a: u64, b: u64) -> u64
-    ensures { result ≡ min a b }
+// The cursor behind a segment that ends at last: that behind its run, where the run ends there too. A choice without a branch.
+#[tactic(auto, using(crate::proofs::Segments::cursor_pick))]
+fn behind(run: Run, last: u64, at: Cursor) -> Cursor
+    requires { run.then.end ≡ at.end }
+    ensures { result ≡ pick (eqb run.last last) run.then at }
 {
-    if a < b { a } else { b }
-}
-
-// The side of a cursor behind a segment: that behind its run, where the run ends there too. A choice without a branch.
-fn turned(ends: bool, then: bool, inside: bool) -> bool
-    ensures { result ≡ pick ends then inside }
-{
-    if ends { then } else { inside }
+    let ends = run.last == last;
+    Cursor {
+        place: if ends { run.then.place } else { at.place },
+        inside: if ends { run.then.inside } else { at.inside },
+        ..at
+    }
 }
 
 // The words of a value behind place p, as many as an output of s words an item takes.
+#[tactic(auto, using(crate::proofs::Segments::words_three, crate::proofs::Segments::words_four))]
 fn words_behind(w: &[u64], s: usize, p: usize) -> Words
     requires { (2 ≤ s) × (s ≤ 4) × (p + s ≤ 1 + length w.now) }
     ensures { value_of s result ≡ value_behind s w.now p }
 {
     if s == 2 {
-        return Words {
-            first: 0,
-            second: 0,
-        };
+        return NOTHING;
     }
-    let first = blocks::word(w, p + 1);
+    let first = w[p + 1];
     if s == 3 {
-        return Words {
-            first: first,
-            second: 0,
-        };
+        return Words { first, second: 0 };
     }
     Words {
-        first: first,
-        second: blocks::word(w, p + 2),
-    }
-}
-
-// The words of no value.
-fn nothing() -> Words {
-    Words {
-        first: 0,
-        second: 0,
-    }
-}
-
-// The value of the first input that is inside, where the table accepts. A set has none to read.
-fn carried(
-    a: &[u64],
-    b: &[u64],
-    c: &[u64],
-    plan: Plan,
-    at: Places,
-    sides: Sides,
-    ends: Places,
-    x: u64,
-    kept: bool,
-) -> Words
-    requires inputs { Inputs plan.a plan.b plan.c a.now b.now c.now }
-    requires fit { Fit plan.table plan.out plan.a plan.b plan.c }
-    requires points_at { PointsAt plan a.now b.now c.now x at sides ends }
-    requires kept_value { kept ≡ accepts plan.table sides.a sides.b sides.c }
-    ensures { shown kept (take (plan.out - 2) (first_behind plan a.now b.now c.now at sides))
-        ≡ shown kept (value_of plan.out result) }
-{
-    if plan.out == 2 {
-        return nothing();
-    }
-    if kept {
-        if sides.a {
-            return words_behind(a, plan.out, at.a);
-        }
-        if sides.b {
-            return words_behind(b, plan.out, at.b);
-        }
-        return words_behind(c, plan.out, at.c);
-    }
-    nothing()
-}
-
-// The segment that starts at x, with the three cursors at x.
-fn segment_at(
-    a: &[u64],
-    b: &[u64],
-    c: &[u64],
-    plan: Plan,
-    at: Places,
-    sides: Sides,
-    ends: Places,
-    x: u64,
-) -> Segment
-    requires inputs { Inputs plan.a plan.b plan.c a.now b.now c.now }
-    requires fit { Fit plan.table plan.out plan.a plan.b plan.c }
-    requires points_at { PointsAt plan a.now b.now c.now x at sides ends }
-    ensures { SegmentAt plan a.now b.now c.now x ends result }
-{
-    let i = run_at(a, plan.a, at.a, sides.a, ends.a, x);
-    let j = run_at(b, plan.b, at.b, sides.b, ends.b, x);
-    let k = run_at(c, plan.c, at.c, sides.c, ends.c, x);
-    let e = least(least(i.last, j.last), k.last);
-    let kept = accepted(plan.table, sides.a, sides.b, sides.c);
-    let value = carried(a, b, c, plan, at, sides, ends, x, kept);
-    let next = Places {
-        a: blocks::chosen(i.last == e, i.next, at.a),
-        b: blocks::chosen(j.last == e, j.next, at.b),
-        c: blocks::chosen(k.last == e, k.next, at.c),
-    };
-    let then = Sides {
-        a: turned(i.last == e, i.then, sides.a),
-        b: turned(j.last == e, j.then, sides.b),
-        c: turned(k.last == e, k.then, sides.c),
-    };
-    Segment {
-        last: e,
-        inside: kept,
-        value: value,
-        at: next,
-        sides: then,
-    }
-}
-
-// The same for sets only: no widths to look at and no values to read.
-fn set_segment_at(
-    a: &[u64],
-    b: &[u64],
-    c: &[u64],
-    table: u8,
-    at: Places,
-    sides: Sides,
-    ends: Places,
-    x: u64,
-) -> Segment
-    requires inputs { Inputs 2 2 2 a.now b.now c.now }
-    requires points_at { PointsAt (set_plan table) a.now b.now c.now x at sides ends }
-    ensures { SegmentAt (set_plan table) a.now b.now c.now x ends result }
-{
-    let i = flip(a, 2, at.a, sides.a, ends.a, x);
-    let j = flip(b, 2, at.b, sides.b, ends.b, x);
-    let k = flip(c, 2, at.c, sides.c, ends.c, x);
-    let e = least(least(i.last, j.last), k.last);
-    let kept = accepted(table, sides.a, sides.b, sides.c);
-    let next = Places {
-        a: blocks::chosen(i.last == e, i.next, at.a),
-        b: blocks::chosen(j.last == e, j.next, at.b),
-        c: blocks::chosen(k.last == e, k.next, at.c),
-    };
-    let then = Sides {
-        a: turned(i.last == e, i.then, sides.a),
-        b: turned(j.last == e, j.then, sides.b),
-        c: turned(k.last == e, k.then, sides.c),
-    };
-    Segment {
-        last: e,
-        inside: kept,
-        value: nothing(),
-        at: next,
-        sides: then,
-    }
-}
-
-// The same while the third set is at its end: only two runs are looked at. Only the contract names c.
-fn pair_segment_at(
-    a: &[u64],
-    b: &[u64],
-    c: &[u64],
-    table: u8,
-    at: Places,
-    sides: Sides,
-    ends: Places,
-    x: u64,
-) -> Segment
-    requires inputs { Inputs 2 2 2 a.now b.now c.now }
-    requires points_at { PointsAt (set_plan table) a.now b.now c.now x at sides ends }
-    requires c_value { at.c ≡ ends.c }
-    ensures { SegmentAt (set_plan table) a.now b.now c.now x ends result × (result.at.c ≡ ends.c) }
-{
-    let i = flip(a, 2, at.a, sides.a, ends.a, x);
-    let j = flip(b, 2, at.b, sides.b, ends.b, x);
-    let e = least(i.last, j.last);
-    let kept = accepted(table, sides.a, sides.b, sides.c);
-    let next = Places {
-        a: blocks::chosen(i.last == e, i.next, at.a),
-        b: blocks::chosen(j.last == e, j.next, at.b),
-        c: at.c,
-    };
-    let then = Sides {
-        a: turned(i.last == e, i.then, sides.a),
-        b: turned(j.last == e, j.then, sides.b),
-        c: sides.c,
-    };
-    Segment {
-        last: e,
-        inside: kept,
-        value: nothing(),
-        at: next,
-        sides: then,
+        first,
+        second: w[p + 2],
     }
 }
 
 // Whether two values of an output of s words an item are the same.
-#[tactic(auto, using(crate::proofs::Segments::same_two, crate::proofs::Segments::same_three, crate::proofs::Segments::same_four, crate::proofs::Segments::same_differ))]
+#[tactic(auto, using(crate::proofs::Segments::same_three, crate::proofs::Segments::same_four, crate::proofs::Segments::same_differ))]
 fn same_value(s: usize, u: Words, v: Words) -> bool
     requires { (2 ≤ s) × (s ≤ 4) }
     ensures { result ≡ same_words (value_of s u) (value_of s v) }
 {
-    if s == 2 {
-        return true;
-    }
-    if u.first == v.first {
-        if s == 3 {
-            return true;
-        }
-        return u.second == v.second;
-    }
-    false
+    s == 2 || u.first == v.first && (s == 3 || u.second == v.second)
 }
 
 // Whether a segment with the value v goes on from the number before.
@@ -470,226 +305,53 @@ fn joins(s: usize, inside: bool, was: bool, u: Words, v: Words) -> bool
     requires { (2 ≤ s) × (s ≤ 4) }
     ensures { result ≡ andb inside (same_as (shown was (value_of s u)) (value_of s v)) }
 {
-    if inside {
-        if was {
-            return same_value(s, u, v);
-        }
-        return false;
-    }
-    false
+    inside && was && same_value(s, u, v)
 }
 
-// One more where inside.
-fn more(k: usize, inside: bool) -> usize
-    requires { k < M }
-    ensures { result ≡ k + bit inside }
-{
-    if inside { k + 1 } else { k }
-}
-
-// An item into the s words from q on. Where it goes on its low end stays: x is written in the place of the high end, and h over it, as a
-// test would cost more.
-fn lay(o: &mut [u64], s: usize, q: usize, join: bool, x: u64, h: u64, v: Words)
+// An item into the s words from q on. Where it goes on its low end stays: the piece's is written in the place of the high end, and the high
+// end over it, as a test would cost more.
+#[tactic(auto, using(crate::proofs::Storing::lay_two, crate::proofs::Storing::lay_three, crate::proofs::Storing::lay_four))]
+fn lay(o: &mut [u64], s: usize, q: usize, piece: Piece)
     requires { (2 ≤ s) × (s ≤ 4) × (q + s ≤ length o.old) }
-    ensures { Laid s o.old q (pick join (get_or o.old q 0) x) h (value_of s v) o.new }
+    ensures { Laid s o.old q (pick piece.goes_on (get_or o.old q 0) piece.low) piece.high (value_of s piece.value) o.new }
 {
-    let low = more(q, join);
-    o[low] = x;
-    o[q + 1] = h;
+    let low = q + usize::from(piece.goes_on);
+    o[low] = piece.low;
+    o[q + 1] = piece.high;
     if s == 2 {
         return;
     }
-    o[q + 2] = v.first;
+    o[q + 2] = piece.value.first;
     if s == 3 {
         return;
     }
-    o[q + 3] = v.second;
+    o[q + 3] = piece.value.second;
 }
 
-// The segment from x to h as item k of o, where keep says so: its low end stays where it goes on. Without a value it is stored too, behind
+// The piece as item k of o, where keep says so: the item's low end stays where the piece goes on. Without a value it is stored too, behind
 // the items and as far as o goes, since a test would cost more than the words.
-fn store(o: &mut [u64], s: usize, k: usize, keep: bool, join: bool, x: u64, h: u64, v: Words)
+fn store(o: &mut [u64], s: usize, k: usize, keep: bool, piece: Piece)
     requires { (2 ≤ s) × (s ≤ 4) × (1 + s * pick keep k 0 ≤ length o.old) }
-    ensures { Stored keep s o.old k join x h (value_of s v) o.new }
+    ensures { Stored keep s o.old k piece.goes_on piece.low piece.high (value_of s piece.value) o.new }
 {
     if keep {
         let q = 1 + s * k;
         if s <= o.len() - q {
-            lay(o, s, q, join, x, h, v);
-            return;
+            lay(o, s, q, piece);
         }
-        return;
     }
 }
 
-// One less where join.
-fn less(n: usize, join: bool) -> usize
-    requires { bit join ≤ n }
-    ensures { result ≡ n - bit join }
+// How many items there are with the piece, if it is inside, which is stored where keep says so: as a new item, or into the last one.
+#[tactic(auto, using(crate::proofs::Storing::added))]
+fn add(o: &mut [u64], s: usize, n: usize, keep: bool, inside: bool, piece: Piece) -> usize
+    requires { Addable keep s n inside piece.goes_on (length o.old) }
+    ensures { (result ≡ n + begins inside piece.goes_on)
+        × Holds keep s result o.new (grow inside piece.goes_on (items s n 1 o.old) piece.low piece.high (value_of s piece.value)) }
 {
-    if join { n - 1 } else { n }
-}
-
-// How many items there are with the segment from x to h, which is stored where keep says so: as a new item, or into the last one.
-fn add(
-    o: &mut [u64],
-    s: usize,
-    n: usize,
-    keep: bool,
-    inside: bool,
-    join: bool,
-    x: u64,
-    h: u64,
-    v: Words,
-) -> usize
-    requires { Addable keep s n inside join (length o.old) }
-    ensures { (result ≡ n + begins inside join) × Holds keep s result o.new (grow inside join (items s n 1 o.old) x h (value_of s v)) }
-{
-    let k = less(n, join);
-    store(o, s, k, keep, join, x, h, v);
-    more(k, inside)
-}
-
-// The sweep for any plan: `sweep` says what it gives.
-fn sweep_any(
-    a: &[u64],
-    b: &[u64],
-    c: &[u64],
-    plan: Plan,
-    stop: usize,
-    keep: bool,
-    o: &mut [u64],
-) -> usize
-    requires inputs { Inputs plan.a plan.b plan.c a.now b.now c.now }
-    requires fit { Fit plan.table plan.out plan.a plan.b plan.c }
-    requires c_in_bounds { 1 + plan.out * pick keep (length (result_of plan a.now b.now c.now)) 0 ≤ length o.old }
-    ensures { Stopped keep plan.out stop (result_of plan a.now b.now c.now) result o.new }
-{
-    let first = begin(a, b, c, plan);
-    let ends = first.ends;
-    let mut at = first.at;
-    let mut sides = first.sides;
-    let mut x: u64 = 0;
-    let mut was = false;
-    let mut before = nothing();
-    let mut n: usize = 0;
-    while n < stop {
-        let s = segment_at(a, b, c, plan, at, sides, ends, x);
-        let v = s.value;
-        let join = joins(plan.out, s.inside, was, before, v);
-        n = add(o, plan.out, n, keep, s.inside, join, x, s.last, v);
-        if s.last == blocks::M {
-            return n;
-        }
-        x = s.last + 1;
-        was = s.inside;
-        before = v;
-        at = s.at;
-        sides = s.sides;
-    }
-    n
-}
-
-// The sweep for sets, from the three cursors at 0: the same loop with nothing left to choose, more than twice as fast.
-fn sweep_three(
-    a: &[u64],
-    b: &[u64],
-    c: &[u64],
-    table: u8,
-    first: Starts,
-    stop: usize,
-    keep: bool,
-    o: &mut [u64],
-) -> usize
-    requires inputs { Inputs 2 2 2 a.now b.now c.now }
-    requires points_at { PointsAt (set_plan table) a.now b.now c.now 0 first.at first.sides first.ends }
-    requires c_in_bounds { 1 + 2 * pick keep (length (result_of (set_plan table) a.now b.now c.now)) 0 ≤ length o.old }
-    ensures { Stopped keep 2 stop (result_of (set_plan table) a.now b.now c.now) result o.new }
-{
-    let ends = first.ends;
-    let mut at = first.at;
-    let mut sides = first.sides;
-    let mut x: u64 = 0;
-    let mut was = false;
-    let mut before = nothing();
-    let mut n: usize = 0;
-    while n < stop {
-        let s = set_segment_at(a, b, c, table, at, sides, ends, x);
-        let v = s.value;
-        let join = joins(2, s.inside, was, before, v);
-        n = add(o, 2, n, keep, s.inside, join, x, s.last, v);
-        if s.last == blocks::M {
-            return n;
-        }
-        x = s.last + 1;
-        was = s.inside;
-        before = v;
-        at = s.at;
-        sides = s.sides;
-    }
-    n
-}
-
-// The same where there is nothing in the third set: two sets in two thirds of the time.
-fn sweep_pair(
-    a: &[u64],
-    b: &[u64],
-    c: &[u64],
-    table: u8,
-    first: Starts,
-    stop: usize,
-    keep: bool,
-    o: &mut [u64],
-) -> usize
-    requires inputs { Inputs 2 2 2 a.now b.now c.now }
-    requires points_at { PointsAt (set_plan table) a.now b.now c.now 0 first.at first.sides first.ends }
-    requires c_value { first.at.c ≡ first.ends.c }
-    requires c_in_bounds { 1 + 2 * pick keep (length (result_of (set_plan table) a.now b.now c.now)) 0 ≤ length o.old }
-    ensures { Stopped keep 2 stop (result_of (set_plan table) a.now b.now c.now) result o.new }
-{
-    let ends = first.ends;
-    let mut at = first.at;
-    let mut sides = first.sides;
-    let mut x: u64 = 0;
-    let mut was = false;
-    let mut before = nothing();
-    let mut n: usize = 0;
-    while n < stop {
-        let s = pair_segment_at(a, b, c, table, at, sides, ends, x);
-        let v = s.value;
-        let join = joins(2, s.inside, was, before, v);
-        n = add(o, 2, n, keep, s.inside, join, x, s.last, v);
-        if s.last == blocks::M {
-            return n;
-        }
-        x = s.last + 1;
-        was = s.inside;
-        before = v;
-        at = s.at;
-        sides = s.sides;
-    }
-    n
-}
-
-// The sweep for sets: `sweep` says what it gives.
-fn sweep_sets(
-    a: &[u64],
-    b: &[u64],
-    c: &[u64],
-    table: u8,
-    stop: usize,
-    keep: bool,
-    o: &mut [u64],
-) -> usize
-    requires inputs { Inputs 2 2 2 a.now b.now c.now }
-    requires c_in_bounds { 1 + 2 * pick keep (length (result_of (set_plan table) a.now b.now c.now)) 0 ≤ length o.old }
-    ensures { Stopped keep 2 stop (result_of (set_plan table) a.now b.now c.now) result o.new }
-{
-    let first = begin(a, b, c, set_plan(table));
-    if first.at.c == first.ends.c {
-        return sweep_pair(a, b, c, table, first, stop, keep, o);
-    }
-    sweep_three(a, b, c, table, first, stop, keep, o)
+    let k = n - usize::from(piece.goes_on);
+    store(o, s, k, keep, piece);
+    k + usize::from(inside)
 }
 
 // The plan of a table for sets.
@@ -697,7 +359,7 @@ fn set_plan(table: u8) -> Plan
     ensures { result ≡ set_plan table }
 {
     Plan {
-        table: table,
+        table,
         a: 2,
         b: 2,
         c: 2,
@@ -705,41 +367,145 @@ fn set_plan(table: u8) -> Plan
     }
 }
 
-// Whether a plan is one for sets: then the shorter loop serves.
-fn only_sets(plan: Plan) -> bool
-    ensures { result ≡ only_sets plan }
-{
-    if plan.a != 2 {
-        return false;
+impl<'a> Lists<'a> {
+    // The three cursors at 0.
+    fn begin(self) -> Cursors
+        requires { Swept self }
+        ensures { PointsAt self.entry 0 result }
+    {
+        Cursors {
+            a: start(self.a, self.plan.a),
+            b: start(self.b, self.plan.b),
+            c: start(self.c, self.plan.c),
+        }
     }
-    if plan.b != 2 {
-        return false;
-    }
-    if plan.c != 2 {
-        return false;
-    }
-    plan.out == 2
-}
 
-// How many items the result has, as far as they are fewer than stop. Where keep says so and all were met, they stand in o behind word 0.
-fn sweep(
-    a: &[u64],
-    b: &[u64],
-    c: &[u64],
-    plan: Plan,
-    stop: usize,
-    keep: bool,
-    o: &mut [u64],
-) -> usize
-    requires inputs { Inputs plan.a plan.b plan.c a.now b.now c.now }
-    requires fit { Fit plan.table plan.out plan.a plan.b plan.c }
-    requires c_in_bounds { 1 + plan.out * pick keep (length (result_of plan a.now b.now c.now)) 0 ≤ length o.old }
-    ensures { Stopped keep plan.out stop (result_of plan a.now b.now c.now) result o.new }
-{
-    if only_sets(plan) {
-        return sweep_sets(a, b, c, plan.table, stop, keep, o);
+    // The value of the first input that is inside, where the table accepts. A set has none to read. Only the contract names x.
+    fn carried(self, at: Cursors, x: u64, kept: bool) -> Words
+        requires swept { Swept self }
+        requires points { PointsAt self x at }
+        requires accepts { kept ≡ accepts self.plan.table at.a.inside at.b.inside at.c.inside }
+        ensures { shown kept (take (self.entry.plan.out - 2) (first_behind self.entry at)) ≡ shown kept (value_of self.entry.plan.out result) }
+    {
+        if self.plan.out == 2 {
+            return NOTHING;
+        }
+        if kept {
+            if at.a.inside {
+                return words_behind(self.a, self.plan.out, at.a.place);
+            }
+            if at.b.inside {
+                return words_behind(self.b, self.plan.out, at.b.place);
+            }
+            return words_behind(self.c, self.plan.out, at.c.place);
+        }
+        NOTHING
     }
-    sweep_any(a, b, c, plan, stop, keep, o)
+
+    // The three cursors at x, each with its side.
+    fn sided<const SETS: bool>(self, at: Cursors, x: u64) -> Cursors
+        requires points { PointsAt self x at }
+        requires sets { SETS ≡ true → self.plan ≡ set_plan self.plan.table }
+        ensures same { result ≡ at }
+        ensures points { PointsAt self.entry x result }
+    {
+        Cursors {
+            a: sided::<SETS>(self.a, self.plan.a, at.a, x),
+            b: sided::<SETS>(self.b, self.plan.b, at.b, x),
+            c: sided::<SETS>(self.c, self.plan.c, at.c, x),
+        }
+    }
+
+    // The segment that starts at x, with the three cursors at x. `SETS`: each input and the output is a set. Not `THIRD`: the third
+    // cursor is at its end, and stays there.
+    fn segment_at<const SETS: bool, const THIRD: bool>(self, at: Cursors, x: u64) -> Segment
+        requires swept { Swept self }
+        requires points { PointsAt self x at }
+        requires sets { SETS ≡ true → self.plan ≡ set_plan self.plan.table }
+        requires third { THIRD ≡ false → at.c.place ≡ at.c.end }
+        ensures segment { SegmentAt self.entry x result }
+        ensures third { THIRD ≡ false → result.then.c ≡ at.c }
+    {
+        let plan = self.plan;
+        let at = self.sided::<SETS>(at, x);
+        let i = run_at::<SETS, true>(self.a, plan.a, at.a, x);
+        let j = run_at::<SETS, true>(self.b, plan.b, at.b, x);
+        let k = run_at::<SETS, THIRD>(self.c, plan.c, at.c, x);
+        let last = i.last.min(j.last).min(k.last);
+        let kept = accepted(plan.table, at.a.inside, at.b.inside, at.c.inside);
+        let value = self.carried(at, x, kept);
+        Segment {
+            last,
+            inside: kept,
+            value,
+            then: Cursors {
+                a: behind(i, last, at.a),
+                b: behind(j, last, at.b),
+                c: behind(k, last, at.c),
+            },
+        }
+    }
+
+    // The sweep from the three cursors at 0: `sweep` says what it gives. For sets (`SETS`) there is nothing left to choose, and it is more
+    // than twice as fast; where there is nothing in the third list (not `THIRD`) two sets take three quarters of the time.
+    #[tactic(auto, using(crate::proofs::Standing::standing_zero, crate::proofs::Standing::standing_next, crate::proofs::Growing::begins_one))]
+    fn sweep_as<const SETS: bool, const THIRD: bool>(
+        self,
+        first: Cursors,
+        stop: usize,
+        keep: bool,
+        o: &mut [u64],
+    ) -> usize
+        requires swept { Swept self }
+        requires points { PointsAt self 0 first }
+        requires sets { SETS ≡ true → self.plan ≡ set_plan self.plan.table }
+        requires third { THIRD ≡ false → first.c.place ≡ first.c.end }
+        requires room { 1 + self.plan.out * pick keep (length (listed self)) 0 ≤ length o.old }
+        ensures { Stopped keep self.entry.plan.out stop (listed self.entry) result o.new }
+    {
+        let mut at = first;
+        let mut x: u64 = 0;
+        let mut was = false;
+        let mut before = NOTHING;
+        let mut n: usize = 0;
+        while n < stop {
+            let s = self.segment_at::<SETS, THIRD>(at, x);
+            let piece = Piece {
+                low: x,
+                high: s.last,
+                value: s.value,
+                goes_on: joins(self.plan.out, s.inside, was, before, s.value),
+            };
+            n = add(o, self.plan.out, n, keep, s.inside, piece);
+            if s.last == u64::MAX {
+                return n;
+            }
+            x = s.last + 1;
+            was = s.inside;
+            before = s.value;
+            at = s.then;
+        }
+        n
+    }
+
+    // How many items the result has, as far as they are fewer than stop. Where keep says so and all were met, they stand in o behind
+    // word 0.
+    fn sweep(self, stop: usize, keep: bool, o: &mut [u64]) -> usize
+        requires swept { Swept self }
+        requires room { 1 + self.plan.out * pick keep (length (listed self)) 0 ≤ length o.old }
+        ensures { Stopped keep self.entry.plan.out stop (listed self.entry) result o.new }
+    {
+        let first = self.begin();
+        let plan = set_plan(self.plan.table);
+        if self.plan != plan {
+            return self.sweep_as::<false, true>(first, stop, keep, o);
+        }
+        let sets = Lists { plan, ..self };
+        if first.c.place == first.c.end {
+            return sets.sweep_as::<true, false>(first, stop, keep, o);
+        }
+        sets.sweep_as::<true, true>(first, stop, keep, o)
+    }
 }
 
 // Whether the result has at most cap items; bound is any number that it does not exceed, so that where bound fits nothing is counted.
@@ -753,7 +519,7 @@ pub fn fits(a: &[u64], b: &[u64], c: &[u64], plan: Plan, bound: usize, cap: usiz
         return true;
     }
     let mut none: [u64; 1] = [0; 1];
-    let n = sweep(a, b, c, plan, cap + 1, false, &mut none);
+    let n = Lists { a, b, c, plan }.sweep(cap + 1, false, &mut none);
     n <= cap
 }
 
@@ -764,7 +530,7 @@ pub fn any(a: &[u64], b: &[u64], c: &[u64], plan: Plan) -> bool
     ensures { result ≡ ltb 0 (length (result_of plan a.now b.now c.now)) }
 {
     let mut none: [u64; 1] = [0; 1];
-    let n = sweep(a, b, c, plan, 1, false, &mut none);
+    let n = Lists { a, b, c, plan }.sweep(1, false, &mut none);
     0 < n
 }
 
@@ -775,7 +541,7 @@ pub fn write(a: &[u64], b: &[u64], c: &[u64], plan: Plan, o: &mut [u64])
     requires c_in_bounds { 1 + plan.out * length (result_of plan a.now b.now c.now) ≤ length o.old }
     ensures { o.new ≡ block_of (length o.old) (result_of plan a.now b.now c.now) }
 {
-    let n = sweep(a, b, c, plan, o.len(), true, o);
-    o[0] = blocks::narrow(n);
+    let n = Lists { a, b, c, plan }.sweep(o.len(), true, o);
+    o[0] = n as u64;
     blocks::clear(o, 1 + plan.out * n);
 }
