@@ -1,6 +1,5 @@
 -- A reservation is the question followed by the insertion.
 use mathlib.Core.Path.{◌≡◌, refl, sym, ◌∙◌, ap, subst}
-use mathlib.Core.Bool.{Bool, true, false}
 use mathlib.Core.Option.{Option, none, some}
 use mathlib.Core.List.{List, [], ◌∷◌}
 use Prim.Native.Nat.{ℕ, zero, suc, ◌+◌, ◌-◌, ◌≤◌}
@@ -11,22 +10,19 @@ use borrow.Author.Tests.{le-ltb}
 use Rattle.entries.specs.Entries.{Entry}
 use Rattle.entries.specs.Sets.{M}
 use Rattle.answers.specs.declared.Refusal.{Refusal}
-use Rattle.answers.specs.declared.Placed.{Placed}
-use Rattle.answers.specs.declared.Placed.TheVariants as placed
 use Rattle.answers.specs.Answers.{Answer, given, refused, Outcome, outcome, judged, applies, Clear}
-use Rattle.answers.specs.Says.{number_of, refusal_says, placed_says, refusal_of}
-use Rattle.answers.proofs.Numbers.{refusal_says_lem}
+use Rattle.answers.specs.Says.{number_of, refusal_says}
 use Rattle.answers.proofs.Turns.{refused≢given, turn_refused, turn_accepted, clear_turn, clear_both, clear_split}
 use Rattle.blocks.specs.Blocks.{set_layout, capacity, entries_of, block_of}
-use Rattle.blocks.specs.Calls.{stored}
 use Rattle.blocks.proofs.Judging.{sound_verdict}
-use Rattle.edits.specs.Calls.{edited, edit_call}
-use Rattle.edits.specs.Steps.{room_says}
+use Rattle.edits.specs.Calls.{edit_call}
 use Rattle.fits.specs.Fits.{aligned, place_in}
 use Rattle.fits.specs.Calls.{ask_refusals, fit_refusals, gapless, no_gap, place_of, answered, fit_call, reserved_at, reserve_call}
 use Rattle.fits.specs.Calls.{too_high, align_refusals, fit_aligned_refusals, aligned_place, fit_aligned_call, reserve_aligned_call}
 use Rattle.fits.specs.Meaning.{answering}
 use Rattle.fits.specs.Starts.{Multiple, FirstAt, BestAt}
+use Rattle.fits.specs.declared.Choice.{Choice}
+use Rattle.fits.specs.declared.Choice.TheVariants.{First, Shortest}
 use Rattle.fits.specs.Steps.{chooser, Asked, Placing, reserving}
 use Rattle.fits.proofs.Multiples.{multiples}
 use Rattle.fits.proofs.Asking.{asked_right, at_place, aligned_fit, aligned_reserve}
@@ -123,58 +119,26 @@ module _ (choose : List Entry → Option Entry) (w : List ℕ) (a b k j : ℕ) w
   aligned_refuses n p e = turn_refused (align_refusals w a b k j) (w ∷ []) (last w k (aligned_place choose w a b k j) n p) e
 
 -- a run of k from the place on ends in the window
-place_fits : (shortest : Bool) (a b k j s : ℕ) (es : List Entry) → 1 ≤ k → place_in (aligned j) (chooser shortest) a b k es ≡ some s → s + k ≤ suc b
-place_fits true a b k j s es one e =
+place_fits : (choice : Choice) (a b k j s : ℕ) (es : List Entry) → 1 ≤ k → place_in (aligned j) (chooser choice) a b k es ≡ some s → s + k ≤ suc b
+place_fits Shortest a b k j s es one e =
     let c = subst (BestAt (Multiple j) a b k es) e (best_at (aligned j) (Multiple j) (multiples j) a b k es one) in
     omega (arith, c.holds.upto, c.gap.run.upto)
-place_fits false a b k j s es one e =
+place_fits First a b k j s es one e =
     let c = subst (FirstAt (Multiple j) a b k es) e (first_at (aligned j) (Multiple j) (multiples j) a b k es one) in
     omega (arith, c.run.upto)
 
 -- what follows the question's answer in a reservation
-module _ (shortest : Bool) (w : List ℕ) (a b k j : ℕ) (r : Placed) (e : outcome (placed_says r) [] ≡ fit_aligned_call (chooser shortest) w a b k j) where
-  chosen : (s : ℕ) → r ≡ placed.At s → ChosenAligned (chooser shortest) w a b k j s
-  chosen s q = aligned_chosen (chooser shortest) w a b k j s (ap (λ (x : Placed). outcome (placed_says x) []) (sym q) ∙ e)
+module _ (choice : Choice) (w : List ℕ) (a b k j : ℕ) where
+  module _ (s : ℕ) (e : answered s ≡ fit_aligned_call (chooser choice) w a b k j) where
+    pub placing : b ≤ M → Placing w s k
+    placing m =
+        let c = aligned_chosen (chooser choice) w a b k j s e in
+        let g = c.asked in
+        record { block = g.block; run = g.run; fits = omega (arith, place_fits choice a b k j s (entries_of 2 w) g.run c.chosen.place) }
 
-  pub placing : (s : ℕ) → r ≡ placed.At s → b ≤ M → Placing w s k
-  placing s q m =
-      let c = chosen s q in
-      let g = c.asked in
-      record { block = g.block; run = g.run; fits = omega (arith, place_fits shortest a b k j s (entries_of 2 w) g.run c.chosen.place) }
+    pub reserve_at : (x : Outcome) → x ≡ reserving w s k → x ≡ reserve_aligned_call (chooser choice) w a b k j
+    reserve_at x d = d ∙ sym (aligned_at (chooser choice) w a b k j s (aligned_chosen (chooser choice) w a b k j s e))
 
-  pub reserve_at : (s : ℕ) → r ≡ placed.At s → (x : Outcome) → x ≡ reserving w s k → x ≡ reserve_aligned_call (chooser shortest) w a b k j
-  reserve_at s q x d = d ∙ sym (aligned_at (chooser shortest) w a b k j s (chosen s q))
-
-  pub reserve_not : (f : Refusal) → r ≡ placed.Refused f → outcome (refusal_says f) (w ∷ []) ≡ reserve_aligned_call (chooser shortest) w a b k j
-  reserve_not f q =
-      sym (aligned_refuses (chooser shortest) w a b k j (number_of f.reason) f.place (sym e ∙ ap (λ (y : Placed). outcome (placed_says y) []) q))
-
--- THE INSERTION at the place
-module _ (w : List ℕ) (s k : ℕ) (g : Placing w s k) (x : ℕ) (i : x ≡ s + (k - 1)) (t : Bool) (w' : List ℕ)
-    (e : outcome (room_says t) (w' ∷ []) ≡ stored 0 set_layout w (edited set_layout w s x (some []))) where
-  abbrev full : ℕ
-  full = applies (ltb (capacity set_layout (length w)) (length (reserved_at w s k))) 5
-
-  abbrev due : List ℕ
-  due = block_of (length w) (reserved_at w s k)
-
-  put_is : outcome (room_says t) (w' ∷ []) ≡ judged full 0 (w ∷ []) (outcome (given []) (due ∷ []))
-  put_is = let j : x ≡ s + k - 1 = omega (arith, g.run) in e ∙ ap (λ (y : ℕ). stored 0 set_layout w (edited set_layout w s y (some []))) j
-
-  pub reserved : t ≡ true → outcome (given (s ∷ [])) (w' ∷ []) ≡ reserving w s k
-  reserved f = go full due (ap (λ (u : Bool). outcome (room_says u) (w' ∷ [])) (sym f) ∙ put_is)
-    where
-      go : (n : ℕ) (l : List ℕ) → outcome (given []) (w' ∷ []) ≡ judged n 0 (w ∷ []) (outcome (given []) (l ∷ []))
-          → outcome (given (s ∷ [])) (w' ∷ []) ≡ judged n 0 (w ∷ []) (outcome (given (s ∷ [])) (l ∷ []))
-      go zero l h = let q : w' ≡ l = cc in ap (λ (y : List ℕ). outcome (given (s ∷ [])) (y ∷ [])) q
-      go (suc n) l h = absurd (refused≢given (sym h))
-
-  pub no_room : (f : Refusal) → t ≡ false → f ≡ refusal_of 5 0 → outcome (refusal_says f) (w' ∷ []) ≡ reserving w s k
-  no_room f h r =
-      ap (λ (y : Refusal). outcome (refusal_says y) (w' ∷ [])) r ∙ ap (λ (y : Answer). outcome y (w' ∷ [])) (refusal_says_lem 5 0 (omega arith) (omega arith))
-      ∙ go full due (ap (λ (u : Bool). outcome (room_says u) (w' ∷ [])) (sym h) ∙ put_is)
-    where
-      go : (n : ℕ) (l : List ℕ) → outcome (refused 5 0) (w' ∷ []) ≡ judged n 0 (w ∷ []) (outcome (given []) (l ∷ []))
-          → outcome (refused 5 0) (w' ∷ []) ≡ judged n 0 (w ∷ []) (outcome (given (s ∷ [])) (l ∷ []))
-      go zero l h = absurd (refused≢given h)
-      go (suc n) l h = h
+  pub reserve_not : (f : Refusal) → outcome (refusal_says f) [] ≡ fit_aligned_call (chooser choice) w a b k j
+      → outcome (refusal_says f) (w ∷ []) ≡ reserve_aligned_call (chooser choice) w a b k j
+  reserve_not f e = sym (aligned_refuses (chooser choice) w a b k j (number_of f.reason) f.place (sym e))

@@ -2,7 +2,7 @@
 use Rattle.std.proofs.Math.Option.{Option, none, some}
 use Rattle.std.specs.Prelude.{List, [], ◌∷◌, ◌++◌, ℕ, ◌+◌, ◌-◌, eqb, ltb, length}
 use Rattle.entries.specs.Entries.{Entry}
-use Rattle.answers.specs.declared.Finding.{Finding}
+use Rattle.answers.specs.Answers.{Finding}
 use Rattle.answers.specs.Answers.{Outcome, outcome, given, at, applies, in_turn}
 use Rattle.blocks.specs.Blocks.{set_layout, entries_of, block_of}
 use Rattle.blocks.specs.Calls.{input, backwards, room}

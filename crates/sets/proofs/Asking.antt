@@ -6,7 +6,7 @@ use mathlib.Core.List.{List, [], ◌∷◌}
 use Prim.Native.Nat.{ℕ, zero, suc, ◌+◌, ◌*◌, ◌≤◌, ◌<◌, max}
 use native.Mathlib.Omega.{arith}
 use lib.ListN.{length, get_or, drop}
-use Rattle.answers.specs.declared.Refusal.{Refusal}
+use Rattle.std.specs.Prelude.{Ok}
 use Rattle.blocks.proofs.Items.{entries_count, entry_is}
 use Rattle.searches.specs.declared.Spot.{Spot}
 use Rattle.searches.specs.Steps.{SpotOf}
@@ -19,23 +19,17 @@ use Rattle.entries.proofs.Finding.{least_at, least_end, behind_free}
 use Rattle.entries.proofs.Append.{value_index}
 use Rattle.entries.proofs.Questions.{range_in, range_out, non_member_is, non_member_none}
 use Rattle.answers.specs.Answers.{Answer, given, outcome, optional}
-use Rattle.answers.specs.Says.{refusal_says, refusal_of}
-use Rattle.answers.proofs.Numbers.{refused_as, given_as}
-use Rattle.blocks.specs.Blocks.{entries_of, items_of, verdict, SoundBlock, set_layout}
+use Rattle.answers.specs.Steps.{FirstOf}
+use Rattle.answers.proofs.Turns.{given_by}
+use Rattle.blocks.specs.Blocks.{entries_of, items_of, SoundBlock, set_layout}
+use Rattle.blocks.specs.Calls.{input}
 use Rattle.blocks.specs.Steps.{zero_item}
-use Rattle.blocks.proofs.Judging.{verdict_small}
 use Rattle.sets.specs.Calls.{asked, ends, non_member}
 
--- a question refused, or answered
-pub refuse_asked : (w : List ℕ) (answer : List Entry → Answer) (v : ℕ) (f : Refusal) → v ≡ verdict set_layout w → (v ≡ 0 → ⊥) → f ≡ refusal_of v 0
-    → outcome (refusal_says f) [] ≡ asked w answer
-refuse_asked w answer v f e n r =
-    refused_as [] 0 (outcome (answer (entries_of 2 w)) []) v (verdict set_layout w) f e (verdict_small set_layout w) n r
-
-pub give_asked : (w : List ℕ) (answer : List Entry → Answer) (v : ℕ) (a : Answer) → v ≡ verdict set_layout w → v ≡ 0 → a ≡ answer (entries_of 2 w)
-    → outcome a [] ≡ asked w answer
-give_asked w answer v a e z q =
-    given_as [] 0 (outcome (answer (entries_of 2 w)) []) (outcome a []) v (verdict set_layout w) e z (ap (λ (b : Answer). outcome b []) q)
+-- a question answered
+pub give_asked : (w : List ℕ) {u : Unit {0}} → FirstOf (input 0 set_layout w ∷ []) (Ok u) → (answer : List Entry → Answer) (a : Answer)
+    → a ≡ answer (entries_of 2 w) → outcome a [] ≡ asked w answer
+give_asked w f answer a q = given_by f [] (outcome a []) (outcome (answer (entries_of 2 w)) []) (ap (λ (b : Answer). outcome b []) q)
 
 -- the entries of a set block carry no value
 items_plain : (n : ℕ) (ws : List ℕ) → Plain (items_of 2 n ws)

@@ -1,6 +1,6 @@
 -- The tables of the set operations: how many ranges each can make, and that it makes the operation's own list.
 use mathlib.Core.Path.{◌≡◌, refl, sym, ◌∙◌, ap}
-use mathlib.Core.Bool.{Bool, true, false}
+use mathlib.Core.Bool.{Bool, true, false, not}
 use mathlib.Core.List.{List, [], ◌∷◌}
 use Prim.Native.Nat.{ℕ, ◌+◌, ◌≤◌}
 use native.Mathlib.Omega.{arith}
@@ -8,26 +8,28 @@ use lib.Dec.{ltb}
 use lib.ListN.{length}
 use borrow.Author.Tests.{lt-ltb}
 use Rattle.sets.specs.Steps.{set_layouts}
-use Rattle.answers.specs.Answers.{judged as judged_by, truth, Answer, outcome}
+use Rattle.answers.specs.Answers.{judged as judged_by, given, truth, Answer, outcome}
 use Rattle.entries.specs.Entries.{Entry, Sound}
 use Rattle.entries.specs.Build.{andb}
-use Rattle.entries.specs.Sets.{member, union, intersection, difference, symmetric_difference}
+use Rattle.entries.specs.Sets.{member, union, intersection, difference, symmetric_difference, complement}
 use Rattle.entries.specs.Questions.{is_empty}
 use Rattle.entries.proofs.Limits.{union_bound, difference_bound, symmetric_bound, intersection_bound, complement_bound}
 use Rattle.entries.proofs.Sets.{intersection_is}
 use Rattle.entries.proofs.Questions.{none_empty}
 use Rattle.sweeps.specs.Sweeps.{sweep_result, Bounded, in_either, in_both, first_alone, just_one, not_first}
 use Rattle.sweeps.proofs.Tables.{union_table, intersection_table, difference_table, symmetric_table, complement_table, fit_set, bounded}
-use Rattle.operations.specs.Calls.{from_two}
-use Rattle.operations.proofs.Making.{set_small, two_as}
+use Rattle.operations.specs.Calls.{from_two, from_one}
+use Rattle.operations.proofs.Making.{set_small, two_as, one_as}
 use Rattle.operations.specs.Steps.{TwoFit, OneFit}
-use Rattle.answers.specs.Says.{refusal_says, refusal_of}
-use Rattle.answers.proofs.Numbers.{refused_as, given_as}
+use Rattle.answers.specs.Says.{truth_value}
+use Rattle.answers.specs.Steps.{FirstOf}
+use Rattle.answers.proofs.Turns.{given_by}
+use Rattle.std.specs.Prelude.{Ok}
+use Rattle.blocks.specs.Calls.{input}
 use Rattle.blocks.specs.Blocks.{entries_of, verdict, set_layout, Lent}
-use Rattle.blocks.proofs.Judging.{verdict_small}
-use Rattle.sets.specs.Calls.{asked_two}
+use Rattle.sets.specs.Calls.{asked_two, equal_call, within_call, disjoint_call}
+use Rattle.sets.specs.Calls.{union_call, intersection_call, difference_call, symmetric_difference_call, complement_call}
 use Rattle.entries.proofs.Values.{true≢false}
-use Rattle.answers.specs.declared.Refusal.{Refusal}
 
 empty_length : (es : List Entry) → is_empty es ≡ true → length es ≡ 0
 empty_length [] h = refl
@@ -93,17 +95,15 @@ pub empty_yes : (es : List Entry) (t : Bool) → t ≡ ltb 0 (length es) → t �
 empty_yes [] t e z = refl
 empty_yes (x ∷ es) t e z = absurd (true≢false (sym (lt-ltb 0 (length (x ∷ es)) (omega arith)) ∙ sym e ∙ z))
 
--- a question about two sets refused, or answered
-module _ (w v : List ℕ) (answer : List Entry → List Entry → Answer) (k : ℕ) (e : k ≡ verdict set_layout w) where
-  pub refuse_first : (f : Refusal) → (k ≡ 0 → ⊥) → f ≡ refusal_of k 0 → outcome (refusal_says f) [] ≡ asked_two w v answer
-  refuse_first f n r = refused_as [] 0 _ k (verdict set_layout w) f e (verdict_small set_layout w) n r
+pub none_kept : (es : List Entry) (t : Bool) → t ≡ ltb 0 (length es) → given (truth_value (not t)) ≡ truth (is_empty es)
+none_kept es true e = empty_no es true e refl
+none_kept es false e = empty_yes es false e refl
 
-  module _ (z : k ≡ 0) (l : ℕ) (g : l ≡ verdict set_layout v) where
-    pub refuse_second : (f : Refusal) → (l ≡ 0 → ⊥) → f ≡ refusal_of l 1 → outcome (refusal_says f) [] ≡ asked_two w v answer
-    refuse_second f n r = given_as [] 0 _ _ k (verdict set_layout w) e z (refused_as [] 1 _ l (verdict set_layout v) f g (verdict_small set_layout v) n r)
-
-    pub give_two : (a : Answer) → l ≡ 0 → a ≡ answer (entries_of 2 w) (entries_of 2 v) → outcome a [] ≡ asked_two w v answer
-    give_two a y q = given_as [] 0 _ _ k (verdict set_layout w) e z (given_as [] 1 _ _ l (verdict set_layout v) g y (ap (λ (b : Answer). outcome b []) q))
+-- a question about two sets answered
+pub give_two : (w v : List ℕ) {u : Unit {0}} → FirstOf (input 0 set_layout w ∷ input 1 set_layout v ∷ []) (Ok u)
+    → (answer : List Entry → List Entry → Answer) (a : Answer) → a ≡ answer (entries_of 2 w) (entries_of 2 v) → outcome a [] ≡ asked_two w v answer
+give_two w v f answer a q =
+    given_by f [] (outcome a []) (outcome (answer (entries_of 2 w) (entries_of 2 v)) []) (ap (λ (b : Answer). outcome b []) q)
 
 -- what a table makes of two sets is what its operation makes: the call that stores it, and the question whether it is empty
 module _ (t : ℕ) {op : List Entry → List Entry → List Entry} (table : (es fs : List Entry) → Bounded es → Bounded fs → sweep_result t 2 es fs [] ≡ op es fs)
@@ -117,3 +117,41 @@ module _ (t : ℕ) {op : List Entry → List Entry → List Entry} (table : (es 
   asked_as =
       ap (λ (l : List Entry). judged_by (verdict set_layout w) 0 [] (judged_by (verdict set_layout v) 1 [] (outcome (truth (is_empty l)) [])))
       (table (entries_of 2 w) (entries_of 2 v) (bounded 2 w lent) (bounded 2 v lent'))
+
+-- so each operation's call is what its table makes,
+pub union_made : (w v o : List ℕ) → Lent w → Lent v
+    → from_two set_layout set_layout set_layout (λ es fs. sweep_result in_either 2 es fs []) w v o ≡ union_call w v o
+unfolding union_call
+union_made w v o l m = made_as in_either union_table w v l m o
+
+pub intersection_made : (w v o : List ℕ) → Lent w → Lent v
+    → from_two set_layout set_layout set_layout (λ es fs. sweep_result in_both 2 es fs []) w v o ≡ intersection_call w v o
+unfolding intersection_call
+intersection_made w v o l m = made_as in_both intersection_table w v l m o
+
+pub difference_made : (w v o : List ℕ) → Lent w → Lent v
+    → from_two set_layout set_layout set_layout (λ es fs. sweep_result first_alone 2 es fs []) w v o ≡ difference_call w v o
+unfolding difference_call
+difference_made w v o l m = made_as first_alone difference_table w v l m o
+
+pub symmetric_difference_made : (w v o : List ℕ) → Lent w → Lent v
+    → from_two set_layout set_layout set_layout (λ es fs. sweep_result just_one 2 es fs []) w v o ≡ symmetric_difference_call w v o
+unfolding symmetric_difference_call
+symmetric_difference_made w v o l m = made_as just_one symmetric_table w v l m o
+
+pub complement_made : (w o : List ℕ) → from_one set_layout set_layout (λ es. sweep_result not_first 2 es [] []) w o ≡ complement_call w o
+unfolding complement_call
+complement_made w o = one_as set_layout set_layout (λ es. sweep_result not_first 2 es [] []) complement w o (complement_table (entries_of 2 w))
+
+-- and each question is whether its table keeps nothing
+pub equal_asked : (w v : List ℕ) → Lent w → Lent v → asked_two w v (λ es fs. truth (is_empty (sweep_result just_one 2 es fs []))) ≡ equal_call w v
+unfolding equal_call
+equal_asked w v l m = asked_as just_one symmetric_table w v l m
+
+pub within_asked : (w v : List ℕ) → Lent w → Lent v → asked_two w v (λ es fs. truth (is_empty (sweep_result first_alone 2 es fs []))) ≡ within_call w v
+unfolding within_call
+within_asked w v l m = asked_as first_alone difference_table w v l m
+
+pub disjoint_asked : (w v : List ℕ) → Lent w → Lent v → asked_two w v (λ es fs. truth (is_empty (sweep_result in_both 2 es fs []))) ≡ disjoint_call w v
+unfolding disjoint_call
+disjoint_asked w v l m = asked_as in_both intersection_table w v l m

@@ -9,7 +9,7 @@ use Rattle.blocks.specs.Blocks.{set_layout, entries_of}
 use Rattle.blocks.specs.Calls.{input, output, holding}
 use Rattle.edits.specs.Calls.{edit_call}
 use Rattle.operations.specs.Calls.{from_two, from_one}
-use Rattle.searches.specs.declared.Part.{Part}
+use Rattle.answers.specs.declared.Part.{Part}
 use Rattle.searches.specs.Calls.{window_call, window_at_call, window_refusal_call}
 
 -- [R17] a question about a set: 1, 2, 3 of its block, then the answer
