@@ -7,7 +7,7 @@ use Rattle.answers.specs.Answers.{Outcome, outcome, given, in_turn}
 use Rattle.blocks.specs.Blocks.{set_layout, entries_of, block_of}
 use Rattle.blocks.specs.Calls.{input, output, room, holding}
 use Rattle.searches.specs.Calls.{overlap}
-use Rattle.answers.specs.declared.Finding.{Finding}
+use Rattle.answers.specs.Answers.{Finding}
 
 -- [U2, U3] what a list block, or one half of a bulletin, becomes: without the numbers of `withdrawn`, then joined with those of `released`
 abbrev pub amended_with : List ℕ → List ℕ → List ℕ → List Entry

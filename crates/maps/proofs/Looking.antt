@@ -6,28 +6,15 @@ use native.Mathlib.Omega.{arith}
 use lib.ListN.{length, get_or, take}
 use lib.Seq.{drop-cons}
 use Rattle.entries.specs.Entries.{value_at}
-use Rattle.answers.specs.declared.Refusal.{Refusal}
-use Rattle.answers.specs.Answers.{Answer, given, outcome}
-use Rattle.answers.specs.Says.{refusal_says, refusal_of}
-use Rattle.answers.proofs.Numbers.{refused_as, given_as}
-use Rattle.blocks.specs.Blocks.{map_layout, verdict}
-use Rattle.blocks.proofs.Judging.{verdict_small}
-use Rattle.searches.specs.declared.Part.{Part}
+use Rattle.answers.specs.Answers.{given}
+use Rattle.blocks.specs.Blocks.{map_layout}
+use Rattle.answers.specs.declared.Part.{Part}
 use Rattle.searches.specs.Steps.{EntryOf}
-use Rattle.maps.specs.Calls.{map_entries, worth, look_up_call}
+use Rattle.maps.specs.Calls.{map_entries, worth}
 
 -- the words of an entry
 abbrev pub width : ℕ
 width = map_layout.width
-
-pub look_refused : (w : List ℕ) (x v : ℕ) (f : Refusal) → v ≡ verdict map_layout w → (v ≡ 0 → ⊥) → f ≡ refusal_of v 0
-    → outcome (refusal_says f) [] ≡ look_up_call w x
-unfolding look_up_call
-look_refused w x v f e n r = refused_as [] 0 _ v (verdict map_layout w) f e (verdict_small map_layout w) n r
-
-pub look_given : (w : List ℕ) (x v : ℕ) (a : Answer) → v ≡ verdict map_layout w → v ≡ 0 → a ≡ worth (value_at (map_entries w) x) → outcome a [] ≡ look_up_call w x
-unfolding look_up_call
-look_given w x v a e z q = given_as [] 0 _ _ v (verdict map_layout w) e z (ap (λ (b : Answer). outcome b []) q)
 
 -- the value in the entry that the code found
 module _ {w : List ℕ} {x : ℕ} {r : Part} (g : EntryOf map_layout w x r) where

@@ -2,27 +2,33 @@
 use mathlib.Core.Path.{◌≡◌, refl, sym, ◌∙◌, ap, subst}
 use mathlib.Core.Bool.{Bool, true, false}
 use mathlib.Core.List.{List, [], ◌∷◌}
-use Prim.Native.Nat.{ℕ, zero, suc, ◌+◌, ◌≤◌, ◌<◌}
-use native.Mathlib.Omega.{arith}
-use native.Mathlib.Decide.{dec_lt}
+use Prim.Native.Nat.{ℕ, zero, suc}
 use lib.Dec.{eqb}
-use lib.ListN.{length, take, drop}
+use lib.ListN.{take, drop}
 use borrow.Author.Tests.{eq-eqb, ne_eqb, eqb-true}
 use denote.Ref.{Bor}
+use Rattle.std.specs.Prelude.{Ok}
 use Rattle.entries.specs.Entries.{value_at}
 use Rattle.entries.specs.Build.{pick}
 use Rattle.entries.specs.Sets.{has}
 use Rattle.answers.specs.Answers.{given, refused, Outcome, outcome, judged, in_turn, handed}
+use Rattle.answers.specs.Steps.{FirstOf}
 use Rattle.answers.proofs.Turns.{bare, turn_bare}
-use Rattle.blocks.specs.Blocks.{map_layout, verdict}
-use Rattle.searches.specs.declared.Part.{Part}
+use Rattle.blocks.specs.Blocks.{map_layout, verdict, SoundBlock}
+use Rattle.blocks.proofs.Judging.{verdict_sound}
+use Rattle.answers.specs.declared.Part.{Part}
 use Rattle.searches.specs.Parts.{part, no_part, IsPart}
 use Rattle.searches.specs.Calls.{window_part}
 use Rattle.searches.specs.Steps.{EntryOf}
-use Rattle.maps.specs.declared.Deciding.{Deciding}
+use Rattle.answers.specs.declared.Deciding.{Deciding}
 use Rattle.maps.specs.Calls.{map_entries, part_in, at_position, deciding, deciding_says, site_refusals, site_refusal_call, site_over_factory_call, words_of_two}
 use Rattle.maps.specs.Calls.{site_over_factory_at_call}
 use Rattle.maps.specs.Steps.{DecidingOf}
+
+-- both maps are sound where the question is not refused
+pub both_sound : {site factory : List ℕ} {u : Unit {0}} → FirstOf (site_refusals site factory) (Ok u)
+    → SoundBlock map_layout site × SoundBlock map_layout factory
+both_sound {site} {factory} f = (verdict_sound map_layout site f.clear.0, verdict_sound map_layout factory f.clear.1.0)
 
 -- by whether the site map has a value
 by_site : (site factory : List ℕ) (x : ℕ) (t : Bool) → has (value_at (map_entries site) x) ≡ t
@@ -39,33 +45,9 @@ module _ {site factory : List ℕ} {x : ℕ} {own : Part} (g : EntryOf map_layou
 
 -- the part of the map at its position
 module _ (site factory : Bor (List ℕ)) {r : Bor (List ℕ)} {d due : Deciding} (same : d ≡ due) where
-  pub placed : (m : Bor (List ℕ)) → at_position d.position site factory ≡ m → IsPart m r (part d.place d.length)
+  pub placed : IsPart (at_position d.position site factory) r (part d.place d.length)
       → IsPart (at_position due.position site factory) r (part due.place due.length)
-  placed m e g =
-      subst (λ (c : Deciding). IsPart (at_position c.position site factory) r (part c.place c.length)) same
-      (subst (λ (w : Bor (List ℕ)). IsPart w r (part d.place d.length)) (sym e) g)
-
-pub first_map : {A : Type 0} (site factory : A) (p : ℕ) → p ≡ 0 → at_position p site factory ≡ site
-first_map site factory p e = rw e
-
-pub second_map : {A : Type 0} (site factory : A) (p : ℕ) → (p ≡ 0 → ⊥) → at_position p site factory ≡ factory
-second_map site factory zero n = absurd (n refl)
-second_map site factory (suc p) n = refl
-
--- the part lies within its map
-module _ {site factory : List ℕ} {x : ℕ} {d : Deciding} (g : DecidingOf site factory x d) where
-  pub held_site : d.position ≡ 0 → d.place + d.length ≤ length site
-  held_site z = subst (λ (w : List ℕ). d.place + d.length ≤ length w) (first_map site factory d.position z) g.held
-
-  pub held_factory : (d.position ≡ 0 → ⊥) → d.place + d.length ≤ length factory
-  held_factory n = subst (λ (w : List ℕ). d.place + d.length ≤ length w) (second_map site factory d.position n) g.held
-
-  pub held_either : d.place + d.length ≤ length site + length factory
-  held_either = go (dec_lt 0 d.position)
-    where
-      go : Dec (0 < d.position) → d.place + d.length ≤ length site + length factory
-      go (yes p) = omega (arith, held_factory (λ z. omega arith))
-      go (no p) = omega (arith, held_site (omega arith))
+  placed g = subst (λ (c : Deciding). IsPart (at_position c.position site factory) r (part c.place c.length)) same g
 
 -- the answer, by the code's test
 module _ {site factory : List ℕ} {x : ℕ} {d : Deciding} (g : DecidingOf site factory x d) where

@@ -5,16 +5,16 @@ use Rattle.entries.specs.Entries.{Value, Entry, value_at}
 use Rattle.entries.specs.Build.{pick}
 use Rattle.entries.specs.Sets.{has}
 use Rattle.entries.specs.Maps.{overlay, restriction, domain}
-use Rattle.answers.specs.declared.Finding.{Finding}
+use Rattle.answers.specs.Answers.{Finding}
 use Rattle.answers.specs.Answers.{Answer, given, Outcome, outcome, in_turn, handed}
 use Rattle.blocks.specs.Blocks.{entries_of, set_layout, map_layout}
 use Rattle.blocks.specs.Calls.{input}
 use Rattle.edits.specs.Calls.{edit_call}
-use Rattle.searches.specs.declared.Part.{Part}
+use Rattle.answers.specs.declared.Part.{Part}
 use Rattle.searches.specs.Parts.{no_part, part, words_at}
 use Rattle.searches.specs.Calls.{window_part, window_call, window_at_call, window_refusal_call}
 use Rattle.operations.specs.Calls.{from_two, from_one}
-use Rattle.maps.specs.declared.Deciding.{Deciding}
+use Rattle.answers.specs.declared.Deciding.{Deciding}
 
 -- the entries that a map's block says
 abbrev pub map_entries : List ℕ → List Entry

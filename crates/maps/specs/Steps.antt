@@ -1,6 +1,6 @@
 -- What the steps of the code promise each other. No public promise names these.
 use Rattle.std.specs.Prelude.{◌≡◌, List, ℕ, ◌+◌, ◌≤◌, length}
-use Rattle.maps.specs.declared.Deciding.{Deciding}
+use Rattle.answers.specs.declared.Deciding.{Deciding}
 use Rattle.maps.specs.Calls.{deciding, at_position}
 
 -- r is the deciding entry of x, within its map
