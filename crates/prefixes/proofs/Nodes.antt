@@ -2,33 +2,33 @@
 use mathlib.Core.Path.{◌≡◌, refl, sym, ◌∙◌, ap, subst}
 use mathlib.Core.Logic.{◌⊎◌, inl, inr}
 use mathlib.Core.Bool.{Bool, true, false}
-use mathlib.Core.List.{List, ◌++◌}
+use mathlib.Core.List.{List, [], ◌∷◌, ◌++◌}
 use Prim.Native.Nat.{ℕ, suc, ◌+◌, ◌*◌, ◌-◌, ◌/◌, ◌^◌, ◌≤◌, ◌<◌, max}
 use native.Mathlib.Omega.{arith}
 use native.Mathlib.Nat.{pow-suc}
 use lib.Pow.{pow_pos}
 use lib.Dec.{leb}
 use lib.ListN.{length, get_or}
-use borrow.Author.Count.{below_more}
 use borrow.Author.Tests.{leb-true, leb-false}
 use Rattle.entries.specs.Entries.{Entry, value_at}
 use Rattle.entries.specs.Build.{andb}
-use Rattle.entries.specs.Sets.{M, past_m, has, member}
+use Rattle.entries.specs.Sets.{past_m, has, member}
 use Rattle.entries.proofs.Index.{sound_ok}
 use Rattle.entries.proofs.Values.{and_true}
 use Rattle.entries.proofs.Append.{value_index, value_gap}
 use Rattle.entries.proofs.Windows.{Passed}
 use Rattle.entries.proofs.Finding.{behind_free}
-use Rattle.blocks.specs.Blocks.{set_layout, SoundBlock, entries_of}
+use Rattle.blocks.specs.Blocks.{entries_of}
 use Rattle.blocks.specs.Steps.{zero_item}
-use Rattle.blocks.proofs.Items.{entries_count, entry_is, held}
+use Rattle.blocks.proofs.Items.{entries_count, entry_is}
 use Rattle.sets.proofs.Asking.{entries_plain}
 use Rattle.searches.specs.Steps.{FirstFrom}
 use Rattle.searches.proofs.Finding.{passed}
-use Rattle.tilings.specs.Prefixes.{Prefix, prefix, whole, wholly_out, wholly_in, audit}
+use Rattle.tilings.specs.Prefixes.{Prefix, prefix, wholly_out, wholly_in, audit}
 use Rattle.tilings.proofs.Judging.{free_out, full_in, out_not, in_not, audit_dropped, audit_kept, audit_halves}
-use Rattle.prefixes.specs.Steps.{Tally, noted, all_noted, Node, Begins}
-use Rattle.prefixes.proofs.Noting.{all_append}
+use Rattle.prefixes.specs.Steps.{Notes, Node}
+use Rattle.prefixes.specs.declared.Pairs.{Pairs}
+use Rattle.prefixes.proofs.Passes.{notes_none, notes_both}
 
 -- of two tests that do not both hold, one fails
 not_both : (s t : Bool) → andb s t ≡ false → (s ≡ false) ⊎ (t ≡ false)
@@ -51,35 +51,34 @@ module _ {w : List ℕ} {start e ones at : ℕ} (g : Node w start e ones at) whe
   high_of : (k : ℕ) → k < get_or w 0 0 → (get_or es k zero_item).high ≡ get_or w (2 * k + 2) 0
   high_of k h = ap (λ (f : Entry). f.high) (entry_is 2 (omega arith) w (get_or w 0 0) refl k h)
 
-  -- the range at the place stands in the block
-  pub node_held : at < get_or w 0 0 → 2 * at + 3 ≤ length w
-  node_held h = omega (arith, (held set_layout (omega arith) w (get_or w 0 0) refl g.block).held)
-
   -- numbers from the start on and below the range at the place are no members
   no_member : (z : ℕ) → start ≤ z → (at < length es → z < (get_or es at zero_item).low) → member es z ≡ false
   no_member z a f = ap has (value_gap es at zero_item g.block.sound z (λ j p. omega (arith, here.before j p)) f)
 
   -- WHOLLY OUT, and dropped
-  dropped : (room : ℕ) (t : Tally) → (at < get_or w 0 0 → start + ones < get_or w (2 * at + 1) 0) → t ≡ all_noted room (audit es e start) t
-  dropped room t f = ap (λ (ps : List Prefix). all_noted room ps t) (sym (audit_dropped es e start out))
+  dropped : (p : Pairs) → (at < get_or w 0 0 → start + ones < get_or w (2 * at + 1) 0) → Notes (audit es e start) p p
+  dropped p f = subst (λ (ps : List Prefix). Notes ps p p) (sym (audit_dropped es e start out)) (notes_none p)
     where
       out : wholly_out es e start ≡ true
       out = free_out es g.block.sound e start
           (λ z a b. no_member z a (λ p. let h : at < get_or w 0 0 = omega (arith, count) in omega (arith, f h, low_of at h, g.size)))
 
-  pub dropped_end : (room : ℕ) (t : Tally) → get_or w 0 0 ≤ at → t ≡ all_noted room (audit es e start) t
-  dropped_end room t h = dropped room t (λ p. absurd (omega arith))
+  pub dropped_end : (p : Pairs) → get_or w 0 0 ≤ at → Notes (audit es e start) p p
+  dropped_end p h = dropped p (λ q. absurd (omega arith))
 
   -- there is a range at the place
-  module _ (h : at < get_or w 0 0) (low : ℕ) (ql : low ≡ get_or w (2 * at + 1) 0) where
+  module _ {n : ℕ} (qn : n ≡ get_or w 0 0) (there : at < n) {low : ℕ} (ql : low ≡ get_or w (2 * at + 1) 0) where
+    h : at < get_or w 0 0
+    h = omega arith
+
     among : at < length es
     among = omega (arith, count)
 
-    pub dropped_below : (room : ℕ) (t : Tally) → start + ones < low → t ≡ all_noted room (audit es e start) t
-    dropped_below room t l = dropped room t (λ p. omega arith)
+    pub dropped_below : (p : Pairs) → start + ones < low → Notes (audit es e start) p p
+    dropped_below p l = dropped p (λ q. omega arith)
 
     -- and it begins within the node or before it
-    module _ (begun : low ≤ start + ones) (high : ℕ) (qh : high ≡ get_or w (2 * at + 2) 0) where
+    module _ (begun : low ≤ start + ones) {high : ℕ} (qh : high ≡ get_or w (2 * at + 2) 0) where
       ends : start ≤ high
       ends = omega (arith, g.first.from h)
 
@@ -98,7 +97,10 @@ module _ {w : List ℕ} {start e ones at : ℕ} (g : Node w start e ones at) whe
       in_line = omega (arith, g.size, g.in_line)
 
       -- WHOLLY IN, and kept
-      module _ (inner : andb (leb low start) (leb (start + ones) high) ≡ true) where
+      module _ {t : Bool} (qt : t ≡ andb (leb low start) (leb (start + ones) high)) (yes : t ≡ true) where
+        inner : andb (leb low start) (leb (start + ones) high) ≡ true
+        inner = sym qt ∙ yes
+
         from_low : low ≤ start
         from_low = leb-true low start (and_true (leb low start) (leb (start + ones) high) inner).0
 
@@ -108,11 +110,14 @@ module _ {w : List ℕ} {start e ones at : ℕ} (g : Node w start e ones at) whe
         is_in : wholly_in es e start ≡ true
         is_in = full_in es g.block.sound e start in_line (λ y a b. in_range y (omega (arith, from_low)) (omega (arith, to_high, g.size)))
 
-        pub kept : (room : ℕ) (t : Tally) {u : Tally} → u ≡ noted room (prefix start e) t → u ≡ all_noted room (audit es e start) t
-        kept room t q = q ∙ ap (λ (ps : List Prefix). all_noted room ps t) (sym (audit_kept es e start not_out is_in))
+        pub kept : {p q : Pairs} → Notes (prefix start e ∷ []) p q → Notes (audit es e start) p q
+        kept {p} {q} n = subst (λ (ps : List Prefix). Notes ps p q) (sym (audit_kept es e start not_out is_in)) n
 
       -- PARTLY IN, and cut
-      module _ (partly : andb (leb low start) (leb (start + ones) high) ≡ false) where
+      module _ {t : Bool} (qt : t ≡ andb (leb low start) (leb (start + ones) high)) (no : t ≡ false) where
+        partly : andb (leb low start) (leb (start + ones) high) ≡ false
+        partly = sym qt ∙ no
+
         -- a single number is wholly in or wholly out
         pub more : e ≡ 0 → ⊥
         more z = go (not_both (leb low start) (leb (start + ones) high) partly) (ap (λ (k : ℕ). 2 ^ k) z)
@@ -149,15 +154,8 @@ module _ {w : List ℕ} {start e ones at : ℕ} (g : Node w start e ones at) whe
         same_end : start + ones / 2 + 1 + ones / 2 ≡ start + ones
         same_end = omega (arith, g.size, doubled)
 
-        pub in_middle : start + ones / 2 + 1 < past_m
-        in_middle = omega (arith, g.in_line, same_end)
-
         pub first_half : Node w start (e - 1) (ones / 2) at
         first_half = record { block = g.block; size = half; in_line = omega (arith, g.in_line); first = g.first }
-
-        -- the second half's place is not before the node's
-        pub onward : Begins w at (start + ones / 2 + 1)
-        onward = record { block = g.block; within = g.first.within; before = λ k p. omega (arith, g.first.before k p) }
 
         pub second_half : {next : ℕ} → FirstFrom w 2 2 (get_or w 0 0) (start + ones / 2 + 1) next → Node w (start + ones / 2 + 1) (e - 1) (ones / 2) next
         second_half f = record { block = g.block; size = half; in_line = omega (arith, g.in_line, same_end); first = f }
@@ -169,29 +167,6 @@ module _ {w : List ℕ} {start e ones at : ℕ} (g : Node w start e ones at) whe
             (subst (λ (k : ℕ). wholly_in es k start ≡ false) (sym one_less) not_in)
             ∙ ap (λ (s : ℕ). audit es (e - 1) start ++ audit es (e - 1) s) (omega (arith, half))
 
-        pub cut : (room : ℕ) (t : Tally) {u v : Tally} → u ≡ all_noted room (audit es (e - 1) start) t
-            → v ≡ all_noted room (audit es (e - 1) (start + ones / 2 + 1)) u → v ≡ all_noted room (audit es e start) t
-        cut room t a b =
-            b ∙ ap (all_noted room (audit es (e - 1) (start + ones / 2 + 1))) a
-            ∙ sym (all_append room (audit es (e - 1) start) (audit es (e - 1) (start + ones / 2 + 1)) t)
-            ∙ ap (λ (ps : List Prefix). all_noted room ps t) (sym halves)
-
--- the whole line
-pub whole_line_lem : {w : List ℕ} → SoundBlock set_layout w → Node w 0 whole M 0
-whole_line_lem b = record {
-  block = b;
-  size = refl;
-  in_line = omega arith;
-  first = record { within = omega arith; before = λ k p. absurd (omega arith); from = λ p. omega arith };
-}
-
--- THE PLACE of a number: it is found, or the next one is looked at
-module _ {w : List ℕ} {place x : ℕ} (b : Begins w place x) where
-  pub found : (place < get_or w 0 0 → x ≤ get_or w (2 * place + 2) 0) → FirstFrom w 2 2 (get_or w 0 0) x place
-  found f = record { within = b.within; before = b.before; from = f }
-
-  pub goes_on : place < get_or w 0 0 → get_or w (2 * place + 2) 0 < x → Begins w (place + 1) x
-  goes_on h l = record { block = b.block; within = omega arith; before = below_more _ _ b.before l }
-
-  pub range_held : place < get_or w 0 0 → 2 * place + 3 ≤ length w
-  range_held h = omega (arith, (held set_layout (omega arith) w (get_or w 0 0) refl b.block).held)
+        pub cut : {p q r : Pairs} → Notes (audit es (e - 1) start) p q → Notes (audit es (e - 1) (start + ones / 2 + 1)) q r
+            → Notes (audit es e start) p r
+        cut a b = notes_both a b halves

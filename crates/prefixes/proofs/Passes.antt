@@ -1,27 +1,50 @@
 -- The pass over the ranges of a set: what is left to take still gives what is due.
 use mathlib.Core.Path.{◌≡◌, refl, sym, ◌∙◌, ap, ap₂}
-use mathlib.Core.List.{List, ◌∷◌}
+use mathlib.Core.List.{List, [], ◌∷◌, ◌++◌}
 use Prim.Native.Nat.{ℕ, zero, suc, ◌+◌, ◌*◌, ◌-◌, ◌^◌, ◌≤◌, ◌<◌}
 use native.Mathlib.Omega.{arith}
 use lib.ListN.{length, get_or, drop}
 use lib.Seq.{drop-drop, get_or-drop}
 use Rattle.entries.specs.Entries.{Sound}
-use Rattle.blocks.specs.Blocks.{set_layout, SoundBlock, items_of, entries_of}
-use Rattle.blocks.proofs.Judging.{room_words}
+use Rattle.blocks.specs.Blocks.{items_of, entries_of}
 use Rattle.tilings.specs.Prefixes.{Prefix, prefix, whole, largest, taken_all, prefixes}
 use Rattle.tilings.proofs.Taking.{taken_one, taken_none}
-use Rattle.prefixes.specs.Steps.{Fits, Tally, tally, noted, all_noted}
-use Rattle.prefixes.proofs.Noting.{noted_length, all_length, all_append}
+use Rattle.std.proofs.Common.{append_assoc}
+use Rattle.std.proofs.lemmas.List.{append-nil}
+use Rattle.prefixes.specs.declared.Pairs.{Pairs}
+use Rattle.prefixes.specs.Steps.{Fits, Tally, tally, all_noted, Notes, HasRoom}
+use Rattle.prefixes.proofs.Noting.{all_length, all_append}
 
--- ONE RANGE: the blocks from `at` on are left
-pub record Taking (low high room count : ℕ) (w : List ℕ) (at n : ℕ) (o : List ℕ) : Type 0 where
+-- a pass and then another
+pub notes_both : {ps qs rs : List Prefix} {p q r : Pairs} → Notes ps p q → Notes qs q r → rs ≡ ps ++ qs → Notes rs p r
+notes_both {ps} {qs} {rs} {p} {q} {r} a b e = record {
+  noted = b.noted
+      ∙ ap₂ (λ (room : ℕ) (t : Tally). all_noted room qs t) a.room a.noted
+      ∙ sym (all_append p.room ps qs (tally p.count p.out.now))
+      ∙ ap (λ (l : List Prefix). all_noted p.room l (tally p.count p.out.now)) (sym e);
+  room = b.room ∙ a.room;
+  place = b.place ∙ a.place;
+}
+
+pub notes_none : (p : Pairs) → Notes [] p p
+notes_none p = record { noted = refl; room = refl; place = refl }
+
+pub notes_length : {ps : List Prefix} {p q : Pairs} → Notes ps p q → length q.out.now ≡ length p.out.now
+notes_length {ps} {p} a = ap (λ (u : Tally). length u.words) a.noted ∙ all_length p.room ps (tally p.count p.out.now)
+
+pub notes_room : {ps : List Prefix} {p q : Pairs} → HasRoom p.room p.out.now → Notes ps p q → HasRoom q.room q.out.now
+notes_room h a = omega (arith, a.room, notes_length a)
+
+-- ONE RANGE: the blocks before `at` are noted
+pub record Taking (low high : ℕ) (p : Pairs) (at : ℕ) (q : Pairs) : Type 0 where
   pub upto : at ≤ high
-  pub long : length o ≡ length w
-  pub rest : all_noted room (taken_all at (high + 1 - at)) (tally n o) ≡ all_noted room (taken_all low (high + 1 - low)) (tally count w)
+  pub done : List Prefix
+  pub rest : taken_all low (high + 1 - low) ≡ done ++ taken_all at (high + 1 - at)
+  pub notes : Notes done p q
 
 -- the next block is noted
-module _ {low high room count : ℕ} {w : List ℕ} {at n : ℕ} {o : List ℕ} (t : Taking low high room count w at n o) {e : ℕ} (f : Fits at (high - at) e)
-    (more : ℕ) (m : more + 1 ≡ 2 ^ e) {n' : ℕ} {o' : List ℕ} (q : tally n' o' ≡ noted room (prefix at e) (tally n o)) where
+module _ {low high : ℕ} {p : Pairs} {at : ℕ} {q : Pairs} (t : Taking low high p at q) {e : ℕ} (f : Fits at (high - at) e)
+    (more : ℕ) (m : more + 1 ≡ 2 ^ e) {r : Pairs} (n : Notes (prefix at e ∷ []) q r) where
   one : taken_all at (high + 1 - at) ≡ prefix at e ∷ taken_all (at + more + 1) (high + 1 - (at + more + 1))
   one =
       let d : high - at + 1 ≡ high + 1 - at = omega (arith, t.upto) in
@@ -29,77 +52,65 @@ module _ {low high room count : ℕ} {w : List ℕ} {at n : ℕ} {o : List ℕ} 
       ∙ ap (λ (r : ℕ). prefix at r ∷ taken_all (at + 2 ^ r) (high + 1 - at - 2 ^ r)) (sym (f.is ∙ ap (largest whole at) d))
       ∙ ap₂ (λ (i j : ℕ). prefix at e ∷ taken_all i j) (omega arith) (omega arith)
 
-  same_long : length o' ≡ length w
-  same_long = ap (λ (u : Tally). length u.words) q ∙ noted_length room (prefix at e) (tally n o) ∙ t.long
+  behind : taken_all low (high + 1 - low) ≡ (t.done ++ (prefix at e ∷ [])) ++ taken_all (at + more + 1) (high + 1 - (at + more + 1))
+  behind = t.rest ∙ ap (λ (l : List Prefix). t.done ++ l) one ∙ sym (append_assoc t.done (prefix at e ∷ []) (taken_all (at + more + 1) (high + 1 - (at + more + 1))))
 
-  behind : all_noted room (taken_all (at + more + 1) (high + 1 - (at + more + 1))) (tally n' o')
-      ≡ all_noted room (taken_all low (high + 1 - low)) (tally count w)
-  behind =
-      ap (all_noted room (taken_all (at + more + 1) (high + 1 - (at + more + 1)))) q
-      ∙ ap (λ (ps : List Prefix). all_noted room ps (tally n o)) (sym one)
-      ∙ t.rest
+  pub taking_on : more < high - at → Taking low high p (at + more + 1) r
+  taking_on h = record { upto = omega arith; done = t.done ++ (prefix at e ∷ []); rest = behind; notes = notes_both t.notes n refl }
 
-  pub taking_on : more < high - at → Taking low high room count w (at + more + 1) n' o'
-  taking_on h = record { upto = omega arith; long = same_long; rest = behind }
-
-  pub taking_end : high - at ≤ more → tally n' o' ≡ all_noted room (taken_all low (high + 1 - low)) (tally count w)
+  pub taking_end : high - at ≤ more → Notes (taken_all low (high + 1 - low)) p r
   taking_end h =
       let z : high + 1 - (at + more + 1) ≡ 0 = omega arith in
-      sym (ap (λ (ps : List Prefix). all_noted room ps (tally n' o')) (ap (taken_all (at + more + 1)) z ∙ taken_none (at + more + 1))) ∙ behind
+      notes_both t.notes n
+      (behind ∙ ap (λ (l : List Prefix). (t.done ++ (prefix at e ∷ [])) ++ l) (ap (taken_all (at + more + 1)) z ∙ taken_none (at + more + 1))
+      ∙ append-nil (t.done ++ (prefix at e ∷ [])))
 
--- ALL RANGES: those from place p on are left
-pub record Passing (w : List ℕ) (room : ℕ) (o₀ : List ℕ) (p left n : ℕ) (o : List ℕ) : Type 0 where
-  pub place : p + 2 * left ≡ 1 + 2 * get_or w 0 0
+-- ALL RANGES: those before index i are taken
+pub record Passing (w : List ℕ) (p : Pairs) (i left : ℕ) (q : Pairs) : Type 0 where
+  pub place : i + left ≡ get_or w 0 0
   pub held : 1 + 2 * get_or w 0 0 ≤ length w
-  pub sound : Sound (items_of 2 left (drop p w))
-  pub long : length o ≡ length o₀
-  pub rest : all_noted room (prefixes (items_of 2 left (drop p w))) (tally n o) ≡ all_noted room (prefixes (entries_of 2 w)) (tally 0 o₀)
+  pub sound : Sound (items_of 2 left (drop (2 * i + 1) w))
+  pub done : List Prefix
+  pub rest : prefixes (entries_of 2 w) ≡ done ++ prefixes (items_of 2 left (drop (2 * i + 1) w))
+  pub notes : Notes done p q
 
-pub passing_start : (w : List ℕ) (room : ℕ) (o : List ℕ) (n : ℕ) → SoundBlock set_layout w → n ≡ get_or w 0 0 → Passing w room o 1 n 0 o
-passing_start w room o n b e = rw e (record {
-  place = omega arith;
-  held = room_words set_layout (length w) (get_or w 0 0) b.some b.fits;
-  sound = b.sound;
-  long = refl;
-  rest = refl;
-})
-
-pub passing_end : {w : List ℕ} {room : ℕ} {o₀ : List ℕ} {p left n : ℕ} {o : List ℕ} → Passing w room o₀ p left n o → left ≡ 0
-    → tally n o ≡ all_noted room (prefixes (entries_of 2 w)) (tally 0 o₀)
+pub passing_end : {w : List ℕ} {p : Pairs} {i left : ℕ} {q : Pairs} → Passing w p i left q → left ≡ 0 → Notes (prefixes (entries_of 2 w)) p q
 unfolding prefixes
-passing_end {w} {room} {o₀} {p} {left} {n} {o} s z = (rw z at s.rest)
+passing_end {w} {p} {i} {left} {q} s z =
+    let e : prefixes (entries_of 2 w) ≡ s.done ++ [] = (rw z at s.rest) in
+    notes_both s.notes (notes_none q) e
 
 -- the next range
-pub record Next (w : List ℕ) (room : ℕ) (o₀ : List ℕ) (p left n : ℕ) (o : List ℕ) : Type 0 where
-  pub inside : p + 2 ≤ length w
-  pub order : get_or w p 0 ≤ get_or w (p + 1) 0
-  pub on : {n' : ℕ} {o' : List ℕ} → tally n' o' ≡ all_noted room (taken_all (get_or w p 0) (get_or w (p + 1) 0 + 1 - get_or w p 0)) (tally n o)
-      → Passing w room o₀ (p + 2) (left - 1) n' o'
+pub record Next (w : List ℕ) (p : Pairs) (i left : ℕ) (q : Pairs) : Type 0 where
+  pub inside : 2 * i + 3 ≤ length w
+  pub order : get_or w (2 * i + 1) 0 ≤ get_or w (2 * i + 2) 0
+  pub on : {low high : ℕ} {r : Pairs} → low ≡ get_or w (2 * i + 1) 0 → high ≡ get_or w (2 * i + 2) 0
+      → Notes (taken_all low (high + 1 - low)) q r → (fewer : ℕ) → suc fewer ≡ left → Passing w p (i + 1) fewer r
 
-pub next : {w : List ℕ} {room : ℕ} {o₀ : List ℕ} {p n : ℕ} {o : List ℕ} (left : ℕ) → Passing w room o₀ p left n o → 0 < left → Next w room o₀ p left n o
+pub next : {w : List ℕ} {p : Pairs} {i : ℕ} {q : Pairs} (left : ℕ) → Passing w p i left q → 0 < left → Next w p i left q
 unfolding prefixes
 next zero s h = absurd (omega arith)
-next {w} {room} {o₀} {p} {n} {o} (suc k) s h =
-    let z : p + 0 ≡ p = omega arith in
-    let l : get_or (drop p w) 0 0 ≡ get_or w p 0 = get_or-drop p w 0 0 ∙ ap (λ (q : ℕ). get_or w q 0) z in
-    let g : get_or (drop p w) 1 0 ≡ get_or w (p + 1) 0 = get_or-drop p w 1 0 in
-    let d : drop 2 (drop p w) ≡ drop (p + 2) w = drop-drop 2 p w in
-    let e : suc k - 1 ≡ k = omega arith in
+next {w} {p} {i} {q} (suc k) s h =
+    let d₀ = 2 * i + 1 in
+    let l : get_or (drop d₀ w) 0 0 ≡ get_or w (2 * i + 1) 0 = get_or-drop d₀ w 0 0 ∙ ap (λ (q : ℕ). get_or w q 0) (omega arith) in
+    let g : get_or (drop d₀ w) 1 0 ≡ get_or w (2 * i + 2) 0 = get_or-drop d₀ w 1 0 ∙ ap (λ (q : ℕ). get_or w q 0) (omega arith) in
+    let d : drop 2 (drop d₀ w) ≡ drop (2 * (i + 1) + 1) w = drop-drop 2 d₀ w ∙ ap (λ (q : ℕ). drop q w) (omega arith) in
     record {
       inside = omega (arith, s.place, s.held);
       order = omega (arith, s.sound.0);
-      on = λ {n'} {o'} q.
+      on = λ {low} {high} {r} a b n fewer f.
+          let e : fewer ≡ k = omega arith in
+          let t = taken_all low (high + 1 - low) in
           record {
             place = omega (arith, s.place);
             held = s.held;
             sound = rw (e, ← d) s.sound.2;
-            long = ap (λ (u : Tally). length u.words) q ∙ all_length room (taken_all (get_or w p 0) (get_or w (p + 1) 0 + 1 - get_or w p 0)) (tally n o) ∙ s.long;
+            done = s.done ++ t;
             rest = rw e
-                (ap (λ (ws : List ℕ). all_noted room (prefixes (items_of 2 k ws)) (tally n' o')) (sym d)
-                ∙ ap (all_noted room (prefixes (items_of 2 k (drop 2 (drop p w)))))
-                (q ∙ ap₂ (λ (i j : ℕ). all_noted room (taken_all i j) (tally n o)) (sym l) (omega arith))
-                ∙ sym (all_append room (taken_all (get_or (drop p w) 0 0) (suc (get_or (drop p w) 1 0) - get_or (drop p w) 0 0))
-                (prefixes (items_of 2 k (drop 2 (drop p w)))) (tally n o))
-                ∙ s.rest);
+                (s.rest
+                ∙ ap₂ (λ (x y : List Prefix). s.done ++ (x ++ y))
+                (ap₂ taken_all (l ∙ sym a) (omega arith)) (ap (λ (ws : List ℕ). prefixes (items_of 2 k ws)) d)
+                ∙ sym (append_assoc s.done t (prefixes (items_of 2 k (drop (2 * (i + 1) + 1) w)))));
+            notes = notes_both s.notes n refl;
           };
     }

@@ -8,16 +8,18 @@ use native.Mathlib.Omega.{arith}
 use lib.Dec.{leb}
 use lib.ListN.{length, get_or, set, take, drop, length-set, take-append-drop}
 use lib.Seq.{sets, sets-eq, length-sets, take_at}
-use borrow.Author.Tests.{leb-true, le-leb, lt-leb, eq-eqb, ne_eqb}
+use borrow.Author.Tests.{leb-true, le-leb, lt-leb}
+use Rattle.std.specs.Prelude.{Ok}
 use Rattle.entries.specs.Entries.{Entry}
-use Rattle.answers.specs.declared.Finding.{Finding}
-use Rattle.answers.specs.declared.Judged.{Judged}
-use Rattle.answers.specs.Answers.{Outcome, outcome, at}
-use Rattle.answers.specs.Says.{judged_says, judged_of}
+use Rattle.answers.specs.Answers.{Finding}
+use Rattle.answers.specs.declared.Reason.TheVariants.{Room}
+use Rattle.answers.specs.declared.Refusal.{Refusal}
+use Rattle.answers.specs.Answers.{Outcome, outcome, given}
+use Rattle.answers.specs.Says.{at_place, refusal_says}
 use Rattle.answers.specs.Steps.{FirstOf}
-use Rattle.answers.proofs.Turns.{ends, refused_by, given_by, clear_by}
+use Rattle.answers.proofs.Turns.{given_by}
 use Rattle.blocks.specs.Blocks.{set_layout, SoundBlock, capacity, entries_of, words_of, block_of, Shaped, Lent}
-use Rattle.blocks.specs.Calls.{input, no_block, output, stored}
+use Rattle.blocks.specs.Calls.{input, output, stored}
 use Rattle.blocks.specs.Steps.{Cleared}
 use Rattle.blocks.proofs.Items.{entries_count}
 use Rattle.blocks.proofs.Judging.{verdict_sound, room_words}
@@ -25,7 +27,7 @@ use Rattle.blocks.proofs.Refusing.{some_words}
 use Rattle.blocks.proofs.Words.{words_length}
 use Rattle.blocks.proofs.Moves.{part_eq, zeros, block_path}
 use Rattle.operations.specs.Calls.{from_one}
-use Rattle.operations.proofs.Making.{wrote_yes, wrote_no, stored_yes, stored_no}
+use Rattle.operations.proofs.Making.{stored_yes, stored_no}
 use Rattle.sets.proofs.Asking.{entries_plain}
 use Rattle.sets.proofs.Sizes.{entries_under}
 use Rattle.tilings.specs.Prefixes.{Prefix, most, prefixes, audited, pairs_of}
@@ -76,10 +78,6 @@ module _ {w : List ℕ} (b : SoundBlock set_layout w) (lent : Lent w) {n : ℕ} 
   pub audited_most : length (audited (entries_of 2 w)) ≤ most * n
   audited_most = omega (arith, taken_most, ap length (agree (entries_of 2 w) b.sound (entries_plain w) (entries_under w lent)))
 
--- WHETHER THERE IS ROOM: by a bound, or by the count, which goes further than there is room for
-pub by_bound : (ps : List Prefix) (room : ℕ) (o : List ℕ) → length ps ≤ room → Fitting ps room o true o
-by_bound ps room o h = record { fits = sym (le-leb (length ps) room h); same = refl }
-
 pub by_count : (ps : List Prefix) (room : ℕ) (o : List ℕ) {n : ℕ} {o₁ : List ℕ} → room < length o → tally n o₁ ≡ all_noted 0 ps (tally 0 o)
     → Fitting ps room o (leb n room) o₁
 by_count ps room o {n} {o₁} h q = record { fits = go (dec_le (length ps) room); same = ap (λ (t : Tally). t.words) counted }
@@ -93,13 +91,6 @@ by_count ps room o {n} {o₁} h q = record { fits = go (dec_le (length ps) room)
     go : Dec (length ps ≤ room) → leb n room ≡ leb (length ps) room
     go (yes l) = le-leb n room (omega (arith, many)) ∙ sym (le-leb (length ps) room l)
     go (no l) = lt-leb n room (omega (arith, many, l)) ∙ sym (lt-leb (length ps) room (omega (arith, l)))
-
--- the output is judged by its number of words
-pub no_words : (words : ℕ) → words ≡ 0 → FirstOf (output 1 words ∷ []) (at 1 1)
-no_words words z = ends 1 (no_block words) 1 (rw (eq-eqb words 0 z)) (rw (eq-eqb words 0 z) (omega arith))
-
-pub with_words : (words : ℕ) → (words ≡ 0 → ⊥) → FirstOf (output 1 words ∷ []) (at 1 0)
-with_words words n = ends 0 (no_block words) 1 (rw (ne_eqb words 0 n)) (rw (ne_eqb words 0 n) (omega arith))
 
 -- A CALL, by either method: `make` gives the blocks that are due of a set's entries
 module _ (make : List Entry → List Prefix) (w o : List ℕ) where
@@ -116,26 +107,16 @@ module _ (make : List Entry → List Prefix) (w o : List ℕ) where
   abbrev rest : Outcome
   rest = stored 1 pair_layout o (pairs_of ps)
 
-  pub refused_first : {f : Finding} → FirstOf judges f → (x : Judged) → (f.number ≡ 0 → ⊥) → x ≡ judged_of f.number f.place
-      → outcome (judged_says x) (o ∷ []) ≡ due
-  refused_first {f} g = refused_by judges f g (o ∷ []) rest
-
-  -- What is known where none of them applies, of an output with so much room: the set is sound, and whatever is found of the room and then
-  -- stored, the answer is the one that is due.
-  pub record Ready (room : ℕ) : Type 0 where
+  -- where none of them applies the set is sound and the output has words; and whatever is found of the room and then stored, the answer is
+  -- the one that is due
+  module _ {u : Unit {0}} (g : FirstOf judges (Ok u)) where
     pub sound : SoundBlock set_layout w
-    pub less : room < length o
-    pub has_room : {t : Bool} {o₁ : List ℕ} → Fitting ps room o t o₁ → HasRoom room o₁
-    pub refused : {o₁ : List ℕ} → Fitting ps room o false o₁ → (x : Judged) → x ≡ judged_of 5 1 → outcome (judged_says x) (o₁ ∷ []) ≡ due
-    pub in_out : {o₁ : List ℕ} → Fitting ps room o true o₁ → {m : ℕ} {o₂ : List ℕ} → tally m o₂ ≡ all_noted room ps (tally 0 o₁) → 1 + 2 * m ≤ length o₂
-    pub accepted : {o₁ : List ℕ} → Fitting ps room o true o₁ → {m : ℕ} {o₂ : List ℕ} → tally m o₂ ≡ all_noted room ps (tally 0 o₁)
-        → (o₃ : List ℕ) → Cleared (set o₂ 0 m) (2 * m + 1) o₃ → (x : Judged) → x ≡ judged_of 0 1 → outcome (judged_says x) (o₃ ∷ []) ≡ due
+    sound = verdict_sound set_layout w g.clear.0
 
-  module _ {f : Finding} (g : FirstOf judges f) (z : f.number ≡ 0) where
-    some : 0 < length o
-    some = some_words (length o) (clear_by g z 1)
+    pub some : 0 < length o
+    some = some_words (length o) g.clear.1.0
 
-    module _ (room : ℕ) (r : room ≡ capacity pair_layout (length o)) where
+    module _ {room : ℕ} (r : room ≡ capacity pair_layout (length o)) where
       in_words : 1 + 2 * room ≤ length o
       in_words = room_words pair_layout (length o) room some (omega (arith, r))
 
@@ -144,9 +125,10 @@ module _ (make : List Entry → List Prefix) (w o : List ℕ) where
       test q = q.fits ∙ ap (λ (k : ℕ). leb k room) (sym (length_pairs ps))
 
       -- THE PAIRS are stored
-      module _ {o₁ : List ℕ} (q : Fitting ps room o true o₁) {m : ℕ} {o₂ : List ℕ} (p : tally m o₂ ≡ all_noted room ps (tally 0 o₁)) where
+      module _ {t : Bool} {o₁ : List ℕ} (q : Fitting ps room o t o₁) (z : t ≡ true) {m : ℕ} {o₂ : List ℕ}
+          (p : tally m o₂ ≡ all_noted room ps (tally 0 o₁)) where
         few : length ps ≤ room
-        few = leb-true (length ps) room (sym q.fits)
+        few = leb-true (length ps) room (sym q.fits ∙ z)
 
         pairs : tally m o₂ ≡ tally (0 + length ps) (sets o 1 (words_of (pairs_of ps)))
         pairs = p ∙ ap (λ (v : List ℕ). all_noted room ps (tally 0 v)) q.same ∙ all_stored room ps 0 o in_words (omega (arith, few))
@@ -161,19 +143,23 @@ module _ (make : List Entry → List Prefix) (w o : List ℕ) where
         whole_block o₃ c =
             block ps o o₃ m all (omega (arith, all, few, in_words)) (subst (λ (v : List ℕ). Cleared (set v 0 m) (2 * m + 1) o₃) words c)
 
-        fits_in : 1 + 2 * m ≤ length o₂
+        pub fits_in : 1 + 2 * m ≤ length o₂
         fits_in = omega (arith, all, few, in_words, ap length words, length-sets o 1 (words_of (pairs_of ps)))
 
-      pub ready : Ready room
-      ready = record {
-        sound = verdict_sound set_layout w (clear_by g z 0);
-        less = omega (arith, in_words);
-        has_room = λ q. omega (arith, ap length q.same, in_words);
-        refused = λ {o₁} q x e.
-            given_by judges f g (o ∷ []) rest _ z
-            (stored_no 1 pair_layout (pairs_of ps) o false o₁ (rw q.same (wrote_no pair_layout (pairs_of ps) o room r false (test q) refl)) x refl e);
-        in_out = λ q p. fits_in q p;
-        accepted = λ q p o₃ c x e.
-            given_by judges f g (o ∷ []) rest _ z
-            (stored_yes 1 pair_layout (pairs_of ps) o true o₃ (wrote_yes pair_layout (pairs_of ps) o room r true (test q) o₃ refl (whole_block q p o₃ c)) x refl e);
-      }
+      pub less : room < length o
+      less = omega (arith, in_words)
+
+      pub has_room : {t : Bool} {o₁ : List ℕ} → Fitting ps room o t o₁ → HasRoom room o₁
+      has_room q = omega (arith, ap length q.same, in_words)
+
+      pub refused : {t : Bool} {o₁ : List ℕ} → Fitting ps room o t o₁ → t ≡ false → {x : Refusal} → x ≡ at_place Room 1
+          → outcome (refusal_says x) (o₁ ∷ []) ≡ due
+      refused {t} q z {x} e =
+          given_by g (o ∷ []) _ rest
+          (ap (λ (v : List ℕ). outcome (refusal_says x) (v ∷ [])) q.same ∙ stored_no 1 pair_layout (pairs_of ps) o room r t (test q) z x e)
+
+      pub accepted : {t : Bool} {o₁ : List ℕ} → Fitting ps room o t o₁ → t ≡ true → {m : ℕ} {o₂ : List ℕ} → tally m o₂ ≡ all_noted room ps (tally 0 o₁)
+          → {o₃ : List ℕ} → Cleared (set o₂ 0 m) (2 * m + 1) o₃ → outcome (given []) (o₃ ∷ []) ≡ due
+      accepted {t} q z p {o₃} c =
+          given_by g (o ∷ []) _ rest
+          (stored_yes 1 pair_layout (pairs_of ps) o room r t (test q) z o₃ (whole_block q z p o₃ c))

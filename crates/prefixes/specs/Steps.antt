@@ -1,10 +1,12 @@
 -- What the steps of the code promise each other. No public promise names these.
 use Rattle.std.specs.Prelude.{◌≡◌, Bool, List, [], ◌∷◌, ℕ, ◌+◌, ◌*◌, ◌^◌, ◌≤◌, ◌<◌, leb, ltb, length, get_or, set}
+use Rattle.entries.specs.Entries.{Entry}
 use Rattle.entries.specs.Build.{pick}
 use Rattle.entries.specs.Sets.{past_m}
-use Rattle.blocks.specs.Blocks.{set_layout, SoundBlock}
+use Rattle.blocks.specs.Blocks.{set_layout, SoundBlock, Lent, entries_of}
 use Rattle.searches.specs.Steps.{FirstFrom}
-use Rattle.tilings.specs.Prefixes.{Prefix, largest, whole}
+use Rattle.prefixes.specs.declared.Pairs.{Pairs}
+use Rattle.tilings.specs.Prefixes.{Prefix, largest, whole, most}
 
 -- r is the exponent of the largest block that fits at the low end p of left + 1 numbers
 pub record Fits (p left r : ℕ) : Type 0 where
@@ -32,9 +34,19 @@ abbrev pub all_noted : ℕ → List Prefix → Tally → Tally
 all_noted room [] t = t
 all_noted room (p ∷ ps) t = all_noted room ps (noted room p t)
 
+-- a pass that has gone from p to q has noted the blocks ps: with the same room, in the same words
+pub record Notes (ps : List Prefix) (p q : Pairs) : Type 0 where
+  pub noted : tally q.count q.out.now ≡ all_noted p.room ps (tally p.count p.out.now)
+  pub room : q.room ≡ p.room
+  pub place : q.out.ghost_name ≡ p.out.ghost_name
+
 -- an output with room for so many pairs
 abbrev pub HasRoom : ℕ → List ℕ → Type 0
 HasRoom room o = 1 + 2 * room ≤ length o
+
+-- a method gives no more blocks than so many for each range of a sound set
+abbrev pub MostBlocks : (List Entry → List Prefix) → Type 0
+MostBlocks blocks = (w : List ℕ) → SoundBlock set_layout w → Lent w → length (blocks (entries_of 2 w)) ≤ most * get_or w 0 0
 
 -- r says whether an output has room for so many of the blocks ps, and it stays as it was
 pub record Fitting (ps : List Prefix) (room : ℕ) (o : List ℕ) (r : Bool) (o' : List ℕ) : Type 0 where
