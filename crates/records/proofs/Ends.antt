@@ -1,20 +1,18 @@
 -- The words of an item where the code fills or writes them: the ends turned in one kind, and every word as it stands in the others.
 use Prim.Native.Nat.{ℕ, suc, ◌-◌, ◌*◌, ◌≤◌}
 use mathlib.Core.List.{List, [], ◌∷◌, ◌++◌}
-use mathlib.Core.Bool.{Bool, true, false}
 use mathlib.Core.Option.{some}
 use mathlib.Core.Path.{◌≡◌, refl, sym, ap, ◌∙◌}
 use native.Mathlib.Omega.{arith}
 use lib.ListN.{length, get_or, set, take, drop, length-take, length-drop}
 use lib.Seq.{take_all}
-use borrow.Author.Tests.{eqb-true, eqb-false}
 use Rattle.keys.specs.Keys.{turned}
 use Rattle.blocks.specs.Blocks.{item_of}
 use Rattle.numbers.specs.Numbers.{words_in, word_bytes, over}
 use Rattle.numbers.proofs.Patch.{tail_part}
 use Rattle.numbers.proofs.Numbers.{words_drop, length_words, length_bytes}
 use Rattle.records.specs.Records.{body_length, said, saying, entry_words, entry_in}
-use Rattle.records.specs.Steps.{ItemKind, Turns, Laid}
+use Rattle.records.specs.Steps.{ItemKind, Laid}
 use Rattle.records.proofs.Said.{said_plain, saying_plain, plain_kind, says, same_saying}
 use Rattle.records.proofs.Items.{item_words}
 
@@ -25,13 +23,6 @@ unfolding said
 turned_front kind s [] rest t u k two l p q = absurd (omega arith)
 turned_front kind s (a ∷ []) rest t u k two l p q = absurd (omega arith)
 turned_front kind s (a ∷ b ∷ ws) rest t u k two l p q = rw (p, q, k, take_all (s - 2) ws (omega arith))
-
--- what the code was told of a kind
-pub turns_so : (kind : ℕ) (t : Bool) → Turns kind t → t ≡ true → kind ≡ 0x14
-turns_so kind t e q = eqb-true kind 0x14 (sym e ∙ q)
-
-pub turns_not : (kind : ℕ) (t : Bool) → Turns kind t → t ≡ false → kind ≡ 0x14 → ⊥
-turns_not kind t e q = eqb-false kind 0x14 (sym e ∙ q)
 
 -- what a record says has as many words
 pub said_length : (kind s : ℕ) (b : List ℕ) → 2 ≤ s → length (entry_words (entry_in kind s b)) ≡ s

@@ -5,24 +5,20 @@ use mathlib.Core.List.{List, [], ◌∷◌}
 use mathlib.Core.Option.{Option}
 use Prim.Native.Nat.{ℕ, zero, suc, ◌+◌, ◌-◌, ◌*◌, ◌≤◌, ◌<◌}
 use native.Mathlib.Omega.{arith}
-use lib.Dec.{leb, eqb, ltb}
+use lib.Dec.{leb, eqb}
 use borrow.Author.Tests.{lt-ltb, le-ltb, le-leb, eq-eqb, ne_eqb}
 use lib.ListN.{length, take, drop}
 use lib.Seq.{take_all}
-use Rattle.entries.specs.Build.{andb, pick, same_words}
+use Rattle.entries.specs.Build.{andb, same_words}
 use Rattle.entries.specs.Entries.{Entry}
 use Rattle.blocks.specs.Blocks.{item_of, afterb}
-use borrow.Rule.Slice.PartMut.{put_mid}
-use Rattle.numbers.specs.Numbers.{Bytes, num2, num8, be2, words_in, word_bytes, counts_in, count_bytes, over}
+use Rattle.numbers.specs.Numbers.{Bytes, num2, words_in, word_bytes, counts_in, count_bytes}
 use Rattle.keys.specs.Keys.{turned}
-use Rattle.numbers.proofs.Patch.{mid_over}
 use Rattle.numbers.proofs.Numbers.{words_bytes, counts_bytes, length_words}
 use Rattle.records.specs.Records.{all_within, said, entry_words, entry_in, in_order}
-use Rattle.records.specs.Reads.{counts_of, second_count, start_read, item_here, item_said, entry_of, item_read}
+use Rattle.records.specs.Reads.{counts_of, second_count, item_here, item_said, entry_of}
 use Rattle.records.specs.Steps.{item_bytes}
 use Rattle.records.specs.declared.Item.{Item}
-use Rattle.records.specs.declared.ItemRead.TheVariants as item
-use Rattle.records.specs.declared.StartRead.TheVariants as start
 
 -- the counts of a start, of which there are one or two
 pub counts_two : (k : ℕ) → 1 ≤ k → k ≤ 2 → (b : List ℕ) → counts_of k (num2 b 3) (second_count k b) ≡ counts_in k b 3
@@ -36,13 +32,6 @@ counts_length zero n m h l = absurd (omega arith)
 counts_length (suc zero) n m h l = refl
 counts_length (suc (suc zero)) n m h l = refl
 counts_length (suc (suc (suc k))) n m h l = absurd (omega arith)
-
-pub counts_put : (k n m : ℕ) (b x : List ℕ) → k ≡ 1 → x ≡ over (be2 n) b → x ≡ over (count_bytes (counts_of k n m)) b
-counts_put k n m b x e q = q ∙ rw e
-
-pub counts_put_too : (k n m : ℕ) (b x y : List ℕ) → k ≡ 2 → x ≡ over (be2 n) b → y ≡ over (be2 m) (take (length x - 2) (drop 2 x))
-    → put_mid 2 (length x - 2) x y ≡ over (count_bytes (counts_of k n m)) b
-counts_put_too k n m b x y e q w = mid_over (be2 n) (be2 m) b x y 2 refl q w ∙ rw e
 
 within_two : (k limit n : ℕ) (b : List ℕ) → 1 ≤ k → k ≤ 2
     → andb (leb n limit) (leb (second_count k b) limit) ≡ all_within limit (counts_of k n (second_count k b))
@@ -95,10 +84,6 @@ pub item_content : (kind s : ℕ) (before : Option Entry) (b : List ℕ) (i : It
     → in_order before (entry_of s i) ≡ in_order before (entry_in kind s b)
 item_content kind s before b i two four e = ap (in_order before) (ap (entry_of s) e ∙ here_entry kind s b two four)
 
-pub item_made : (s : ℕ) (b : List ℕ) (l h v w : ℕ) → l ≡ num8 b 3 → h ≡ num8 b 11 → v ≡ pick (ltb 2 s) (num8 b 19) 0 → w ≡ pick (ltb 3 s) (num8 b 27) 0
-    → ◌≡◌ {A = Item} (record { low = l; high = h; value = v; second = w }) (item_here s b)
-item_made s b l h v w p q r t = rw (p, q, r, t)
-
 -- the item that a record says: its words as they are, or with the ends turned
 pub said_as_it_is : (kind : ℕ) (i : Item) → (kind ≡ 0x14 → ⊥) → i ≡ item_said kind i
 said_as_it_is kind i n = rw (ne_eqb kind 0x14 n)
@@ -106,21 +91,6 @@ said_as_it_is kind i n = rw (ne_eqb kind 0x14 n)
 pub said_turned : (kind : ℕ) (i : Item) → kind ≡ 0x14 → (l h : ℕ) → l ≡ turned i.low → h ≡ turned i.high
     → ◌≡◌ {A = Item} (record { low = l; high = h; value = i.value; second = i.second }) (item_said kind i)
 said_turned kind i k l h p q = rw (p, q, eq-eqb kind 0x14 k)
-
--- a record's answer by its verdict
-pub start_bad : (w v n m : ℕ) → w ≡ v → (w ≡ 0 → ⊥) → start.Bad w ≡ start_read v n m
-start_bad w zero n m e z = absurd (z e)
-start_bad w (suc v) n m e z = ap start.Bad e
-
-pub start_good : (w v n m n' m' : ℕ) → w ≡ v → w ≡ 0 → n ≡ n' → m ≡ m' → start.Good n m ≡ start_read v n' m'
-start_good w v n m n' m' e z p q = rw (sym e ∙ z) (ap₂ start.Good p q)
-
-pub item_bad : (w v : ℕ) (i : Item) → w ≡ v → (w ≡ 0 → ⊥) → item.Bad w ≡ item_read v i
-item_bad w zero i e z = absurd (z e)
-item_bad w (suc v) i e z = ap item.Bad e
-
-pub item_good : (w v : ℕ) (i j : Item) → w ≡ v → w ≡ 0 → i ≡ j → item.Good i ≡ item_read v j
-item_good w v i j e z p = rw (sym e ∙ z) (ap item.Good p)
 
 -- values of s - 2 words, one word after the other
 module _ (s v w x y : ℕ) where

@@ -6,3 +6,4 @@ pub mod Ends
 pub mod Told
 pub mod Written
 pub mod Accepted
+pub mod Answers

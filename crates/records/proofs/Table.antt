@@ -9,8 +9,7 @@ use borrow.Author.Tests.{eqb-true, eqb-false, ne_eqb}
 use Rattle.entries.specs.Build.{pick}
 use Rattle.records.specs.Records.{body_length}
 use Rattle.records.specs.Reads.{body_read}
-use Rattle.records.specs.declared.Body.{Body}
-use Rattle.records.specs.declared.Body.TheVariants.{Known, Unknown}
+use Rattle.std.specs.Prelude as code
 
 pair_or : (k m : ℕ) → m ≤ k → k ≤ m + 1 → body_length (m + 1) ≡ body_length m → body_length k ≡ body_length m
 pair_or k m l h e = go (eqb k m) refl
@@ -84,13 +83,13 @@ pub body_small : (k n : ℕ) → body_length k ≡ some n → n ≤ 32
 body_small k n e = small_inv (rw e at (small k))
 
 -- what the code's answer tells of the table
-pub told_known : (o : Option ℕ) (r : Body) (n : ℕ) → r ≡ body_read o → r ≡ Known n → o ≡ some n
-told_known none r n e q = absurd (let z : ◌≡◌ {A = ℕ} 0 1 = cc in omega arith)
+pub told_known : (o : Option ℕ) (r : code.Option ℕ) (n : ℕ) → r ≡ body_read o → r ≡ code.Some n → o ≡ some n
+told_known none r n e q = absurd cc
 told_known (some m) r n e q = let k : m ≡ n = cc in ap some k
 
-pub told_unknown : (o : Option ℕ) (r : Body) → r ≡ body_read o → r ≡ Unknown → o ≡ none
+pub told_unknown : (o : Option ℕ) (r : code.Option ℕ) → r ≡ body_read o → r ≡ code.None → o ≡ none
 told_unknown none r e q = refl
-told_unknown (some m) r e q = absurd (let z : ◌≡◌ {A = ℕ} 0 1 = cc in omega arith)
+told_unknown (some m) r e q = absurd cc
 
 pub fits_known : (o : Option ℕ) (n m l : ℕ) → o ≡ some n → o ≡ some m → n + 5 ≤ l → m + 5 ≤ l
 fits_known o n m l p q h = let k : n ≡ m = cc in omega arith

@@ -7,7 +7,7 @@ use mathlib.Core.Path.{◌≡◌, sym, ap, ◌∙◌}
 use lib.Dec.{leb, eqb}
 use Rattle.entries.specs.Entries.{Entry}
 use Rattle.entries.specs.Build.{pick, andb}
-use Rattle.numbers.specs.Numbers.{Bytes, num2, be2, be8, counts_in, count_bytes}
+use Rattle.numbers.specs.Numbers.{Bytes, num2, be8, counts_in, count_bytes}
 use Rattle.checks.specs.Check.{fletcher, crc_start, crc_byte, crc_from, crc, check_of}
 use Rattle.checks.specs.Steps.{go_on, Begun, After}
 use Rattle.checks.specs.declared.Sums.{Sums}
@@ -26,14 +26,6 @@ module _ {S : Type 0} (go : S → List ℕ → ℕ) (check : List ℕ → ℕ) (
 
   abbrev pub GoesOn : List ℕ → S → S → Type 0
   GoesOn xs s r = (ys : List ℕ) → go s (xs ++ ys) ≡ go r ys
-
-  -- over counts
-  module _ (n m k : ℕ) (s1 : S) (f : Begins (be2 n) s1) where
-    pub one_count : k ≡ 1 → go s1 [] ≡ check (kind ∷ count_bytes (counts_of k n m))
-    one_count e = rw e (sym (f []))
-
-    pub both_counts : (s2 : S) → GoesOn (be2 m) s1 s2 → k ≡ 2 → go s2 [] ≡ check (kind ∷ count_bytes (counts_of k n m))
-    both_counts s2 g e = rw e (sym (f (be2 m ++ []) ∙ g []))
 
   -- over the words of an item
   module _ (i : Item) (s : ℕ) (s1 s2 : S) (l : Begins (be8 i.low) s1) (h : GoesOn (be8 i.high) s1 s2) where
@@ -61,18 +53,20 @@ crc_next xs s r e ys = crc_on s xs ys ∙ ap (λ (z : ℕ). crc_from z ys) (sym 
 pub crc_begin : (kind s : ℕ) → s ≡ crc_byte crc_start kind → (ys : List ℕ) → crc (kind ∷ ys) ≡ crc_from s ys
 crc_begin kind s e ys = crc_kind kind ys ∙ ap (λ (z : ℕ). crc_from z ys) (sym e)
 
--- the verdict r on a record whose front is good, by the comparison t of its check, which is summed to x, and the test u of its content
-module _ (mark due : ℕ) (b : List ℕ) (f : Front mark due b) (y : Bytes b) (x : ℕ) (t u : Bool) (r : ℕ) (v : r ≡ pick t (pick u 0 12) 11) where
+-- the verdict on a record whose front is good, by the comparison t of its check, which is summed to x, and the test u of its content
+module _ (mark due : ℕ) (b : List ℕ) (f : Front mark due b) (y : Bytes b) (x : ℕ) (t u : Bool) where
   pub start_judged : (k limit n m : ℕ) → StartKind due k → n ≡ num2 b 3 → m ≡ second_count k b → x ≡ check_of mark (due ∷ count_bytes (counts_of k n m))
-      → t ≡ eqb x (num2 b (2 * k + 3)) → u ≡ andb (leb n limit) (leb m limit) → r ≡ start_verdict mark due k limit b
+      → t ≡ eqb x (num2 b (2 * k + 3)) → u ≡ andb (leb n limit) (leb m limit)
+      → pick t (pick u 0 12) 11 ≡ start_verdict mark due k limit b
   start_judged k limit n m q i j s c w =
-      v ∙ ap (λ (a : Bool). pick t (pick a 0 12) 11) (w ∙ start_content k q.one q.two b n m i j limit)
+      ap (λ (a : Bool). pick t (pick a 0 12) 11) (w ∙ start_content k q.one q.two b n m i j limit)
       ∙ record_told mark due b (all_within limit (counts_in k b 3)) (2 * k) q.body f x (count_bytes (counts_of k n m))
       (start_body k q.one q.two b n m i j y (f.long (2 * k) q.body)) s t c
 
   pub item_judged : (s : ℕ) (before : Option Entry) (i : Item) → ItemKind due s → i ≡ item_here s b → x ≡ check_of mark (due ∷ item_bytes s i)
-      → t ≡ eqb x (num2 b (8 * s + 3)) → u ≡ in_order before (entry_of s (item_said due i)) → r ≡ item_verdict mark due s before b
+      → t ≡ eqb x (num2 b (8 * s + 3)) → u ≡ in_order before (entry_of s (item_said due i))
+      → pick t (pick u 0 12) 11 ≡ item_verdict mark due s before b
   item_judged s before i q j c k w =
-      v ∙ ap (λ (a : Bool). pick t (pick a 0 12) 11) (w ∙ item_content due s before b _ q.two q.four (ap (item_said due) j))
+      ap (λ (a : Bool). pick t (pick a 0 12) 11) (w ∙ item_content due s before b _ q.two q.four (ap (item_said due) j))
       ∙ record_told mark due b (in_order before (entry_in due s b)) (8 * s) q.body f x (item_bytes s i)
       (item_body s b i q.two q.four j y (f.long (8 * s) q.body)) c t k

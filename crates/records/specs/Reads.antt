@@ -1,22 +1,24 @@
--- What the readers of a record answer, case by case: by the verdict, with the counts or the item that the record holds.
-use Rattle.std.specs.Prelude.{ℕ, zero, suc, ◌-◌, Bool, List, [], ◌∷◌, ltb, take}
+-- What the readers of a record answer: by the verdict, the counts or the item that the record holds, or the reason why it is refused.
+use Rattle.std.specs.Prelude.{ℕ, zero, suc, ◌-◌, List, [], ◌∷◌, ltb, take, Result, Ok, Err}
+use Rattle.std.specs.Prelude as code
 use Rattle.std.proofs.Math.Option.{Option, none, some}
 use Rattle.entries.specs.Entries.{Entry, entry}
 use Rattle.entries.specs.Build.{pick}
 use Rattle.numbers.specs.Numbers.{num2, num8}
 use Rattle.records.specs.Records.{end_of}
-use Rattle.records.specs.declared.Body.{Body}
-use Rattle.records.specs.declared.Body.TheVariants as body
 use Rattle.records.specs.declared.Item.{Item}
-use Rattle.records.specs.declared.StartRead.{StartRead}
-use Rattle.records.specs.declared.StartRead.TheVariants as start
-use Rattle.records.specs.declared.ItemRead.{ItemRead}
-use Rattle.records.specs.declared.ItemRead.TheVariants as item
+use Rattle.answers.specs.declared.Reason.{Reason}
+use Rattle.answers.specs.Says.{reason_of}
 
--- a body's length
-abbrev pub body_read : Option ℕ → Body
-body_read none = body.Unknown
-body_read (some n) = body.Known n
+-- a body's length, as the code answers it
+abbrev pub body_read : Option ℕ → code.Option ℕ
+body_read none = code.None
+body_read (some n) = code.Some n
+
+-- what reading answers by its verdict: what was read for 0, else the reason with that number
+unfoldable pub read_as : {A : Type 0} → ℕ → A → Result A Reason
+read_as zero a = Ok a
+read_as (suc v) a = Err (reason_of (suc v))
 
 -- the k counts of a start, of which there are one or two; and the second of those in the bytes, 0 where there is one
 abbrev pub counts_of : ℕ → ℕ → ℕ → List ℕ
@@ -24,15 +26,6 @@ counts_of k n m = take k (n ∷ m ∷ [])
 
 abbrev pub second_count : ℕ → List ℕ → ℕ
 second_count k b = pick (ltb 1 k) (num2 b 5) 0
-
--- a start record: its counts, or the number of the refusal
-abbrev pub start_read : ℕ → ℕ → ℕ → StartRead
-start_read zero n m = start.Good n m
-start_read (suc v) n m = start.Bad (suc v)
-
-abbrev pub start_number : StartRead → ℕ
-start_number (start.Good n m) = 0
-start_number (start.Bad v) = v
 
 -- the words of an item record as the code carries them, 0 for a word that it has not; and the entry that they say
 abbrev pub item_here : ℕ → List ℕ → Item
@@ -46,14 +39,6 @@ abbrev pub item_said : ℕ → Item → Item
 item_said kind i = record { low = end_of kind i.low; high = end_of kind i.high; value = i.value; second = i.second }
 
 -- the entry before, where there is one
-abbrev pub previous : Bool → ℕ → Item → Option Entry
-previous first s i = pick first none (some (entry_of s i))
-
--- an item record: its item, or the number of the refusal
-abbrev pub item_read : ℕ → Item → ItemRead
-item_read zero i = item.Good i
-item_read (suc v) i = item.Bad (suc v)
-
-abbrev pub item_number : ItemRead → ℕ
-item_number (item.Good i) = 0
-item_number (item.Bad v) = v
+abbrev pub previous : ℕ → code.Option Item → Option Entry
+previous s code.None = none
+previous s (code.Some i) = some (entry_of s i)

@@ -1,11 +1,13 @@
 -- What the steps of the code promise each other. No public promise names these.
-use Rattle.std.specs.Prelude.{ℕ, ◌+◌, ◌*◌, ◌≤◌, ◌<◌, ◌≡◌, Bool, List, ◌∷◌, eqb, length, get_or}
+use Rattle.std.specs.Prelude.{ℕ, ◌+◌, ◌*◌, ◌≤◌, ◌<◌, ◌≡◌, Bool, List, ◌∷◌, length, get_or, Result, Ok, Err}
 use Rattle.std.proofs.Math.Option.{some}
 use Rattle.numbers.specs.Numbers.{past2, num2, word_bytes, over}
 use Rattle.checks.specs.Check.{crc}
 use Rattle.records.specs.Records.{body_length, end_of, record_verdict, entry_words}
 use Rattle.records.specs.Reads.{entry_of}
 use Rattle.records.specs.declared.Item.{Item}
+use Rattle.answers.specs.declared.Reason.{Reason}
+use Rattle.answers.specs.Says.{number_of}
 
 -- a start kind of k counts
 pub record StartKind (kind k : ℕ) : Type 0 where
@@ -23,10 +25,6 @@ pub record ItemKind (kind s : ℕ) : Type 0 where
 abbrev pub AsTheyAre : ℕ → Type 0
 AsTheyAre kind = (x : ℕ) → end_of kind x ≡ x
 
--- whether the ends in a record of a kind are turned, as code is told it
-abbrev pub Turns : ℕ → Bool → Type 0
-Turns kind turns = turns ≡ eqb kind 0x14
-
 -- the bytes of the words of an item
 abbrev pub item_bytes : ℕ → Item → List ℕ
 item_bytes s i = word_bytes (entry_words (entry_of s i))
@@ -43,7 +41,7 @@ pub record Front (mark due : ℕ) (b : List ℕ) : Type 0 where
   pub is_due : get_or b 2 0 ≡ due
   pub long : (n : ℕ) → body_length due ≡ some n → n + 5 ≤ length b
 
--- the verdict r on that much of a record: refused whatever its content is, or good so far
-pub record Fronted (mark due : ℕ) (b : List ℕ) (r : ℕ) : Type 0 where
-  pub refused : (r ≡ 0 → ⊥) → (content : Bool) → r ≡ record_verdict mark due content b
-  pub good : r ≡ 0 → Front mark due b
+-- the answer on that much of a record: good so far, or refused whatever its content is
+abbrev pub Fronted : ℕ → ℕ → List ℕ → Result Unit Reason → Type 0
+Fronted mark due b (Ok u) = Front mark due b
+Fronted mark due b (Err e) = (content : Bool) → number_of e ≡ record_verdict mark due content b

@@ -4,7 +4,7 @@ use Rattle.std.specs.Prelude.{ℕ, zero, suc, ◌+◌, ◌*◌, ◌≤◌, List,
 use Rattle.std.proofs.Math.Option.{Option, none, some}
 use Rattle.entries.specs.Entries.{Entry, Sound}
 use Rattle.answers.specs.Answers.{at}
-use Rattle.answers.specs.declared.Finding.{Finding}
+use Rattle.answers.specs.Answers.{Finding}
 use Rattle.blocks.specs.Blocks.{Shaped}
 use Rattle.records.specs.Records.{item_record, item_verdict, entry_in}
 
