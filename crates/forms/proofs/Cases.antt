@@ -42,8 +42,8 @@ set_refusals :
     (0 ∷ [])) [] ∷ read_set_call case_h [] ∷ read_set_call case_h (7 ∷ 7 ∷ []) ∷ []
     ≡ refuse 8 0 ([] ∷ []) ∷ refuse 8 0 ([] ∷ []) ∷ refuse 8 7 ([] ∷ []) ∷ refuse 8 7 ([] ∷ [])
     ∷ refuse 9 0 ([] ∷ []) ∷ refuse 10 0 ([] ∷ []) ∷ refuse 13 28 ([] ∷ []) ∷ refuse 1 0 ([] ∷ []) ∷ refuse 5 0 ((7 ∷ 7 ∷ []) ∷ []) ∷ []
-unfolding mark_of form_of runs_of run_of saying read_call form_refusals form_entries runs_refusals run_refusals runs_in entries_in said record_verdict body_length check_of
-    fletcher crc_from crc_byte crc_bit block_of
+unfolding mark_of form_of runs_of run_of saying read_call form_refusals form_entries runs_refusals run_refusals runs_in entries_in said
+    record_verdict body_length check_of fletcher crc_from crc_byte crc_bit block_of
 set_refusals = refl
 
 -- [C3] marks: the new mark before a record of the old form, 11; an old start and a new range and the reverse, 9 at the range; whole, 1 of the output
@@ -62,8 +62,8 @@ contents :
     ∷ read_map_call (map_form (entry 1 4 (2 ∷ []) ∷ entry 5 6 (3 ∷ []) ∷ [])) (replicate 8 9) ∷ []
     ≡ refuse 12 7 ([] ∷ []) ∷ refuse 12 28 ([] ∷ [])
     ∷ refuse 12 36 ([] ∷ []) ∷ outcome (given []) ((2 ∷ 1 ∷ 4 ∷ 2 ∷ 5 ∷ 6 ∷ 3 ∷ 0 ∷ []) ∷ []) ∷ []
-unfolding mark_of form_of runs_of run_of saying read_call form_refusals form_entries runs_refusals run_refusals runs_in entries_in said record_verdict body_length check_of
-    fletcher crc_from crc_byte crc_bit block_of
+unfolding mark_of form_of runs_of run_of saying read_call form_refusals form_entries runs_refusals run_refusals runs_in entries_in said
+    record_verdict body_length check_of fletcher crc_from crc_byte crc_bit block_of
 contents = refl
 
 -- [R14, Y15] a bulletin that releases 1..4 and withdraws 9..9, and one whose sets overlap
@@ -71,8 +71,8 @@ bulletins :
     read_bulletin_call (bulletin_form (entry 1 4 [] ∷ []) (entry 9 9 [] ∷ [])) (7 ∷ 7 ∷ 7 ∷ []) (7 ∷ 7 ∷ 7 ∷ 7 ∷ [])
     ∷ read_bulletin_call (bulletin_form (entry 1 4 [] ∷ []) (entry 3 9 [] ∷ [])) [] [] ∷ []
     ≡ outcome (given []) ((1 ∷ 1 ∷ 4 ∷ []) ∷ (1 ∷ 9 ∷ 9 ∷ 0 ∷ []) ∷ []) ∷ refuse 14 0 ([] ∷ [] ∷ []) ∷ []
-unfolding mark_of form_of runs_of run_of saying read_call form_refusals form_entries runs_refusals run_refusals runs_in entries_in said record_verdict body_length check_of
-    fletcher crc_from crc_byte crc_bit block_of shareb intersection
+unfolding mark_of form_of runs_of run_of saying read_call form_refusals form_entries runs_refusals run_refusals runs_in entries_in said
+    record_verdict body_length check_of fletcher crc_from crc_byte crc_bit block_of shareb intersection
 bulletins = refl
 
 -- [H1, H2] «1 member, 0 not, 16 plus the refusal number»

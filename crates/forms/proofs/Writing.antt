@@ -5,22 +5,20 @@ use mathlib.Core.Bool.{Bool, true, false}
 use mathlib.Core.Path.{◌≡◌, refl, sym, ap, ap₂, ◌∙◌}
 use native.Mathlib.Omega.{arith}
 use native.Mathlib.Nat.{mul_comm, mul-add, mul-le-mul_left}
-use lib.Dec.{lit≤}
 use lib.ListN.{length, get_or, take, drop, length-drop, length-append}
 use borrow.Rule.Slice.PartMut.{put_mid}
 use Rattle.entries.specs.Entries.{Entry}
-use Rattle.entries.specs.Bulletins.{shareb}
-use Rattle.answers.specs.Answers.{given, outcome, at, applies, Clear}
+use Rattle.std.specs.Prelude.{Result, Ok, Err}
+use Rattle.answers.specs.Answers.{given, outcome, at, applies, Clear, Finding}
 use Rattle.answers.specs.Steps.{FirstOf}
-use Rattle.answers.specs.Says.{written_says, refusal_of}
-use Rattle.answers.specs.declared.Finding.{Finding}
+use Rattle.answers.specs.Says.{refusal_says, at_place}
 use Rattle.answers.specs.declared.Refusal.{Refusal}
-use Rattle.answers.specs.declared.Written.TheVariants as written
-use Rattle.answers.proofs.Turns.{refusal_by, stops, passes, ends, stops_in, passes_in, given_by, applies_small, clear_split}
-use Rattle.blocks.specs.Blocks.{set_layout, entries_of, items_of, verdict, SoundBlock, Shaped}
+use Rattle.answers.specs.declared.Reason.TheVariants.{NoSpace}
+use Rattle.answers.proofs.Turns.{stops, ends, stops_in, passes_in, refused_by, given_by, clear_split}
+use Rattle.blocks.specs.Blocks.{items_of, verdict, SoundBlock, Shaped}
 use Rattle.blocks.specs.declared.Layout.{Layout}
 use Rattle.blocks.proofs.Words.{items_shaped, items_length}
-use Rattle.blocks.proofs.Judging.{verdict_sound, verdict_small, room_words}
+use Rattle.blocks.proofs.Judging.{verdict_sound, room_words}
 use Rattle.numbers.specs.Numbers.{past2, count_bytes, over}
 use Rattle.numbers.proofs.Patch.{tail_part, mid_patch, mid_over}
 use Rattle.records.specs.Records.{start_record}
@@ -152,62 +150,28 @@ second_small : (r : ℕ) (l : Layout) (m : ℕ) (y : List ℕ) → Shape r l →
 second_small r l m y lone e h = omega arith
 second_small r l m y pair e h = omega (arith, h (λ z. omega arith))
 
--- the first refusal of the blocks x and y, of which the second is there where there are two runs
-module _ (layout : Layout) (r : ℕ) (x y : List ℕ) (h : Shape r layout) (v : ℕ) (ev : v ≡ verdict layout x) where
-  abbrev refusals : List Finding
-  refusals = inputs layout 0 (take r (x ∷ y ∷ [])) ++ (overlap (held_in layout (take r (x ∷ y ∷ []))) ∷ [])
-
-  pub first_unsound : (v ≡ 0 → ⊥) → FirstOf refusals (at 0 v)
-  first_unsound nz = go r layout h
-    where
-      go : (r : ℕ) (l : Layout) → Shape r l → FirstOf (inputs layout 0 (take r (x ∷ y ∷ [])) ++ (overlap (held_in layout (take r (x ∷ y ∷ []))) ∷ [])) (at 0 v)
-      go r l lone = stops v (verdict layout x) 0 _ ev (verdict_small layout x) nz
-      go r l pair = stops v (verdict layout x) 0 _ ev (verdict_small layout x) nz
-
-  module _ (z : v ≡ 0) where
-    pub one_sound : r ≡ 1 → FirstOf refusals (at 0 0)
-    one_sound e = rw e (passes (verdict layout x) 0 (at 0 0 ∷ []) (at 0 0) (sym ev ∙ z) (ends 0 0 0 refl (lit≤ tt)))
-
-    module _ (e : r ≡ 2) (u : ℕ) (eu : u ≡ verdict layout y) where
-      abbrev shared : ℕ
-      shared = applies (shareb (entries_of layout.width x) (entries_of layout.width y)) 14
-
-      behind : (q : Finding) → FirstOf (at 1 (verdict layout y) ∷ at 0 shared ∷ []) q → FirstOf refusals q
-      behind q g = rw e (passes (verdict layout x) 0 (at 1 (verdict layout y) ∷ at 0 shared ∷ []) q (sym ev ∙ z) g)
-
-      pub second_unsound : (u ≡ 0 → ⊥) → FirstOf refusals (at 1 u)
-      second_unsound nz = behind (at 1 u) (stops u (verdict layout y) 1 (at 0 shared ∷ []) eu (verdict_small layout y) nz)
-
-      pub both_sound : u ≡ 0 → layout ≡ set_layout → (t : Bool) → t ≡ shareb (entries_of 2 x) (entries_of 2 y) → (w : ℕ) → w ≡ applies t 14
-          → FirstOf refusals (at 0 w)
-      both_sound y0 two t et w q =
-          let i : shareb (entries_of layout.width x) (entries_of layout.width y) ≡ t = ap (λ (l : Layout). shareb (entries_of l.width x) (entries_of
-          l.width y)) two ∙ sym et in
-          behind (at 0 w) (passes (verdict layout y) 1 (at 0 shared ∷ []) (at 0 w) (sym eu ∙ y0)
-          (ends w shared 0 (q ∙ sym (ap (λ (b : Bool). applies b 14) i)) (applies_small (shareb (entries_of layout.width x) (entries_of
-          layout.width y)) 14 (lit≤ tt))))
-
--- writing from the blocks x and y, whose first refusal is v: refused with it
+-- writing from the blocks x and y: refused with their first refusal
 abbrev pub written_from : Form → List ℕ → List ℕ → List ℕ
 written_from f x y = form_of new_mark f (held_in f.layout (each_of f x y))
 
 abbrev no_space_lem : Form → List ℕ → List ℕ → List ℕ → ℕ → List Finding
 no_space_lem f x y bytes p = at 0 (applies (no_space p (length (written_from f x y)) (length bytes)) 15) ∷ []
 
-pub blocks_refused : (f : Form) (x y bytes : List ℕ) (p : ℕ) (v : Finding) → FirstOf (block_refusals f (each_of f x y)) v → (v.number ≡ 0 → ⊥)
-    → (r : Refusal) → r ≡ refusal_of v.number v.place → outcome (written_says (written.Refused r)) (bytes ∷ []) ≡ write_call f (each_of f x y) bytes p
+pub blocks_refused : (f : Form) (x y bytes : List ℕ) (p : ℕ) (e : Refusal) → FirstOf (block_refusals f (each_of f x y)) (Err e)
+    → outcome (refusal_says e) (bytes ∷ []) ≡ write_call f (each_of f x y) bytes p
 unfolding write_call
-blocks_refused f x y bytes p v fv nz r q =
-    refusal_by (block_refusals f (each_of f x y) ++ no_space_lem f x y bytes p) v (stops_in (block_refusals f (each_of f x y)) (no_space_lem f x y bytes p) v fv nz)
-    (bytes ∷ []) (written_at p (written_from f x y) bytes) r nz q
+blocks_refused f x y bytes p e fe =
+    refused_by (stops_in (block_refusals f (each_of f x y)) (no_space_lem f x y bytes p) e fe) (bytes ∷ []) (written_at p (written_from f x y) bytes)
 
 -- or none of them is refused
-pub record Passed (f : Form) (x y : List ℕ) (v : Finding) : Type 0 where
+pub record Passed (f : Form) (x y : List ℕ) : Type 0 where
   pub kind : FormKind f
-  pub first : FirstOf (block_refusals f (each_of f x y)) v
-  pub clear : v.number ≡ 0
+  pub first : FirstOf (block_refusals f (each_of f x y)) (Ok tt)
 
-module _ {f : Form} {x y : List ℕ} {v : Finding} (h : Passed f x y v) where
+pub passed : (f : Form) (x y : List ℕ) → FormKind f → FirstOf (block_refusals f (each_of f x y)) (Ok tt) → Passed f x y
+passed f x y k h = record { kind = k; first = h }
+
+module _ {f : Form} {x y : List ℕ} (h : Passed f x y) where
   abbrev ws : List (List ℕ)
   ws = each_of f x y
 
@@ -216,7 +180,7 @@ module _ {f : Form} {x y : List ℕ} {v : Finding} (h : Passed f x y v) where
 
   judged : (verdict f.layout x ≡ 0) × ((f.runs ≡ 1 → ⊥) → verdict f.layout y ≡ 0)
   judged = each_verdict f.layout f.runs x y h.kind.shape (clear_split (inputs f.layout 0 ws) (overlap (held_in f.layout ws) ∷ [])
-      (h.first.clear h.clear)).0
+      h.first.clear).0
 
   pub first_sound : SoundBlock f.layout x
   first_sound = verdict_sound f.layout x judged.0
@@ -260,7 +224,7 @@ module _ {f : Form} {x y : List ℕ} {v : Finding} (h : Passed f x y v) where
     long : length g ≡ start_size f + item_size f * (n + m)
     long =
         let s = f.layout.width in
-        let c = (clear_split (inputs f.layout 0 ws) (overlap (held_in f.layout ws) ∷ []) (h.first.clear h.clear)).0 in
+        let c = (clear_split (inputs f.layout 0 ws) (overlap (held_in f.layout ws) ∷ []) h.first.clear).0 in
         size f h.kind new_mark (held_in f.layout ws) (many_held f.layout ws ∙ as_many f.runs f.layout x y h.kind.shape)
         (shapes s f.layout.limit (held_in f.layout ws) (held_fine f.layout h.kind.first.two 0 ws c))
         ∙ ap (λ (r : List (List Entry)). start_size f + item_size f * total (lengths r)) held_are
@@ -273,23 +237,22 @@ module _ {f : Form} {x y : List ℕ} {v : Finding} (h : Passed f x y v) where
       space_is : no_space p (length g) (length bytes) ≡ t
       space_is = ap (λ (i : ℕ). no_space p i (length bytes)) long ∙ sym et
 
-      all_passed : (u : ℕ) → u ≡ applies t 15 → FirstOf (block_refusals f ws ++ no_space_lem f x y bytes p) (at 0 u)
-      all_passed u e =
-          passes_in (block_refusals f ws) (no_space_lem f x y bytes p) v (at 0 u) h.first h.clear
-          (ends u (applies (no_space p (length g) (length bytes)) 15) 0 (e ∙ sym (ap (λ (i : Bool). applies i 15) space_is)) (applies_small (no_space p
-          (length g) (length bytes)) 15 (lit≤ tt)))
+      space_number : applies (no_space p (length g) (length bytes)) 15 ≡ applies t 15
+      space_number = ap (λ (i : Bool). applies i 15) space_is
 
-      pub space_refused : t ≡ true → (r : Refusal) → r ≡ refusal_of 15 0 → outcome (written_says (written.Refused r)) (bytes ∷ []) ≡ write_call f ws bytes p
+      all_passed : (u : Result (Unit {0}) Refusal) → FirstOf (no_space_lem f x y bytes p) u
+          → FirstOf (block_refusals f ws ++ no_space_lem f x y bytes p) u
+      all_passed u k = passes_in (block_refusals f ws) (no_space_lem f x y bytes p) tt u h.first k
+
+      pub space_refused : t ≡ true → outcome (refusal_says (at_place NoSpace 0)) (bytes ∷ []) ≡ write_call f ws bytes p
       unfolding write_call
-      space_refused z r q =
-          refusal_by (block_refusals f ws ++ no_space_lem f x y bytes p) (at 0 15) (all_passed 15 (rw z)) (bytes ∷ []) (written_at p g bytes) r (λ z. omega arith) q
+      space_refused z =
+          refused_by (all_passed (Err (at_place NoSpace 0)) (stops NoSpace (at_place NoSpace 0) (applies (no_space p (length g) (length bytes)) 15) 0 [] refl
+          (sym (space_number ∙ ap (λ (i : Bool). applies i 15) z)))) (bytes ∷ []) (written_at p g bytes)
 
       module _ (z : t ≡ false) where
         there : (p ≤ length bytes) × (start_size f + item_size f * (n + m) ≤ length bytes - p)
         there = space_clear p (start_size f + item_size f * (n + m)) (length bytes) (rw (sym et ∙ z))
-
-        pub place_there : p ≤ length bytes
-        place_there = there.0
 
         pub to_put : Puts f n m x y (take (length bytes - p) (drop p bytes))
         to_put = record {
@@ -302,11 +265,12 @@ module _ {f : Form} {x y : List ℕ} {v : Finding} (h : Passed f x y v) where
         }
 
         pub write_good : (o : List ℕ) → o ≡ over (form_of new_mark f held) (take (length bytes - p) (drop p bytes))
-            → outcome (written_says (written.Length (start_size f + item_size f * (n + m)))) (put_mid p (length bytes - p) bytes o ∷ [])
+            → outcome (given ((start_size f + item_size f * (n + m)) ∷ [])) (put_mid p (length bytes - p) bytes o ∷ [])
             ≡ write_call f ws bytes p
         unfolding write_call
         write_good o q =
-            given_by (block_refusals f ws ++ no_space_lem f x y bytes p) (at 0 0) (all_passed 0 (rw z)) (bytes ∷ []) (written_at p g bytes)
-            (outcome (given ((start_size f + item_size f * (n + m)) ∷ [])) (put_mid p (length bytes - p) bytes o ∷ [])) refl
+            given_by (all_passed (Ok tt) (ends (applies (no_space p (length g) (length bytes)) 15) 0
+            (space_number ∙ ap (λ (i : Bool). applies i 15) z))) (bytes ∷ [])
+            (outcome (given ((start_size f + item_size f * (n + m)) ∷ [])) (put_mid p (length bytes - p) bytes o ∷ [])) (written_at p g bytes)
             (ap₂ (λ (i : ℕ) (l : List ℕ). outcome (given (i ∷ [])) (l ∷ [])) (sym long)
             (mid_patch p g bytes o (q ∙ ap (λ (r : List (List Entry)). over (form_of new_mark f r) (take (length bytes - p) (drop p bytes))) (sym held_are))))

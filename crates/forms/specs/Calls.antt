@@ -1,18 +1,18 @@
 -- What the calls of this crate answer and leave.
-use Rattle.std.specs.Prelude.{ℕ, suc, ◌+◌, ◌-◌, Bool, true, List, [], ◌∷◌, ◌++◌, ltb, length, get_or}
+use Rattle.std.specs.Prelude.{ℕ, suc, ◌+◌, ◌-◌, Bool, true, List, [], ◌∷◌, ◌++◌, ltb, length, get_or, Result}
 use Rattle.entries.specs.Entries.{Entry}
 use Rattle.entries.specs.Build.{pick}
 use Rattle.entries.specs.Sets.{member}
 use Rattle.answers.specs.Answers.{Answer, given, refused, Outcome, outcome, truth, at, in_turn, applies}
-use Rattle.answers.specs.declared.Finding.{Finding}
+use Rattle.answers.specs.Answers.{Finding}
+use Rattle.answers.specs.Says.{says, one_value}
+use Rattle.answers.specs.declared.Refusal.{Refusal}
 use Rattle.blocks.specs.Blocks.{entries_of, block_of}
 use Rattle.blocks.specs.Calls.{input}
 use Rattle.blocks.specs.declared.Layout.{Layout}
 use Rattle.numbers.specs.Numbers.{patch}
 use Rattle.checks.specs.Check.{new_mark}
 use Rattle.verdicts.specs.declared.Form.{Form}
-use Rattle.forms.specs.declared.FormRead.{FormRead}
-use Rattle.forms.specs.declared.FormRead.TheVariants as read
 use Rattle.runs.specs.Runs.{lengths}
 use Rattle.verdicts.specs.Forms.{of_set, of_map, of_bulletin, of_signed, form_of, form_counts, form_entries, overlap, form_refusals, out_refusals}
 
@@ -93,9 +93,8 @@ abbrev pub judge_set_call : List ℕ → Outcome
 judge_set_call b = judge_call of_set b
 
 -- what judging the form of a set answers: its count, or a refusal
-abbrev pub form_says : FormRead → Answer
-form_says (read.Good n) = given (n ∷ [])
-form_says (read.Refused number place) = refused number place
+abbrev pub form_says : Result ℕ Refusal → Answer
+form_says = says one_value
 
 -- the set in a form: its first run
 abbrev pub first_of : List (List Entry) → List Entry

@@ -16,15 +16,8 @@ ghost use Rattle.forms.specs.Calls.{judge_set_call, form_says, member_of_form_ca
 ghost use Rattle.verdicts.specs.Steps.{FormKind, each_of, runs_here};
 ghost use Rattle.forms.specs.Steps.{Stores, Puts, count_held};
 
-use answers::{Finding, Judged, Written};
+use answers::{Reason, Refusal};
 use verdicts::Form;
-
-// What judging the form of a set answers: its count, or a refusal with its place.
-#[derive(Clone, Copy)]
-pub enum FormRead {
-    Good(usize),
-    Refused(u8, usize),
-}
 
 // Makes the outputs the blocks of the n and m items of a form that was judged good.
 fn store_runs(bytes: &[u8], form: Form, n: usize, m: usize, first: &mut [u64], second: &mut [u64])
@@ -43,28 +36,22 @@ fn store_runs(bytes: &[u8], form: Form, n: usize, m: usize, first: &mut [u64], s
 }
 
 // Reads a form into a block for each run: judges all of it, then fills. The second block is not touched where the form has one run.
-#[tactic(auto, using(verdicts::proofs::Whole::start_long, crate::proofs::Reading::bytes_refused, crate::proofs::Reading::Opened, crate::proofs::Reading::outs_refused, crate::proofs::Reading::to_store, crate::proofs::Reading::read_good))]
-fn read_form(bytes: &[u8], first: &mut [u64], second: &mut [u64], form: Form) -> Judged
+fn read_form(bytes: &[u8], first: &mut [u64], second: &mut [u64], form: Form) -> Result<(), Refusal>
     requires { FormKind form }
     ensures { outcome (judged_says result) (each_of form first.new second.new)
         ≡ read_call form bytes.now (each_of form first.old second.old) }
 {
-    let v = verdicts::judge_form(bytes, form);
-    if v.number != 0 {
-        return answers::judged_of(v.number, v.place);
-    }
-    let n = blocks::wide(numbers::get2(bytes, 3));
-    let m = blocks::wide(records::second_count(bytes, form.runs));
-    let u = verdicts::out_refusal(form, first.len(), n, second.len(), m);
-    if u.number != 0 {
-        return answers::judged_of(u.number, u.place);
-    }
+    verdicts::judge_form(bytes, form)?;
+    let n = numbers::get2(bytes, 3) as usize;
+    let m = records::second_count(bytes, form.runs) as usize;
+    verdicts::out_refusal(form, first.len(), n, second.len(), m)?;
     store_runs(bytes, form, n, m, first, second);
-    Judged::Accepted
+    Ok(())
 }
 
 // Reads the byte form of a set into a block. A refused call changes nothing.
-pub fn read_set(bytes: &[u8], out: &mut [u64]) -> Judged
+#[tactic(auto, using(verdicts::proofs::Whole::form_kinds))]
+pub fn read_set(bytes: &[u8], out: &mut [u64]) -> Result<(), Refusal>
     ensures { outcome (judged_says result) (out.new ∷ []) ≡ read_set_call bytes.now out.old }
 {
     let mut none = [0u64; 1];
@@ -72,7 +59,8 @@ pub fn read_set(bytes: &[u8], out: &mut [u64]) -> Judged
 }
 
 // Reads the byte form of a map into a block. A refused call changes nothing.
-pub fn read_map(bytes: &[u8], out: &mut [u64]) -> Judged
+#[tactic(auto, using(verdicts::proofs::Whole::form_kinds))]
+pub fn read_map(bytes: &[u8], out: &mut [u64]) -> Result<(), Refusal>
     ensures { outcome (judged_says result) (out.new ∷ []) ≡ read_map_call bytes.now out.old }
 {
     let mut none = [0u64; 1];
@@ -80,7 +68,8 @@ pub fn read_map(bytes: &[u8], out: &mut [u64]) -> Judged
 }
 
 // Reads the byte form of a signed set into a set block, as the words of its keys. A refused call changes nothing.
-pub fn read_signed(bytes: &[u8], out: &mut [u64]) -> Judged
+#[tactic(auto, using(verdicts::proofs::Whole::form_kinds))]
+pub fn read_signed(bytes: &[u8], out: &mut [u64]) -> Result<(), Refusal>
     ensures { outcome (judged_says result) (out.new ∷ []) ≡ read_signed_call bytes.now out.old }
 {
     let mut none = [0u64; 1];
@@ -88,48 +77,32 @@ pub fn read_signed(bytes: &[u8], out: &mut [u64]) -> Judged
 }
 
 // Reads the byte form of a bulletin into a block of released ranges and one of withdrawn ranges. A refused call changes neither.
-pub fn read_bulletin(bytes: &[u8], released: &mut [u64], withdrawn: &mut [u64]) -> Judged
+#[tactic(auto, using(verdicts::proofs::Whole::form_kinds))]
+pub fn read_bulletin(
+    bytes: &[u8],
+    released: &mut [u64],
+    withdrawn: &mut [u64],
+) -> Result<(), Refusal>
     ensures { outcome (judged_says result) (released.new ∷ withdrawn.new ∷ [])
         ≡ read_bulletin_call bytes.now released.old withdrawn.old }
 {
     read_form(bytes, released, withdrawn, verdicts::BULLETIN_FORM)
 }
 
-// The first refusal of the blocks that a form is written from, or number 0: 1, 2, 3 of each, then 14.
-fn block_refusal(first: &[u64], second: &[u64], form: Form) -> Finding
+// The blocks that a form is written from are sound and share no number; or their first refusal: 1, 2, 3 of each, then 14.
+fn block_refusal(first: &[u64], second: &[u64], form: Form) -> Result<(), Refusal>
     requires { FormKind form }
     ensures { FirstOf (block_refusals form (each_of form first.now second.now)) result }
 {
-    let v = blocks::judge(first, form.layout);
-    if v != 0 {
-        return Finding {
-            number: v,
-            place: 0,
-        };
-    }
+    blocks::judge(first, form.layout, 0)?;
     if form.runs == 1 {
-        return Finding {
-            number: 0,
-            place: 0,
-        };
+        return Ok(());
     }
-    let u = blocks::judge(second, form.layout);
-    if u != 0 {
-        return Finding {
-            number: u,
-            place: 1,
-        };
-    }
+    blocks::judge(second, form.layout, 1)?;
     if searches::share_number(first, second) {
-        return Finding {
-            number: 14,
-            place: 0,
-        };
+        return Err(Reason::Overlap.at(0));
     }
-    Finding {
-        number: 0,
-        place: 0,
-    }
+    Ok(())
 }
 
 // The count of the second block of a form, or 0 where the form has one run.
@@ -138,7 +111,7 @@ fn second_held(second: &[u64], runs: usize) -> usize
     ensures { result ≡ count_held runs second.now }
 {
     if 1 < runs {
-        return blocks::wide(blocks::word(second, 0));
+        return second[0] as usize;
     }
     0
 }
@@ -147,10 +120,7 @@ fn second_held(second: &[u64], runs: usize) -> usize
 fn no_space(p: usize, size: usize, len: usize) -> bool
     ensures { result ≡ no_space p size len }
 {
-    if len < p {
-        return true;
-    }
-    len - p < size
+    len < p || len - p < size
 }
 
 // Writes the form of the n and m items of the blocks, with the new mark, at the front of the bytes.
@@ -161,13 +131,7 @@ fn put_form(first: &[u64], n: usize, second: &[u64], m: usize, bytes: &mut [u8],
 {
     let s = form.layout.width;
     let from = 2 * form.runs + 5;
-    records::write_start(
-        bytes,
-        form.start,
-        form.runs,
-        blocks::narrow(n),
-        blocks::narrow(m),
-    );
+    records::write_start(bytes, form.start, form.runs, n as u64, m as u64);
     runs::write_run(&first[1..], s, n, form.first, &mut bytes[from..]);
     if form.runs == 1 {
         return;
@@ -177,34 +141,39 @@ fn put_form(first: &[u64], n: usize, second: &[u64], m: usize, bytes: &mut [u8],
 }
 
 // Writes a form, from a block for each run, into the bytes from place p on. A refused call changes nothing.
-fn write_form(first: &[u64], second: &[u64], bytes: &mut [u8], p: usize, form: Form) -> Written
+fn write_form(
+    first: &[u64],
+    second: &[u64],
+    bytes: &mut [u8],
+    p: usize,
+    form: Form,
+) -> Result<usize, Refusal>
     requires { FormKind form }
     ensures { outcome (written_says result) (bytes.new ∷ [])
         ≡ write_call form (each_of form first.now second.now) bytes.old p }
 {
-    let v = block_refusal(first, second, form);
-    if v.number != 0 {
-        return Written::Refused(answers::refusal_of(v.number, v.place));
-    }
-    let n = blocks::wide(blocks::word(first, 0));
+    block_refusal(first, second, form)?;
+    let n = first[0] as usize;
     let m = second_held(second, form.runs);
     let size = 2 * form.runs + 5 + (8 * form.layout.width + 5) * (n + m);
     if no_space(p, size, bytes.len()) {
-        return Written::Refused(answers::refusal_of(15, 0));
+        return Err(Reason::NoSpace.at(0));
     }
     put_form(first, n, second, m, &mut bytes[p..], form);
-    Written::Length(size)
+    Ok(size)
 }
 
 // Writes the byte form of a set into the bytes from place p on, and answers its length. A refused call changes nothing.
-pub fn write_set(block: &[u64], bytes: &mut [u8], p: usize) -> Written
+#[tactic(auto, using(verdicts::proofs::Whole::form_kinds))]
+pub fn write_set(block: &[u64], bytes: &mut [u8], p: usize) -> Result<usize, Refusal>
     ensures { outcome (written_says result) (bytes.new ∷ []) ≡ write_set_call block.now bytes.old p }
 {
     write_form(block, block, bytes, p, verdicts::SET_FORM)
 }
 
 // Writes the byte form of a map into the bytes from place p on, and answers its length. A refused call changes nothing.
-pub fn write_map(block: &[u64], bytes: &mut [u8], p: usize) -> Written
+#[tactic(auto, using(verdicts::proofs::Whole::form_kinds))]
+pub fn write_map(block: &[u64], bytes: &mut [u8], p: usize) -> Result<usize, Refusal>
     ensures { outcome (written_says result) (bytes.new ∷ []) ≡ write_map_call block.now bytes.old p }
 {
     write_form(block, block, bytes, p, verdicts::MAP_FORM)
@@ -212,14 +181,21 @@ pub fn write_map(block: &[u64], bytes: &mut [u8], p: usize) -> Written
 
 // Writes the byte form of a signed set, from a set block with the words of its keys, into the bytes from place p on, and answers its
 // length. A refused call changes nothing.
-pub fn write_signed(block: &[u64], bytes: &mut [u8], p: usize) -> Written
+#[tactic(auto, using(verdicts::proofs::Whole::form_kinds))]
+pub fn write_signed(block: &[u64], bytes: &mut [u8], p: usize) -> Result<usize, Refusal>
     ensures { outcome (written_says result) (bytes.new ∷ []) ≡ write_signed_call block.now bytes.old p }
 {
     write_form(block, block, bytes, p, verdicts::SIGNED_FORM)
 }
 
 // Writes the byte form of a bulletin into the bytes from place p on, and answers its length. A refused call changes nothing.
-pub fn write_bulletin(released: &[u64], withdrawn: &[u64], bytes: &mut [u8], p: usize) -> Written
+#[tactic(auto, using(verdicts::proofs::Whole::form_kinds))]
+pub fn write_bulletin(
+    released: &[u64],
+    withdrawn: &[u64],
+    bytes: &mut [u8],
+    p: usize,
+) -> Result<usize, Refusal>
     ensures { outcome (written_says result) (bytes.new ∷ [])
         ≡ write_bulletin_call released.now withdrawn.now bytes.old p }
 {
@@ -227,28 +203,23 @@ pub fn write_bulletin(released: &[u64], withdrawn: &[u64], bytes: &mut [u8], p: 
 }
 
 // Judges the bytes as the form of a set and stores nothing; answers the number of its ranges.
-pub fn judge_set(bytes: &[u8]) -> FormRead
+#[tactic(auto, using(verdicts::proofs::Whole::form_kinds))]
+pub fn judge_set(bytes: &[u8]) -> Result<usize, Refusal>
     ensures { outcome (form_says result) [] ≡ judge_set_call bytes.now }
 {
-    let v = verdicts::judge_form(bytes, verdicts::SET_FORM);
-    if v.number != 0 {
-        return FormRead::Refused(v.number, v.place);
-    }
-    FormRead::Good(blocks::wide(numbers::get2(bytes, 3)))
+    verdicts::judge_form(bytes, verdicts::SET_FORM)?;
+    Ok(numbers::get2(bytes, 3) as usize)
 }
 
 // Whether x is a member of the set whose byte form the bytes are: 1 member, 0 not, 16 plus the number of the refusal where they are
 // not the byte form of a set.
+#[tactic(auto, using(verdicts::proofs::Whole::form_kinds))]
 pub fn member(bytes: &[u8], x: u64) -> u64
     ensures { result ≡ member_of_form_call bytes.now x }
 {
-    let v = verdicts::judge_form(bytes, verdicts::SET_FORM);
-    if v.number != 0 {
-        return 16 + v.number as u64;
+    if let Err(f) = verdicts::judge_form(bytes, verdicts::SET_FORM) {
+        return 16 + u64::from(u8::from(f.reason));
     }
-    let n = blocks::wide(numbers::get2(bytes, 3));
-    if verdicts::holds(bytes, 0x10, 7, n, x) {
-        return 1;
-    }
-    0
+    let n = numbers::get2(bytes, 3) as usize;
+    u64::from(verdicts::holds(bytes, 0x10, 7, n, x))
 }

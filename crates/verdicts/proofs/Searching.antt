@@ -14,7 +14,7 @@ use Rattle.entries.proofs.Windows.{Passed}
 use Rattle.entries.proofs.Finding.{found_in, found_under, found_end}
 use Rattle.blocks.specs.Steps.{zero_item}
 use Rattle.numbers.specs.Numbers.{num8}
-use Rattle.searches.specs.Steps.{Rises, First}
+use Rattle.searches.specs.Steps.{Rises, Rising, First}
 use Rattle.searches.proofs.Finding.{highs_rise, also_rises, passed_among}
 use Rattle.searches.proofs.Walking.{view_at}
 use Rattle.runs.specs.Runs.{entries_in}
@@ -37,6 +37,9 @@ module _ {kind p n : ℕ} {b : List ℕ} (o : OneRun kind p n b) where
 
   pub ends_rise : Rises (high_in p b) n
   ends_rise = also_rises zero_item es n count (high_in p b) (λ e. e.high) high_at (highs_rise zero_item es o.sound)
+
+  pub rising : Rising (high_in p b) n
+  rising = record { rises = ends_rise }
 
   module _ {x i : ℕ} (f : First (high_in p b) n x i) where
     here : Passed zero_item es x i

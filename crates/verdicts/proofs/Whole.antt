@@ -73,6 +73,9 @@ bulletin_kind = record {
   plain = λ n. (λ x. refl, λ x. refl);
 }
 
+-- the kinds of the four forms
+pub ruleset form_kinds = (set_kind, map_kind, signed_kind, bulletin_kind)
+
 kinds_are : (r : ℕ) (l : Layout) (a b : ℕ) → Shape r l → ItemKind a l.width → ItemKind b l.width
     → Each (λ k. ItemKind k l.width) (take r (a ∷ b ∷ []))
 kinds_are r l a b lone i j = (i, tt)

@@ -5,7 +5,7 @@ use Rattle.entries.specs.Entries.{Each, Entry}
 use Rattle.entries.specs.Build.{pick}
 use Rattle.entries.specs.Bulletins.{shareb}
 use Rattle.answers.specs.Answers.{at, applies}
-use Rattle.answers.specs.declared.Finding.{Finding}
+use Rattle.answers.specs.Answers.{Finding}
 use Rattle.blocks.specs.Blocks.{set_layout, map_layout, capacity, words_of, Lent}
 use Rattle.blocks.specs.Calls.{output}
 use Rattle.blocks.specs.declared.Layout.{Layout}
@@ -93,11 +93,14 @@ abbrev pub no_blocks : ℕ → List ℕ → List Finding
 no_blocks position [] = []
 no_blocks position (l ∷ ls) = output position l ∷ no_blocks (suc position) ls
 
+abbrev pub no_room_at : Layout → ℕ → ℕ → ℕ → Finding
+no_room_at layout position l n = at position (applies (ltb (capacity layout l) n) 5)
+
 abbrev pub no_rooms : Layout → ℕ → List ℕ → List ℕ → List Finding
 no_rooms layout position [] counts = []
 no_rooms layout position (l ∷ ls) [] = []
 no_rooms layout position (l ∷ ls) (n ∷ counts) =
-    at position (applies (ltb (capacity layout l) n) 5) ∷ no_rooms layout (suc position) ls counts
+    no_room_at layout position l n ∷ no_rooms layout (suc position) ls counts
 
 abbrev pub out_refusals : Layout → List ℕ → List ℕ → List Finding
 out_refusals layout ls counts = no_blocks 0 ls ++ no_rooms layout 0 ls counts

@@ -2,20 +2,16 @@
 // outputs of a reading, and what can be asked of ranges in bytes.
 #![tactic(auto)]
 
-ghost use Rattle.std.specs.Prelude.{◌≡◌, ◌+◌, ◌*◌, ◌≤◌, ◌<◌, ltb, length, drop};
+ghost use Rattle.std.specs.Prelude.{◌≡◌, [], ◌∷◌, ◌+◌, ◌*◌, ◌≤◌, ◌<◌, length, drop};
 ghost use Rattle.entries.specs.Sets.{member};
 ghost use Rattle.entries.specs.Bulletins.{shareb};
-ghost use Rattle.answers.specs.Answers.{applies};
 ghost use Rattle.answers.specs.Steps.{FirstOf};
-ghost use Rattle.blocks.specs.Blocks.{capacity};
-ghost use Rattle.searches.specs.Steps.{Rises, First};
 ghost use Rattle.runs.specs.Runs.{entries_in};
-ghost use Rattle.verdicts.specs.Forms.{mark_of, start_size, form_refusals, out_refusals};
-ghost use Rattle.verdicts.specs.Steps.{FormKind, OneRun, high_in, each_of, behind_start};
+ghost use Rattle.verdicts.specs.Forms.{mark_of, start_size, form_refusals, no_room_at, out_refusals};
+ghost use Rattle.verdicts.specs.Steps.{FormKind, OneRun, each_of, behind_start};
 
-use answers::Finding;
+use answers::{Reason, Refusal};
 use blocks::Layout;
-use records::StartRead;
 
 // A form: the kind of its start, the kind of the items of its first run and of its second, how many runs it has, one or two, and the
 // layout of the block that holds a run. Its records bear either mark, all the same one.
@@ -75,168 +71,110 @@ fn share_records(
     requires { OneRun first p n bytes.now × OneRun second q m bytes.now }
     ensures { result ≡ shareb (entries_in first 2 n (drop p bytes.now)) (entries_in second 2 m (drop q bytes.now)) }
 {
-    let mut i = p;
-    let mut left = n;
-    let mut j = q;
-    let mut others = m;
-    while 0 < left {
-        if others == 0 {
-            return false;
+    let mut i: usize = 0;
+    let mut j: usize = 0;
+    while i < n && j < m {
+        let a = p + 21 * i;
+        let b = q + 21 * j;
+        if numbers::get8(bytes, a + 11) < numbers::get8(bytes, b + 3) {
+            i += 1;
+        } else if numbers::get8(bytes, b + 11) < numbers::get8(bytes, a + 3) {
+            j += 1;
+        } else {
+            return true;
         }
-        if numbers::get8(bytes, i + 11) < numbers::get8(bytes, j + 3) {
-            i += 21;
-            left -= 1;
-            continue;
-        }
-        if numbers::get8(bytes, j + 11) < numbers::get8(bytes, i + 3) {
-            j += 21;
-            others -= 1;
-            continue;
-        }
-        return true;
     }
     false
 }
 
 // The mark that a form's records have to bear: the old one where its first two bytes are that, else the new one.
+#[tactic(auto, using(crate::proofs::Two::is_old, crate::proofs::Two::is_new, crate::proofs::Two::too_short))]
 fn mark_of(bytes: &[u8]) -> u16
     ensures { result ≡ mark_of bytes.now }
 {
     if bytes.len() < 2 {
         return checks::NEW_MARK;
     }
-    if numbers::get2(bytes, 0) == numbers::wide2(checks::OLD_MARK) {
+    if numbers::get2(bytes, 0) == u64::from(checks::OLD_MARK) {
         return checks::OLD_MARK;
     }
     checks::NEW_MARK
 }
 
-// The first refusal behind the start of a form with this mark and these counts, or number 0.
-#[tactic(auto, using(crate::proofs::Two::first_bad, crate::proofs::Two::second_bad, crate::proofs::Two::trails, crate::proofs::Two::last_is, crate::proofs::Two::to_share, crate::proofs::Two::shared_is, crate::proofs::Two::one_run))]
-fn judge_runs(bytes: &[u8], mark: u16, form: Form, n: usize, m: usize) -> Finding
+// What is behind the start of a form with this mark and these counts is good; or its first refusal.
+fn judge_runs(bytes: &[u8], mark: u16, form: Form, n: usize, m: usize) -> Result<(), Refusal>
     requires { FormKind form × (start_size form ≤ length bytes.now) }
     ensures { FirstOf (behind_start mark form n m bytes.now) result }
 {
     let s = form.layout.width;
     let from = 2 * form.runs + 5;
-    let x = runs::judge_run(bytes, from, mark, form.first, s, n);
-    if x.number != 0 {
-        return x;
+    let second = runs::judge_run(bytes, from, mark, form.first, s, n)?;
+    let end = runs::judge_run(bytes, second, mark, form.second, s, m)?;
+    if end < bytes.len() {
+        return Err(Reason::Trailing.at(end));
     }
-    let y = runs::judge_run(bytes, x.place, mark, form.second, s, m);
-    if y.number != 0 {
-        return y;
+    if form.runs == 2 && share_records(bytes, form.first, from, n, form.second, second, m) {
+        return Err(Reason::Overlap.at(0));
     }
-    if y.place < bytes.len() {
-        return Finding {
-            number: 13,
-            place: y.place,
-        };
-    }
-    if form.runs == 1 {
-        return Finding {
-            number: 0,
-            place: 0,
-        };
-    }
-    if share_records(bytes, form.first, from, n, form.second, x.place, m) {
-        return Finding {
-            number: 14,
-            place: 0,
-        };
-    }
-    Finding {
-        number: 0,
-        place: 0,
-    }
+    Ok(())
 }
 
-// The first refusal of the bytes as a whole form, or number 0. The mark of the first record is that of all.
-pub fn judge_form(bytes: &[u8], form: Form) -> Finding
+// The bytes are a whole form; or their first refusal. The mark of the first record is that of all.
+pub fn judge_form(bytes: &[u8], form: Form) -> Result<(), Refusal>
     requires { FormKind form }
     ensures { FirstOf (form_refusals form bytes.now) result }
 {
     let mark = mark_of(bytes);
-    let a = records::read_start(bytes, mark, form.start, form.runs, form.layout.limit);
-    let StartRead::Good(n, m) = a else {
-        return Finding {
-            number: records::start_number(a),
-            place: 0,
-        };
+    let read = records::read_start(bytes, mark, form.start, form.runs, form.layout.limit);
+    let Ok((n, m)) = read else {
+        return Err(read.unwrap_err().at(0));
     };
     judge_runs(bytes, mark, form, n, m)
 }
 
-// 5 where a block of len words has no room for n items, else 0.
-fn room_number(layout: Layout, len: usize, n: usize) -> u8
+// A block of len words at a position has room for n items; or the refusal that it has not.
+#[tactic(auto, using(crate::proofs::Rooms::room_left, crate::proofs::Rooms::no_room_left))]
+fn judge_room(layout: Layout, len: usize, n: usize, position: usize) -> Result<(), Refusal>
     requires { (2 ≤ layout.width) × (0 < len) }
-    ensures { result ≡ applies (ltb (capacity layout len) n) 5 }
+    ensures { FirstOf (no_room_at layout position len n ∷ []) result }
 {
     if blocks::room_for(layout, len) < n {
-        return 5;
+        return Err(Reason::Room.at(position));
     }
-    0
+    Ok(())
 }
 
-// The first refusal of outputs of these lengths for n and m items, or number 0: 1 for each, then 5 for each.
-pub fn out_refusal(form: Form, first: usize, n: usize, second: usize, m: usize) -> Finding
+// Outputs of these lengths hold n and m items; or their first refusal: 1 for each, then 5 for each.
+pub fn out_refusal(
+    form: Form,
+    first: usize,
+    n: usize,
+    second: usize,
+    m: usize,
+) -> Result<(), Refusal>
     requires { FormKind form }
     ensures { FirstOf (out_refusals form.layout (each_of form first second) (each_of form n m)) result }
 {
     if first == 0 {
-        return Finding {
-            number: 1,
-            place: 0,
-        };
+        return Err(Reason::NoBlock.at(0));
     }
     if form.runs == 1 {
-        return Finding {
-            number: room_number(form.layout, first, n),
-            place: 0,
-        };
+        return judge_room(form.layout, first, n, 0);
     }
     if second == 0 {
-        return Finding {
-            number: 1,
-            place: 1,
-        };
+        return Err(Reason::NoBlock.at(1));
     }
-    let v = room_number(form.layout, first, n);
-    if v != 0 {
-        return Finding {
-            number: v,
-            place: 0,
-        };
-    }
-    Finding {
-        number: room_number(form.layout, second, m),
-        place: 1,
-    }
+    judge_room(form.layout, first, n, 0)?;
+    judge_room(form.layout, second, m, 1)
 }
 
-// [L1] The first of n ranges, in records from place `from` on, whose high is at least x, or n. These highs do not fall, and it is
-// found by halving, as in a block.
-fn first_ending(bytes: &[u8], from: usize, n: usize, x: u64) -> usize
-    requires { (from + 21 * n ≤ length bytes.now) × Rises (high_in from bytes.now) n }
-    ensures { First (high_in from bytes.now) n x result }
-{
-    let mut low: usize = 0;
-    let mut high = n;
-    while low < high {
-        let middle = low + (high - low) / 2;
-        let under = numbers::get8(bytes, from + 21 * middle + 11) < x;
-        low = blocks::chosen(under, middle + 1, low);
-        high = blocks::chosen(under, high, middle);
-    }
-    low
-}
-
-// Whether x is in one of the n sound ranges whose records begin at place `from`, of a kind that holds words as they are.
+// [L1] Whether x is in one of the n sound ranges whose records begin at place `from`, of a kind that holds words as they are.
+#[tactic(auto, using(crate::proofs::Searching::ends_rise, crate::proofs::Searching::none_holds, crate::proofs::Searching::next_holds))]
 pub fn holds(bytes: &[u8], kind: u8, from: usize, n: usize, x: u64) -> bool
     requires { OneRun kind from n bytes.now }
     ensures { result ≡ member (entries_in kind 2 n (drop from bytes.now)) x }
 {
-    let i = first_ending(bytes, from, n, x);
+    let i = searches::first_reaching(n, x, |k| numbers::get8(bytes, from + 21 * k + 11));
     if n <= i {
         return false;
     }

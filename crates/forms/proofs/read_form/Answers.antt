@@ -1,44 +1,34 @@
 -- The bytes are judged good, and then the outputs: what was opened is stored, or the outputs' refusal is told.
-use mathlib.Core.Path.{◌∙◌}
-use native.Mathlib.Omega.{arith}
-use Rattle.forms.proofs.Reading.{Opened, outs_refused, to_store, read_good}
+use Rattle.std.proofs.Common.{refl, arith}
+use Rattle.answers.specs.Says.{no_values}
+use Rattle.verdicts.proofs.Whole.{start_long}
+use Rattle.forms.proofs.Reading.{says_failed, bytes_refused, opened, outs_refused, to_store, read_good}
 use Rattle.forms.proofs.read_form.Goals as goal
 
-pub returns-then-u-ne0 : goal.returns-then-u-ne0
-returns-then-u-ne0 c =
-    let j : Opened c.args.form c.args.bytes.now c.args.first.now c.args.second.now c.judge_form-v.result c.wide-n.result c.wide-m.result
-    c.out_refusal-u.result = record {
-      kind = c.requires;
-      bytes = c.judge_form-v.ensures;
-      clear = c.if-v-ne0.false;
-      count = c.wide-n.ensures ∙ c.get2.ensures.0;
-      count_too = c.wide-m.ensures ∙ c.second_count.ensures.0;
-      outs = c.out_refusal-u.ensures;
-    } in
-    outs_refused j c.if-u-ne0.true _ c.judged_of-then-u-ne0.ensures
+pub returns-in_err-judge_form : goal.returns-in_err-judge_form
+returns-in_err-judge_form c =
+    says_failed no_values _ _ _ _ c.from_residual.ensures.1 (bytes_refused c.args.form c.args.bytes.now _ _ _ c.in_err-judge_form.ensures)
+
+pub get2-n-requires : goal.get2-n-requires
+get2-n-requires c = omega (arith, start_long c.args.form c.requires c.args.bytes.now c.in_ok-judge_form.ensures.clear)
+
+pub second_count-m-requires : goal.second_count-m-requires
+second_count-m-requires c = omega (arith, start_long c.args.form c.requires c.args.bytes.now c.in_ok-judge_form.ensures.clear)
+
+pub returns-in_err-out_refusal : goal.returns-in_err-out_refusal
+returns-in_err-out_refusal c =
+    let j = opened c.args.form c.args.bytes.now c.args.first.now c.args.second.now _ _ _ _ c.requires c.in_ok-judge_form.ensures refl
+    c.get2-n.ensures.0 refl c.second_count-m.ensures.0 in
+    says_failed no_values _ _ _ _ c.from_residual-in_err-out_refusal.ensures.1 (outs_refused j _ c.in_err-out_refusal.ensures)
 
 pub store_runs-requires : goal.store_runs-requires
 store_runs-requires c =
-    let j : Opened c.args.form c.args.bytes.now c.args.first.now c.args.second.now c.judge_form-v.result c.wide-n.result c.wide-m.result
-    c.out_refusal-u.result = record {
-      kind = c.requires;
-      bytes = c.judge_form-v.ensures;
-      clear = c.if-v-ne0.false;
-      count = c.wide-n.ensures ∙ c.get2.ensures.0;
-      count_too = c.wide-m.ensures ∙ c.second_count.ensures.0;
-      outs = c.out_refusal-u.ensures;
-    } in
-    to_store j c.if-u-ne0.false (λ i. omega (arith, c.type_inv.bytes i))
+    let j = opened c.args.form c.args.bytes.now c.args.first.now c.args.second.now _ _ _ _ c.requires c.in_ok-judge_form.ensures refl
+    c.get2-n.ensures.0 refl c.second_count-m.ensures.0 in
+    to_store j c.in_ok-out_refusal.ensures (λ i. (c.type_inv.bytes i).fits)
 
 pub returns : goal.returns
 returns c =
-    let j : Opened c.args.form c.args.bytes.now c.args.first.now c.args.second.now c.judge_form-v.result c.wide-n.result c.wide-m.result
-    c.out_refusal-u.result = record {
-      kind = c.requires;
-      bytes = c.judge_form-v.ensures;
-      clear = c.if-v-ne0.false;
-      count = c.wide-n.ensures ∙ c.get2.ensures.0;
-      count_too = c.wide-m.ensures ∙ c.second_count.ensures.0;
-      outs = c.out_refusal-u.ensures;
-    } in
-    read_good j c.if-u-ne0.false _ _ c.store_runs.ensures
+    let j = opened c.args.form c.args.bytes.now c.args.first.now c.args.second.now _ _ _ _ c.requires c.in_ok-judge_form.ensures refl
+    c.get2-n.ensures.0 refl c.second_count-m.ensures.0 in
+    read_good j c.in_ok-out_refusal.ensures _ _ c.store_runs.ensures

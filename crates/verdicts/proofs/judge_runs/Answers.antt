@@ -1,58 +1,43 @@
-use mathlib.Core.Path.{sym, ap, ◌∙◌}
-use Rattle.answers.specs.Answers.{applies}
-use mathlib.Core.Bool.{Bool, true, false}
-use Rattle.verdicts.proofs.Two.{first_bad, second_bad, trails, last_is, to_share, shared_is, one_run}
-use native.Mathlib.Omega.{arith}
-use borrow.Author.Rules.{rules}
+use Rattle.verdicts.proofs.Two.{failed, first_bad, second_bad, trails, lone_run, to_share, overlapping, all_apart}
+use Rattle.verdicts.proofs.judge_runs.Goals.{else-form-eq2-via-then-form-eq2+else-share_records, else-form-eq2-via-else-form-eq2}
 use Rattle.verdicts.proofs.judge_runs.Goals as goal
 
-pub returns-then-x-ne0 : goal.returns-then-x-ne0
-returns-then-x-ne0 c =
+pub returns-in_err-second : goal.returns-in_err-second
+returns-in_err-second c =
     let a = c.args in
-    first_bad _ a.form a.n a.m a.bytes.now _ c.judge_run-x.ensures c.if-x-ne0.true
+    failed _ _ _ c.from_residual.ensures.1 (first_bad a.mark a.form a.n a.m a.bytes.now _ c.in_err-second.ensures)
 
-pub returns-then-y-ne0 : goal.returns-then-y-ne0
-returns-then-y-ne0 c =
+pub returns-in_err-end : goal.returns-in_err-end
+returns-in_err-end c =
     let a = c.args in
-    second_bad _ a.form a.n a.m a.bytes.now _ c.judge_run-x.ensures c.if-x-ne0.false _
-    c.judge_run-y.ensures c.if-y-ne0.true
+    failed _ _ _ c.from_residual-in_err-end.ensures.1
+    (second_bad a.mark a.form a.n a.m a.bytes.now _ c.in_ok-second.ensures _ c.in_err-end.ensures)
 
-pub returns-then-y-bytes : goal.returns-then-y-bytes
-returns-then-y-bytes c =
+pub returns-then-end-bytes : goal.returns-then-end-bytes
+returns-then-end-bytes c =
     let a = c.args in
-    trails _ a.form a.n a.m a.bytes.now _ c.judge_run-x.ensures c.if-x-ne0.false _ c.judge_run-y.ensures
-    c.if-y-ne0.false c.if-y-bytes.true
-
-pub returns-then-form-eq1 : goal.returns-then-form-eq1
-returns-then-form-eq1 c =
-    let a = c.args in
-    last_is _ a.form a.n a.m a.bytes.now _ c.judge_run-x.ensures c.if-x-ne0.false _ c.judge_run-y.ensures
-    c.if-y-ne0.false (omega arith) 0
-    (sym (ap (λ (t : Bool). applies t 14) (one_run a.form.runs _ _ c.if-form-eq1.true)))
+    rw c.at.ensures (trails a.mark a.form a.n a.m a.bytes.now _ c.in_ok-second.ensures _ c.in_ok-end.ensures c.if-end-bytes.true)
 
 pub share_records-requires : goal.share_records-requires
 share_records-requires c =
     let a = c.args in
-    to_share _ a.form a.n a.m a.bytes.now _ c.judge_run-x.ensures c.if-x-ne0.false _ c.judge_run-y.ensures
-    c.if-y-ne0.false
-    c.requires.0 (λ i. omega (arith, c.shared_slice_known-1.given i)) c.if-form-eq1.false
+    to_share a.mark a.form a.n a.m a.bytes.now _ c.in_ok-second.ensures _ c.in_ok-end.ensures c.requires.0 (λ i. (c.type_inv.bytes i).fits)
+    c.if-form-eq2.true
 
 pub returns-then-share_records : goal.returns-then-share_records
 returns-then-share_records c =
     let a = c.args in
-    last_is _ a.form a.n a.m a.bytes.now _ c.judge_run-x.ensures c.if-x-ne0.false _ c.judge_run-y.ensures
-    c.if-y-ne0.false (omega arith) 14
-    (sym (ap (λ (t : Bool). applies t 14) (shared_is _ a.form a.n a.m a.bytes.now _ c.judge_run-x.ensures c.if-x-ne0.false _
-    c.judge_run-y.ensures
-    c.if-y-ne0.false c.requires.0 c.if-form-eq1.false true (sym
-    c.if-share_records.true ∙ c.share_records.ensures))))
+    rw c.at-then-share_records.ensures
+    (overlapping a.mark a.form a.n a.m a.bytes.now _ c.in_ok-second.ensures _ c.in_ok-end.ensures c.if-end-bytes.false c.requires.0 c.if-form-eq2.true _
+    c.share_records.ensures c.if-share_records.true)
 
 pub returns : goal.returns
 returns c =
     let a = c.args in
-    last_is _ a.form a.n a.m a.bytes.now _ c.judge_run-x.ensures c.if-x-ne0.false _ c.judge_run-y.ensures
-    c.if-y-ne0.false (omega arith) 0
-    (sym (ap (λ (t : Bool). applies t 14) (shared_is _ a.form a.n a.m a.bytes.now _ c.judge_run-x.ensures c.if-x-ne0.false _
-    c.judge_run-y.ensures
-    c.if-y-ne0.false c.requires.0 c.if-form-eq1.false false (sym
-    c.if-share_records.false ∙ c.share_records.ensures))))
+    elim c.else-form-eq2.branch [
+      | else-form-eq2-via-then-form-eq2+else-share_records w ↦
+          all_apart a.mark a.form a.n a.m a.bytes.now _ c.in_ok-second.ensures _ c.in_ok-end.ensures c.if-end-bytes.false c.requires.0 w.if-form-eq2.true _
+          w.share_records.ensures w.if-share_records.false
+      | else-form-eq2-via-else-form-eq2 w ↦
+          lone_run a.mark a.form a.n a.m a.bytes.now _ c.in_ok-second.ensures _ c.in_ok-end.ensures c.if-end-bytes.false c.requires.0 w.if-form-eq2.false
+    ]
