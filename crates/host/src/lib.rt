@@ -19,7 +19,6 @@ ghost use Rattle.answers.specs.Says.{apart_says};
 ghost use Rattle.keys.specs.Keys.{word_of, key_of, apart_of};
 ghost use Rattle.told.specs.Told.{told, reply, in_c, Tells, TellsKeys};
 
-use forms::FormRead;
 use told::Told;
 
 // Makes the block the empty set, or the empty map, whatever stood in it.
@@ -27,7 +26,7 @@ use told::Told;
 pub extern "C" fn wimblorque_set_make_empty(block: &mut [u64]) -> Told
     ensures { Tells result (block.new ∷ []) (make_empty_call block.old) }
 {
-    told::tell_judged(sets::make_empty(block))
+    told::tell(sets::make_empty(block))
 }
 
 // [W4] Is x a member? Two values: 1 or 0, and how many ranges lie wholly below x.
@@ -35,7 +34,7 @@ pub extern "C" fn wimblorque_set_make_empty(block: &mut [u64]) -> Told
 pub extern "C" fn wimblorque_set_member(block: &[u64], x: u64) -> Told
     ensures { Tells result [] (member_call block.now x) }
 {
-    told::tell_seated(sets::member(block, x))
+    told::tell(sets::member(block, x))
 }
 
 // The low and the high of the range at index i, or no values.
@@ -43,7 +42,7 @@ pub extern "C" fn wimblorque_set_member(block: &[u64], x: u64) -> Told
 pub extern "C" fn wimblorque_set_range_at(block: &[u64], i: u64) -> Told
     ensures { Tells result [] (range_at_call block.now i) }
 {
-    told::tell_ranged(sets::range_at(block, i))
+    told::tell(sets::range_at(block, i))
 }
 
 // The number of members less one, or no value for the empty set.
@@ -51,7 +50,7 @@ pub extern "C" fn wimblorque_set_range_at(block: &[u64], i: u64) -> Told
 pub extern "C" fn wimblorque_set_size(block: &[u64]) -> Told
     ensures { Tells result [] (size_call block.now) }
 {
-    told::tell_sized(sets::size(block))
+    told::tell(sets::size(block))
 }
 
 // The least member at or above x, or no value.
@@ -59,7 +58,7 @@ pub extern "C" fn wimblorque_set_size(block: &[u64]) -> Told
 pub extern "C" fn wimblorque_set_least_member(block: &[u64], x: u64) -> Told
     ensures { Tells result [] (least_member_call block.now x) }
 {
-    told::tell_found(sets::least_member(block, x))
+    told::tell(sets::least_member(block, x))
 }
 
 // The least number at or above x that is not a member, or no value.
@@ -67,7 +66,7 @@ pub extern "C" fn wimblorque_set_least_member(block: &[u64], x: u64) -> Told
 pub extern "C" fn wimblorque_set_least_non_member(block: &[u64], x: u64) -> Told
     ensures { Tells result [] (least_non_member_call block.now x) }
 {
-    told::tell_found(sets::least_non_member(block, x))
+    told::tell(sets::least_non_member(block, x))
 }
 
 // The part of the block with the ranges that share a number with a..b: its offset and its length, or no values where there are none.
@@ -75,7 +74,7 @@ pub extern "C" fn wimblorque_set_least_non_member(block: &[u64], x: u64) -> Told
 pub extern "C" fn wimblorque_set_window(block: &[u64], a: u64, b: u64) -> Told
     ensures { Tells result [] (set_window_at_call block.now a b) }
 {
-    told::tell_parted(sets::window_at(block, a, b))
+    told::tell(sets::window_at(block, a, b))
 }
 
 // Makes every number of a..b a member.
@@ -83,7 +82,7 @@ pub extern "C" fn wimblorque_set_window(block: &[u64], a: u64, b: u64) -> Told
 pub extern "C" fn wimblorque_set_insert(block: &mut [u64], a: u64, b: u64) -> Told
     ensures { Tells result (block.new ∷ []) (insert_call block.old a b) }
 {
-    told::tell_judged(sets::insert(block, a, b))
+    told::tell(sets::insert(block, a, b))
 }
 
 // Makes no number of a..b a member.
@@ -91,7 +90,7 @@ pub extern "C" fn wimblorque_set_insert(block: &mut [u64], a: u64, b: u64) -> To
 pub extern "C" fn wimblorque_set_remove(block: &mut [u64], a: u64, b: u64) -> Told
     ensures { Tells result (block.new ∷ []) (remove_call block.old a b) }
 {
-    told::tell_judged(sets::remove(block, a, b))
+    told::tell(sets::remove(block, a, b))
 }
 
 // Have the two sets the same members? One value, 1 or 0.
@@ -99,7 +98,7 @@ pub extern "C" fn wimblorque_set_remove(block: &mut [u64], a: u64, b: u64) -> To
 pub extern "C" fn wimblorque_set_equal(one: &[u64], two: &[u64]) -> Told
     ensures { Tells result [] (equal_call one.now two.now) }
 {
-    told::tell_truth(sets::equal(one, two))
+    told::tell(sets::equal(one, two))
 }
 
 // Is every member of the first one of the second? One value, 1 or 0.
@@ -107,7 +106,7 @@ pub extern "C" fn wimblorque_set_equal(one: &[u64], two: &[u64]) -> Told
 pub extern "C" fn wimblorque_set_within(one: &[u64], two: &[u64]) -> Told
     ensures { Tells result [] (within_call one.now two.now) }
 {
-    told::tell_truth(sets::within(one, two))
+    told::tell(sets::within(one, two))
 }
 
 // Have the two sets no number in common? One value, 1 or 0.
@@ -115,7 +114,7 @@ pub extern "C" fn wimblorque_set_within(one: &[u64], two: &[u64]) -> Told
 pub extern "C" fn wimblorque_set_disjoint(one: &[u64], two: &[u64]) -> Told
     ensures { Tells result [] (disjoint_call one.now two.now) }
 {
-    told::tell_truth(sets::disjoint(one, two))
+    told::tell(sets::disjoint(one, two))
 }
 
 // The numbers of either set, into out.
@@ -123,7 +122,7 @@ pub extern "C" fn wimblorque_set_disjoint(one: &[u64], two: &[u64]) -> Told
 pub extern "C" fn wimblorque_set_union(one: &[u64], two: &[u64], out: &mut [u64]) -> Told
     ensures { Tells result (out.new ∷ []) (union_call one.now two.now out.old) }
 {
-    told::tell_judged(sets::union(one, two, out))
+    told::tell(sets::union(one, two, out))
 }
 
 // The numbers of both sets, into out.
@@ -131,7 +130,7 @@ pub extern "C" fn wimblorque_set_union(one: &[u64], two: &[u64], out: &mut [u64]
 pub extern "C" fn wimblorque_set_intersection(one: &[u64], two: &[u64], out: &mut [u64]) -> Told
     ensures { Tells result (out.new ∷ []) (intersection_call one.now two.now out.old) }
 {
-    told::tell_judged(sets::intersection(one, two, out))
+    told::tell(sets::intersection(one, two, out))
 }
 
 // The numbers of the first set that are not in the second, into out.
@@ -139,7 +138,7 @@ pub extern "C" fn wimblorque_set_intersection(one: &[u64], two: &[u64], out: &mu
 pub extern "C" fn wimblorque_set_difference(one: &[u64], two: &[u64], out: &mut [u64]) -> Told
     ensures { Tells result (out.new ∷ []) (difference_call one.now two.now out.old) }
 {
-    told::tell_judged(sets::difference(one, two, out))
+    told::tell(sets::difference(one, two, out))
 }
 
 // The numbers of exactly one of the sets, into out.
@@ -151,7 +150,7 @@ pub extern "C" fn wimblorque_set_symmetric_difference(
 ) -> Told
     ensures { Tells result (out.new ∷ []) (symmetric_difference_call one.now two.now out.old) }
 {
-    told::tell_judged(sets::symmetric_difference(one, two, out))
+    told::tell(sets::symmetric_difference(one, two, out))
 }
 
 // The numbers from 0 to 2^64 - 1 that are not in the set, into out.
@@ -159,7 +158,7 @@ pub extern "C" fn wimblorque_set_symmetric_difference(
 pub extern "C" fn wimblorque_set_complement(set: &[u64], out: &mut [u64]) -> Told
     ensures { Tells result (out.new ∷ []) (complement_call set.now out.old) }
 {
-    told::tell_judged(sets::complement(set, out))
+    told::tell(sets::complement(set, out))
 }
 
 // The fewest prefix blocks that name exactly the numbers of the set, in rising order, into out as pairs (start, e).
@@ -167,7 +166,7 @@ pub extern "C" fn wimblorque_set_complement(set: &[u64], out: &mut [u64]) -> Tol
 pub extern "C" fn wimblorque_set_prefix_blocks(set: &[u64], out: &mut [u64]) -> Told
     ensures { Tells result (out.new ∷ []) (prefix_call set.now out.old) }
 {
-    told::tell_judged(prefixes::prefix_blocks(set, out))
+    told::tell(prefixes::prefix_blocks(set, out))
 }
 
 // The same prefix blocks by the plain method for audit, from the whole line on, into out.
@@ -175,7 +174,7 @@ pub extern "C" fn wimblorque_set_prefix_blocks(set: &[u64], out: &mut [u64]) -> 
 pub extern "C" fn wimblorque_set_audit_blocks(set: &[u64], out: &mut [u64]) -> Told
     ensures { Tells result (out.new ∷ []) (audit_call set.now out.old) }
 {
-    told::tell_judged(prefixes::audit_blocks(set, out))
+    told::tell(prefixes::audit_blocks(set, out))
 }
 
 // The least start of k numbers of the window a..b that are all free.
@@ -183,7 +182,7 @@ pub extern "C" fn wimblorque_set_audit_blocks(set: &[u64], out: &mut [u64]) -> T
 pub extern "C" fn wimblorque_set_first_fit(block: &[u64], a: u64, b: u64, k: u64) -> Told
     ensures { Tells result [] (first_fit_call block.now a b k) }
 {
-    told::tell_placed(fits::first_fit(block, a, b, k))
+    told::tell(fits::first_fit(block, a, b, k))
 }
 
 // The low end of the shortest gap of the window a..b with at least k numbers, the lowest such gap on a tie.
@@ -191,7 +190,7 @@ pub extern "C" fn wimblorque_set_first_fit(block: &[u64], a: u64, b: u64, k: u64
 pub extern "C" fn wimblorque_set_best_fit(block: &[u64], a: u64, b: u64, k: u64) -> Told
     ensures { Tells result [] (best_fit_call block.now a b k) }
 {
-    told::tell_placed(fits::best_fit(block, a, b, k))
+    told::tell(fits::best_fit(block, a, b, k))
 }
 
 // Makes the k numbers from the first fit on members, and answers it.
@@ -199,7 +198,7 @@ pub extern "C" fn wimblorque_set_best_fit(block: &[u64], a: u64, b: u64, k: u64)
 pub extern "C" fn wimblorque_set_reserve_first(block: &mut [u64], a: u64, b: u64, k: u64) -> Told
     ensures { Tells result (block.new ∷ []) (reserve_first_call block.old a b k) }
 {
-    told::tell_placed(fits::reserve_first(block, a, b, k))
+    told::tell(fits::reserve_first(block, a, b, k))
 }
 
 // Makes the k numbers from the best fit on members, and answers it.
@@ -207,7 +206,7 @@ pub extern "C" fn wimblorque_set_reserve_first(block: &mut [u64], a: u64, b: u64
 pub extern "C" fn wimblorque_set_reserve_best(block: &mut [u64], a: u64, b: u64, k: u64) -> Told
     ensures { Tells result (block.new ∷ []) (reserve_best_call block.old a b k) }
 {
-    told::tell_placed(fits::reserve_best(block, a, b, k))
+    told::tell(fits::reserve_best(block, a, b, k))
 }
 
 // The least multiple of 2^j from which k numbers of the window a..b are all free. A j above 63 is refused.
@@ -221,7 +220,7 @@ pub extern "C" fn wimblorque_set_first_fit_aligned(
 ) -> Told
     ensures { Tells result [] (first_fit_aligned_call block.now a b k j) }
 {
-    told::tell_placed(fits::first_fit_aligned(block, a, b, k, j))
+    told::tell(fits::first_fit_aligned(block, a, b, k, j))
 }
 
 // The least multiple of 2^j in the shortest gap of the window a..b that holds k numbers from a multiple of 2^j on, the lowest such gap on a
@@ -236,7 +235,7 @@ pub extern "C" fn wimblorque_set_best_fit_aligned(
 ) -> Told
     ensures { Tells result [] (best_fit_aligned_call block.now a b k j) }
 {
-    told::tell_placed(fits::best_fit_aligned(block, a, b, k, j))
+    told::tell(fits::best_fit_aligned(block, a, b, k, j))
 }
 
 // Makes the k numbers from the aligned first fit on members, and answers it.
@@ -250,7 +249,7 @@ pub extern "C" fn wimblorque_set_reserve_first_aligned(
 ) -> Told
     ensures { Tells result (block.new ∷ []) (reserve_first_aligned_call block.old a b k j) }
 {
-    told::tell_placed(fits::reserve_first_aligned(block, a, b, k, j))
+    told::tell(fits::reserve_first_aligned(block, a, b, k, j))
 }
 
 // Makes the k numbers from the aligned best fit on members, and answers it.
@@ -264,7 +263,7 @@ pub extern "C" fn wimblorque_set_reserve_best_aligned(
 ) -> Told
     ensures { Tells result (block.new ∷ []) (reserve_best_aligned_call block.old a b k j) }
 {
-    told::tell_placed(fits::reserve_best_aligned(block, a, b, k, j))
+    told::tell(fits::reserve_best_aligned(block, a, b, k, j))
 }
 
 // [W4] Is the key x a member? Two values: 1 or 0, and how many ranges lie wholly below x.
@@ -272,7 +271,7 @@ pub extern "C" fn wimblorque_set_reserve_best_aligned(
 pub extern "C" fn wimblorque_signed_member(block: &[u64], x: i64) -> Told
     ensures { Tells result [] (member_call block.now (word_of x)) }
 {
-    told::tell_seated(signed::member(block, x))
+    told::tell(signed::member(block, x))
 }
 
 // The low and the high key of the range at index i, or no values.
@@ -280,7 +279,7 @@ pub extern "C" fn wimblorque_signed_member(block: &[u64], x: i64) -> Told
 pub extern "C" fn wimblorque_signed_range_at(block: &[u64], i: u64) -> Told
     ensures { TellsKeys result [] (range_at_call block.now i) }
 {
-    told::tell_ranged_keys(signed::range_at(block, i))
+    told::tell(signed::range_at(block, i))
 }
 
 // The least member at or above the key x, or no value.
@@ -288,7 +287,7 @@ pub extern "C" fn wimblorque_signed_range_at(block: &[u64], i: u64) -> Told
 pub extern "C" fn wimblorque_signed_least_member(block: &[u64], x: i64) -> Told
     ensures { TellsKeys result [] (least_member_call block.now (word_of x)) }
 {
-    told::tell_found_key(signed::least_member(block, x))
+    told::tell(signed::least_member(block, x))
 }
 
 // The least key at or above x that is not a member, or no value.
@@ -296,7 +295,7 @@ pub extern "C" fn wimblorque_signed_least_member(block: &[u64], x: i64) -> Told
 pub extern "C" fn wimblorque_signed_least_non_member(block: &[u64], x: i64) -> Told
     ensures { TellsKeys result [] (least_non_member_call block.now (word_of x)) }
 {
-    told::tell_found_key(signed::least_non_member(block, x))
+    told::tell(signed::least_non_member(block, x))
 }
 
 // The part of the block with the ranges that share a key with a..b: its offset and its length, or no values where there are none.
@@ -304,7 +303,7 @@ pub extern "C" fn wimblorque_signed_least_non_member(block: &[u64], x: i64) -> T
 pub extern "C" fn wimblorque_signed_window(block: &[u64], a: i64, b: i64) -> Told
     ensures { Tells result [] (set_window_at_call block.now (word_of a) (word_of b)) }
 {
-    told::tell_parted(signed::window_at(block, a, b))
+    told::tell(signed::window_at(block, a, b))
 }
 
 // Makes every key of a..b a member.
@@ -312,7 +311,7 @@ pub extern "C" fn wimblorque_signed_window(block: &[u64], a: i64, b: i64) -> Tol
 pub extern "C" fn wimblorque_signed_insert(block: &mut [u64], a: i64, b: i64) -> Told
     ensures { Tells result (block.new ∷ []) (insert_call block.old (word_of a) (word_of b)) }
 {
-    told::tell_judged(signed::insert(block, a, b))
+    told::tell(signed::insert(block, a, b))
 }
 
 // Makes no key of a..b a member.
@@ -320,7 +319,7 @@ pub extern "C" fn wimblorque_signed_insert(block: &mut [u64], a: i64, b: i64) ->
 pub extern "C" fn wimblorque_signed_remove(block: &mut [u64], a: i64, b: i64) -> Told
     ensures { Tells result (block.new ∷ []) (remove_call block.old (word_of a) (word_of b)) }
 {
-    told::tell_judged(signed::remove(block, a, b))
+    told::tell(signed::remove(block, a, b))
 }
 
 // The least start of k keys of the window a..b that are all free.
@@ -328,7 +327,7 @@ pub extern "C" fn wimblorque_signed_remove(block: &mut [u64], a: i64, b: i64) ->
 pub extern "C" fn wimblorque_signed_first_fit(block: &[u64], a: i64, b: i64, k: u64) -> Told
     ensures { TellsKeys result [] (first_fit_call block.now (word_of a) (word_of b) k) }
 {
-    told::tell_placed_key(signed::first_fit(block, a, b, k))
+    told::tell(signed::first_fit(block, a, b, k))
 }
 
 // The low end of the shortest gap of the window a..b with at least k keys, the lowest such gap on a tie.
@@ -336,7 +335,7 @@ pub extern "C" fn wimblorque_signed_first_fit(block: &[u64], a: i64, b: i64, k: 
 pub extern "C" fn wimblorque_signed_best_fit(block: &[u64], a: i64, b: i64, k: u64) -> Told
     ensures { TellsKeys result [] (best_fit_call block.now (word_of a) (word_of b) k) }
 {
-    told::tell_placed_key(signed::best_fit(block, a, b, k))
+    told::tell(signed::best_fit(block, a, b, k))
 }
 
 // Makes the k keys from the first fit on members, and answers it.
@@ -344,7 +343,7 @@ pub extern "C" fn wimblorque_signed_best_fit(block: &[u64], a: i64, b: i64, k: u
 pub extern "C" fn wimblorque_signed_reserve_first(block: &mut [u64], a: i64, b: i64, k: u64) -> Told
     ensures { TellsKeys result (block.new ∷ []) (reserve_first_call block.old (word_of a) (word_of b) k) }
 {
-    told::tell_placed_key(signed::reserve_first(block, a, b, k))
+    told::tell(signed::reserve_first(block, a, b, k))
 }
 
 // Makes the k keys from the best fit on members, and answers it.
@@ -352,7 +351,7 @@ pub extern "C" fn wimblorque_signed_reserve_first(block: &mut [u64], a: i64, b: 
 pub extern "C" fn wimblorque_signed_reserve_best(block: &mut [u64], a: i64, b: i64, k: u64) -> Told
     ensures { TellsKeys result (block.new ∷ []) (reserve_best_call block.old (word_of a) (word_of b) k) }
 {
-    told::tell_placed_key(signed::reserve_best(block, a, b, k))
+    told::tell(signed::reserve_best(block, a, b, k))
 }
 
 // The first key less the second, or no value where that is no key.
@@ -384,7 +383,7 @@ pub extern "C" fn wimblorque_word_of_key(key: i64) -> u64
 pub extern "C" fn wimblorque_map_look_up(block: &[u64], x: u64) -> Told
     ensures { Tells result [] (look_up_call block.now x) }
 {
-    told::tell_found(maps::look_up(block, x))
+    told::tell(maps::look_up(block, x))
 }
 
 // Gives every number of a..b the value v, replacing what was there.
@@ -392,7 +391,7 @@ pub extern "C" fn wimblorque_map_look_up(block: &[u64], x: u64) -> Told
 pub extern "C" fn wimblorque_map_assign(block: &mut [u64], a: u64, b: u64, v: u64) -> Told
     ensures { Tells result (block.new ∷ []) (assign_call block.old a b v) }
 {
-    told::tell_judged(maps::assign(block, a, b, v))
+    told::tell(maps::assign(block, a, b, v))
 }
 
 // Leaves no number of a..b a value.
@@ -400,7 +399,7 @@ pub extern "C" fn wimblorque_map_assign(block: &mut [u64], a: u64, b: u64, v: u6
 pub extern "C" fn wimblorque_map_erase(block: &mut [u64], a: u64, b: u64) -> Told
     ensures { Tells result (block.new ∷ []) (erase_call block.old a b) }
 {
-    told::tell_judged(maps::erase(block, a, b))
+    told::tell(maps::erase(block, a, b))
 }
 
 // The part of the block with the entries that share a number with a..b: its offset and its length, or no values where there are none.
@@ -408,7 +407,7 @@ pub extern "C" fn wimblorque_map_erase(block: &mut [u64], a: u64, b: u64) -> Tol
 pub extern "C" fn wimblorque_map_window(block: &[u64], a: u64, b: u64) -> Told
     ensures { Tells result [] (map_window_at_call block.now a b) }
 {
-    told::tell_parted(maps::window_at(block, a, b))
+    told::tell(maps::window_at(block, a, b))
 }
 
 // The entry that decides x, the site map's where it has a value, else the factory map's: the offset and the length of its part, and the
@@ -417,7 +416,7 @@ pub extern "C" fn wimblorque_map_window(block: &[u64], a: u64, b: u64) -> Told
 pub extern "C" fn wimblorque_map_site_over_factory(site: &[u64], factory: &[u64], x: u64) -> Told
     ensures { Tells result [] (site_over_factory_at_call site.now factory.now x) }
 {
-    told::tell_decided(maps::site_over_factory_at(site, factory, x))
+    told::tell(maps::site_over_factory_at(site, factory, x))
 }
 
 // The upper map's value where it has one, else the lower's, into out.
@@ -425,7 +424,7 @@ pub extern "C" fn wimblorque_map_site_over_factory(site: &[u64], factory: &[u64]
 pub extern "C" fn wimblorque_map_overlay(upper: &[u64], lower: &[u64], out: &mut [u64]) -> Told
     ensures { Tells result (out.new ∷ []) (overlay_call upper.now lower.now out.old) }
 {
-    told::tell_judged(maps::overlay(upper, lower, out))
+    told::tell(maps::overlay(upper, lower, out))
 }
 
 // The map's values at the set's numbers, into out.
@@ -433,7 +432,7 @@ pub extern "C" fn wimblorque_map_overlay(upper: &[u64], lower: &[u64], out: &mut
 pub extern "C" fn wimblorque_map_restriction(map: &[u64], set: &[u64], out: &mut [u64]) -> Told
     ensures { Tells result (out.new ∷ []) (restriction_call map.now set.now out.old) }
 {
-    told::tell_judged(maps::restriction(map, set, out))
+    told::tell(maps::restriction(map, set, out))
 }
 
 // The set of the numbers that have a value, into out.
@@ -441,7 +440,7 @@ pub extern "C" fn wimblorque_map_restriction(map: &[u64], set: &[u64], out: &mut
 pub extern "C" fn wimblorque_map_domain(map: &[u64], out: &mut [u64]) -> Told
     ensures { Tells result (out.new ∷ []) (domain_call map.now out.old) }
 {
-    told::tell_judged(maps::domain(map, out))
+    told::tell(maps::domain(map, out))
 }
 
 // The list without the withdrawn, then joined with the released numbers, into out.
@@ -454,7 +453,7 @@ pub extern "C" fn wimblorque_bulletin_apply(
 ) -> Told
     ensures { Tells result (out.new ∷ []) (apply_call list.now released.now withdrawn.now out.old) }
 {
-    told::tell_judged(bulletins::apply(list, released, withdrawn, out))
+    told::tell(bulletins::apply(list, released, withdrawn, out))
 }
 
 // One bulletin with the effect of the first and then the second, into released and withdrawn.
@@ -471,7 +470,7 @@ pub extern "C" fn wimblorque_bulletin_fold(
         (fold_call released1.now withdrawn1.now released2.now withdrawn2.now released.old
         withdrawn.old) }
 {
-    told::tell_judged(bulletins::fold(
+    told::tell(bulletins::fold(
         released1, withdrawn1, released2, withdrawn2, released, withdrawn,
     ))
 }
@@ -481,7 +480,7 @@ pub extern "C" fn wimblorque_bulletin_fold(
 pub extern "C" fn wimblorque_set_read(bytes: &[u8], out: &mut [u64]) -> Told
     ensures { Tells result (out.new ∷ []) (read_set_call bytes.now out.old) }
 {
-    told::tell_judged(forms::read_set(bytes, out))
+    told::tell(forms::read_set(bytes, out))
 }
 
 // Reads the byte form of a signed set into out.
@@ -489,7 +488,7 @@ pub extern "C" fn wimblorque_set_read(bytes: &[u8], out: &mut [u64]) -> Told
 pub extern "C" fn wimblorque_signed_read(bytes: &[u8], out: &mut [u64]) -> Told
     ensures { Tells result (out.new ∷ []) (read_signed_call bytes.now out.old) }
 {
-    told::tell_judged(forms::read_signed(bytes, out))
+    told::tell(forms::read_signed(bytes, out))
 }
 
 // Reads the byte form of a map into out.
@@ -497,7 +496,7 @@ pub extern "C" fn wimblorque_signed_read(bytes: &[u8], out: &mut [u64]) -> Told
 pub extern "C" fn wimblorque_map_read(bytes: &[u8], out: &mut [u64]) -> Told
     ensures { Tells result (out.new ∷ []) (read_map_call bytes.now out.old) }
 {
-    told::tell_judged(forms::read_map(bytes, out))
+    told::tell(forms::read_map(bytes, out))
 }
 
 // Reads the byte form of a bulletin into released and withdrawn.
@@ -510,7 +509,7 @@ pub extern "C" fn wimblorque_bulletin_read(
     ensures { Tells result (released.new ∷ withdrawn.new ∷ [])
         (read_bulletin_call bytes.now released.old withdrawn.old) }
 {
-    told::tell_judged(forms::read_bulletin(bytes, released, withdrawn))
+    told::tell(forms::read_bulletin(bytes, released, withdrawn))
 }
 
 // Judges the byte form of a set and stores nothing; answers the number of its ranges.
@@ -518,10 +517,7 @@ pub extern "C" fn wimblorque_bulletin_read(
 pub extern "C" fn wimblorque_set_judge_form(bytes: &[u8]) -> Told
     ensures { Tells result [] (judge_set_call bytes.now) }
 {
-    match forms::judge_set(bytes) {
-        FormRead::Good(n) => told::one_value(n as u64),
-        FormRead::Refused(number, place) => told::refused(number, place),
-    }
+    told::tell(forms::judge_set(bytes))
 }
 
 // Writes the byte form of a set from place p on, and answers its length.
@@ -529,7 +525,7 @@ pub extern "C" fn wimblorque_set_judge_form(bytes: &[u8]) -> Told
 pub extern "C" fn wimblorque_set_write(block: &[u64], bytes: &mut [u8], p: usize) -> Told
     ensures { Tells result (bytes.new ∷ []) (write_set_call block.now bytes.old p) }
 {
-    told::tell_written(forms::write_set(block, bytes, p))
+    told::tell(forms::write_set(block, bytes, p))
 }
 
 // Writes the byte form of a signed set from place p on, and answers its length.
@@ -537,7 +533,7 @@ pub extern "C" fn wimblorque_set_write(block: &[u64], bytes: &mut [u8], p: usize
 pub extern "C" fn wimblorque_signed_write(block: &[u64], bytes: &mut [u8], p: usize) -> Told
     ensures { Tells result (bytes.new ∷ []) (write_signed_call block.now bytes.old p) }
 {
-    told::tell_written(forms::write_signed(block, bytes, p))
+    told::tell(forms::write_signed(block, bytes, p))
 }
 
 // Writes the byte form of a map from place p on, and answers its length.
@@ -545,7 +541,7 @@ pub extern "C" fn wimblorque_signed_write(block: &[u64], bytes: &mut [u8], p: us
 pub extern "C" fn wimblorque_map_write(block: &[u64], bytes: &mut [u8], p: usize) -> Told
     ensures { Tells result (bytes.new ∷ []) (write_map_call block.now bytes.old p) }
 {
-    told::tell_written(forms::write_map(block, bytes, p))
+    told::tell(forms::write_map(block, bytes, p))
 }
 
 // Writes the byte form of a bulletin from place p on, and answers its length.
@@ -558,7 +554,7 @@ pub extern "C" fn wimblorque_bulletin_write(
 ) -> Told
     ensures { Tells result (bytes.new ∷ []) (write_bulletin_call released.now withdrawn.now bytes.old p) }
 {
-    told::tell_written(forms::write_bulletin(released, withdrawn, bytes, p))
+    told::tell(forms::write_bulletin(released, withdrawn, bytes, p))
 }
 
 // [G6] Whether x is a member of the set whose byte form is in the buffer: 1 member, 0 not, 16 plus the refusal's number where the bytes

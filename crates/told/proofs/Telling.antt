@@ -11,6 +11,9 @@ use Rattle.keys.specs.Keys.{IsKey, word_of, turned}
 use Rattle.keys.proofs.Shift.{turned_twice}
 use Rattle.keys.proofs.Machine.{read_word}
 use Rattle.answers.specs.Answers.{Answer, given, refused, Outcome, outcome}
+use Rattle.std.specs.Prelude.{Option, Some, None, Result, Ok, Err}
+use Rattle.answers.specs.declared.Refusal.{Refusal}
+use Rattle.answers.specs.Says.{says, if_any}
 use Rattle.told.specs.declared.Told.{Told}
 use Rattle.told.specs.Told.{told, Reply, reply, in_c, Tells, in_twos, in_keys, TellsKeys}
 
@@ -20,16 +23,9 @@ told_in (reply t lent) = t
 abbrev lent_in : Reply → List (List ℕ)
 lent_in (reply t lent) = lent
 
--- what the code told of the case that it found is told of the answer
-pub as_told : {A : Type 0} (says : A → Answer) {a b : A} {t : Told} → t ≡ told (says b) → a ≡ b → t ≡ told (says a)
-as_told says e f = e ∙ ap (λ v. told (says v)) (sym f)
-
 -- a key that the code read, in two's complement
 pub as_twos : (k : ℤ) → IsKey k → (x : ℕ) → x ≡ turned (word_of (to_z w64 (of_z w64 k))) → x ≡ turned (word_of k)
 as_twos k h x e = e ∙ ap turned (read_word k h)
-
-pub as_told_keys : {A : Type 0} (says : A → Answer) {a b : A} {t : Told} → t ≡ told (in_twos (says b)) → a ≡ b → t ≡ told (in_twos (says a))
-as_told_keys says = as_told (λ a. in_twos (says a))
 
 -- an export's promise is one equation
 pub tells_reply : {r : Told} {lent : List (List ℕ)} {call : Outcome} → Tells r lent call → reply r lent ≡ in_c call
@@ -53,6 +49,19 @@ twos_told a b e = sym (twice a) ∙ ap in_twos e ∙ twice b
     twice : (a : Answer) → in_twos (in_twos a) ≡ a
     twice (given xs) = ap given (words xs)
     twice (refused n p) = refl
+
+-- [K3] keys found are told in two's complement, each where it stands,
+pub found_in_twos : {A : Type 0} (values : A → List ℕ) {r : Told} (a : Result (Option A) Refusal)
+    → r ≡ told (says (if_any (λ x. map turned (values x))) a) → r ≡ told (in_twos (says (if_any values) a))
+found_in_twos values (Ok (Some x)) e = e
+found_in_twos values (Ok None) e = e
+found_in_twos values (Err f) e = e
+
+-- [K3] and so is a key that a call gives
+pub given_in_twos : {A : Type 0} (values : A → List ℕ) {r : Told} (a : Result A Refusal)
+    → r ≡ told (says (λ x. map turned (values x)) a) → r ≡ told (in_twos (says values a))
+given_in_twos values (Ok x) e = e
+given_in_twos values (Err f) e = e
 
 -- no second reply satisfies a contract
 pub told_only : (call : Outcome) (t u : Told) (lent kept : List (List ℕ)) → Tells t lent call → Tells u kept call → (t ≡ u) × (lent ≡ kept)
