@@ -7,10 +7,9 @@ use std::{fs, io, str};
 // Shows the input with this name, or says why it cannot.
 fn show(rt: &(impl Files + Print + Eprint), name: &str) -> io::Result<()> {
     match fs::open(rt, name) {
-        Ok(file) => {
-            let mut input = file;
+        Ok(mut file) => {
             println!(rt; "{name}")?;
-            program::run(rt, &mut input)
+            program::run(rt, &mut file)
         }
         Err(e) => eprintln!(rt; "{name}: {e}"),
     }
