@@ -10,7 +10,7 @@ use native.Mathlib.Omega.{arith}
 use lib.Dec.{eqb, ltb}
 use lib.ListN.{length}
 use Rattle.entries.specs.Entries.{Entry}
-use Rattle.answers.specs.declared.Finding.{Finding}
+use Rattle.answers.specs.Answers.{Finding}
 use Rattle.answers.specs.Answers.{outcome, given, refuse, Clear}
 use Rattle.answers.specs.Steps.{Named}
 use Rattle.answers.proofs.Turns.{turn_keeps, turn_accepted, clear_split, refused_named}

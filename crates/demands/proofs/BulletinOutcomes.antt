@@ -7,7 +7,7 @@ use native.Mathlib.Decide.{dec_lt}
 use lib.ListN.{length, get_or}
 use Rattle.entries.specs.Entries.{Entry}
 use Rattle.entries.specs.Bulletins.{shareb}
-use Rattle.answers.specs.declared.Finding.{Finding}
+use Rattle.answers.specs.Answers.{Finding}
 use Rattle.answers.specs.Answers.{refuse, Clear, at, applies}
 use Rattle.answers.proofs.Turns.{clear_at, clear_both, clear_split}
 use Rattle.blocks.specs.Blocks.{set_layout, entries_of, verdict}

@@ -13,7 +13,7 @@ use lib.Seq.{take-set-le, take-set-lt, drop-set-lt, drop-set-add, get_or-set_sam
 use borrow.Author.Tests.{ltb-true, ltb-false, eqb-true, eqb-false}
 use Rattle.entries.specs.Entries.{Each, Entry}
 use Rattle.answers.specs.Answers.{Outcome, outcome, given, refuse, in_turn, Clear}
-use Rattle.answers.specs.declared.Finding.{Finding}
+use Rattle.answers.specs.Answers.{Finding}
 use Rattle.answers.proofs.Turns.{refused≢given, clear_turn, clear_both, clear_split}
 use Rattle.blocks.specs.Blocks.{item_of}
 use Rattle.numbers.specs.Numbers.{Bytes, num2, num4, words_in, counts_in, count_bytes}

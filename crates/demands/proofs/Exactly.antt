@@ -8,7 +8,7 @@ use lib.ListN.{length}
 use borrow.Author.Tests.{le-ltb, le-leb}
 use Rattle.entries.specs.Entries.{Value, Entry}
 use Rattle.entries.specs.Build.{pick}
-use Rattle.answers.specs.declared.Finding.{Finding}
+use Rattle.answers.specs.Answers.{Finding}
 use Rattle.answers.specs.Answers.{outcome, refuse, truth, Clear}
 use Rattle.blocks.specs.Blocks.{set_layout, map_layout, capacity, entries_of, block_of}
 use Rattle.blocks.specs.Calls.{input, output, backwards}

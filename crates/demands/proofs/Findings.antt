@@ -6,7 +6,7 @@ use mathlib.Core.List.{List, [], ◌∷◌, ◌++◌}
 use Prim.Native.Nat.{ℕ, zero, suc, ◌<◌}
 use native.Mathlib.Omega.{arith}
 use Rattle.entries.specs.Entries.{Each}
-use Rattle.answers.specs.declared.Finding.{Finding}
+use Rattle.answers.specs.Answers.{Finding}
 use Rattle.answers.specs.Answers.{Outcome, outcome, refused, refuse, applies, in_turn, Clear}
 use Rattle.answers.specs.Steps.{number_at, place_at, Applies, Named}
 use Rattle.answers.proofs.Turns.{clear_at, refused_at}

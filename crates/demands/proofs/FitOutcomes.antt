@@ -10,7 +10,7 @@ use lib.ListN.{length}
 use borrow.Author.Tests.{le-ltb, ne_eqb}
 use borrow.Author.Tests.{ltb-false}
 use Rattle.entries.specs.Entries.{Entry}
-use Rattle.answers.specs.declared.Finding.{Finding}
+use Rattle.answers.specs.Answers.{Finding}
 use Rattle.answers.specs.Answers.{given, outcome, refuse, in_turn, Clear}
 use Rattle.answers.proofs.Turns.{clear_turn, clear_both, clear_split}
 use Rattle.answers.proofs.Turns.{applies_clear}

@@ -10,7 +10,7 @@ use lib.ListN.{length}
 use borrow.Author.Tests.{eqb-false}
 use Rattle.entries.specs.Entries.{Entry}
 use Rattle.entries.specs.Build.{pick}
-use Rattle.answers.specs.declared.Finding.{Finding}
+use Rattle.answers.specs.Answers.{Finding}
 use Rattle.answers.specs.Answers.{Outcome, outcome, given, refused, refuse, applies, Clear}
 use Rattle.answers.proofs.Turns.{turn_keeps, turn_accepted, clear_turn, clear_at, applies_clear, refused≢given}
 use Rattle.blocks.specs.Blocks.{set_layout, capacity, entries_of, block_of}

@@ -5,7 +5,7 @@ use Prim.Native.Nat.{ℕ, zero, suc, ◌+◌, ◌≤◌, ◌<◌}
 use native.Mathlib.Omega.{arith}
 use lib.ListN.{length, get_or}
 use Rattle.entries.specs.Entries.{Entry}
-use Rattle.answers.specs.declared.Finding.{Finding}
+use Rattle.answers.specs.Answers.{Finding}
 use Rattle.answers.specs.Answers.{refuse, Clear}
 use Rattle.answers.proofs.Turns.{clear_at}
 use Rattle.blocks.specs.Blocks.{set_layout, capacity, entries_of, block_of}

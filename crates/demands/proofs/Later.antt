@@ -10,7 +10,7 @@ use lib.ListN.{length, get_or, take, drop, length-drop}
 use borrow.Author.Tests.{ltb-false, eqb-false}
 use Rattle.entries.specs.Entries.{Entry}
 use Rattle.entries.specs.Build.{pick}
-use Rattle.answers.specs.declared.Finding.{Finding}
+use Rattle.answers.specs.Answers.{Finding}
 use Rattle.answers.specs.Answers.{given, Outcome, outcome, refuse, judged, in_turn}
 use Rattle.blocks.specs.declared.Layout.{Layout}
 use Rattle.blocks.specs.Blocks.{capacity, entries_of, items_of, words_of, soundb, verdict}

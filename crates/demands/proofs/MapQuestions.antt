@@ -23,7 +23,7 @@ use Rattle.blocks.specs.Calls.{input}
 use Rattle.blocks.proofs.Judging.{verdict_sound, room_words}
 use Rattle.searches.specs.Parts.{no_part, words_at}
 use Rattle.searches.specs.Calls.{window_part, window_refusals, window_call}
-use Rattle.maps.specs.declared.Deciding.{Deciding}
+use Rattle.answers.specs.declared.Deciding.{Deciding}
 use Rattle.maps.specs.Calls.{map_entries, worth, look_up_call, map_window_call, part_in, deciding, site_refusals, site_over_factory_call, words_of_two}
 use Rattle.demands.specs.Plain.{SoundMap, InEntry, ValueOf, answers}
 use Rattle.demands.specs.Questions.{InMap, LookUp, MapWindow, SiteOverFactory, EntryWords, DecidingEntry, WhichMap}

@@ -14,7 +14,7 @@ use Rattle.entries.specs.Entries.{Value, Entry, Each}
 use Rattle.entries.specs.Build.{pick}
 use Rattle.entries.specs.Sets.{intersection, difference, symmetric_difference}
 use Rattle.entries.specs.Questions.{range_at, size_of, least_member, is_empty, wholly_below}
-use Rattle.answers.specs.declared.Finding.{Finding}
+use Rattle.answers.specs.Answers.{Finding}
 use Rattle.answers.specs.Answers.{given, Outcome, outcome, refuse, judged, in_turn, handed, Clear, at, truth, seated, optional, less_one}
 use Rattle.answers.specs.Steps.{Named}
 use Rattle.answers.proofs.Turns.{turn_keeps, turn_accepted, clear_turn, refused≢given, refused_named}
@@ -27,10 +27,10 @@ use Rattle.operations.specs.Calls.{two_refusals, one_refusals}
 use Rattle.sets.specs.Calls.{ends, non_member, make_empty_call, member_call, range_at_call, size_call, least_member_call, least_non_member_call}
 use Rattle.sets.specs.Calls.{equal_call, within_call, disjoint_call}
 use Rattle.forms.proofs.Forms.{has_words, has_room}
-use Rattle.searches.specs.declared.Part.{Part}
+use Rattle.answers.specs.declared.Part.{Part}
 use Rattle.searches.specs.Parts.{no_part, part_says}
 use Rattle.searches.specs.Calls.{window_part, window_refusals, window_call, window_at_call, window_refusal_call}
-use Rattle.maps.specs.declared.Deciding.{Deciding}
+use Rattle.answers.specs.declared.Deciding.{Deciding}
 use Rattle.maps.specs.Calls.{worth, look_up_call, deciding, part_in, deciding_says, site_refusals, site_over_factory_call, site_over_factory_at_call, site_refusal_call}
 use Rattle.demands.specs.Plain.{Iff, In, ValueOf}
 use Rattle.demands.specs.Outcomes.{Accepts, AcceptedExactly, FirstIs, RefusedExactly, RefusedKeeps, WindowCompanion, SiteCompanion}

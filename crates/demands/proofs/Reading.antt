@@ -12,7 +12,7 @@ use borrow.Author.Tests.{le-ltb, eq-eqb, ne_eqb}
 use Rattle.keys.proofs.Shift.{turned_word}
 use Rattle.entries.specs.Entries.{Entry}
 use Rattle.answers.specs.Answers.{Outcome, outcome, given, refused, refuse, applies, in_turn, Keeps, Clear}
-use Rattle.answers.specs.declared.Finding.{Finding}
+use Rattle.answers.specs.Answers.{Finding}
 use Rattle.answers.specs.Steps.{Named}
 use Rattle.answers.proofs.Turns.{refused_named, turn_accepted, clear_turn, clear_split, clear_both}
 use Rattle.numbers.specs.Numbers.{Bytes, num2, be8}

@@ -10,7 +10,7 @@ use lib.ListN.{length, get_or}
 use borrow.Author.Tests.{lt-ltb}
 use Rattle.entries.specs.Entries.{Each, Entry}
 use Rattle.entries.specs.Bulletins.{shareb}
-use Rattle.answers.specs.declared.Finding.{Finding}
+use Rattle.answers.specs.Answers.{Finding}
 use Rattle.answers.specs.Answers.{outcome, given, refuse, applies, in_turn, Clear}
 use Rattle.answers.specs.Steps.{number_at, place_at, Named}
 use Rattle.answers.proofs.Turns.{refused_named}

@@ -10,7 +10,7 @@ use lib.IntN.{ℤ, pos, negsuc, ◌+ℤ◌}
 use lib.Signed.{lt_z, le_z}
 use borrow.Author.Tests.{lt-ltb, le-ltb, ltb-true, ltb-false, le-leb, lt-leb, leb-true, leb-false}
 use Rattle.keys.specs.Keys.{half, IsKey, word_of, key_of}
-use Rattle.keys.specs.declared.Apart.TheVariants.{By}
+use Rattle.std.specs.Prelude.{Some}
 use Rattle.keys.proofs.Shift.{key_back, word_back, word_bound, key_bound, below_words, above_words, order_kept, next_word}
 use Rattle.keys.proofs.Differences.{by_key, too_far, by_exactly, too_far_exactly}
 use Rattle.entries.specs.Entries.{Entry}
@@ -60,7 +60,7 @@ next_key = next_word
 
 pub key_difference : KeyDifference
 key_difference a b = (
-  λ d. record { to = by_exactly a b d; from = λ h. sym (by_key a b (subst IsKey h.0 h.1)) ∙ ap By (sym h.0) },
+  λ d. record { to = by_exactly a b d; from = λ h. sym (by_key a b (subst IsKey h.0 h.1)) ∙ ap Some (sym h.0) },
   record { to = too_far_exactly a b; from = λ n. sym (too_far a b (omega arith)) },
 )
 

@@ -25,9 +25,7 @@ use Rattle.maps.specs.Calls.{assign_call}
 use Rattle.entries.specs.Sets.{symmetric_difference}
 use Rattle.entries.specs.Maps.{overlay, restriction, domain}
 use Rattle.answers.specs.declared.Reason.TheVariants.{Overlap}
-use Rattle.answers.specs.declared.FoundKey.TheVariants as found_key
-use Rattle.answers.specs.declared.RangedKeys.TheVariants as ranged_keys
-use Rattle.answers.specs.declared.PlacedKey.TheVariants as placed_key
+use Rattle.std.specs.Prelude.{Ok, Some}
 use Rattle.answers.specs.Says.{number_of, refusal_says, judged_says, refusal_of, judged_of, found_key_says, ranged_keys_says, placed_key_says, apart_says}
 use Rattle.searches.specs.Parts.{part_says}
 use Rattle.searches.specs.Calls.{window_call, window_at_call, window_refusal_call}
@@ -414,9 +412,9 @@ table =
     ∷ case (remove_call (1 ∷ 0 ∷ M ∷ 0 ∷ 0 ∷ []) (word_of (less 1)) (word_of (less 1)))
     (accepted (2 ∷ 0 ∷ 9223372036854775806 ∷ 9223372036854775808 ∷ M ∷ []))
     ∷ case (insert_call K (word_of (pos 0)) (word_of (less 1))) (refusing 4 0 K)
-    ∷ case (outcome (found_key_says (found_key.Key (less 5))) []) (answer (9223372036854775803 ∷ []))
-    ∷ case (outcome (ranged_keys_says (ranged_keys.Range (less 5) (pos 3))) []) (range_at_call K 0)
-    ∷ case (outcome (placed_key_says (placed_key.At (pos 4))) []) (first_fit_call K (word_of (less 5)) (word_of most_key) 2)
+    ∷ case (outcome (found_key_says (Ok (Some (less 5)))) []) (answer (9223372036854775803 ∷ []))
+    ∷ case (outcome (ranged_keys_says (Ok (Some (less 5, pos 3)))) []) (range_at_call K 0)
+    ∷ case (outcome (placed_key_says (Ok (pos 4))) []) (first_fit_call K (word_of (less 5)) (word_of most_key) 2)
     -- [K2] of {-5..3}: -1 and 0 are members, 4 is not; least members and non-members; the window -9..-5; fits, and their reservations
     ∷ case (member_call K (word_of (less 1))) (answer (1 ∷ 0 ∷ []))
     ∷ case (member_call K (word_of (pos 0))) (answer (1 ∷ 0 ∷ []))

@@ -1,10 +1,9 @@
 -- SIGNED SETS: a set of keys, from -2^63 to 2^63 - 1, is held in a set block by the words of its keys. What the calls answer and leave,
 -- said of the keys; each statement follows from the one on numbers and from the shift.
-use Rattle.std.specs.Prelude.{◌≡◌, Bool, true, false, not, List, [], ◌∷◌, ℕ, suc, ◌+◌, ◌*◌, ◌-◌, ◌≤◌, ◌<◌, leb, ℤ, pos, ◌+ℤ◌, ◌-ℤ◌, length, get_or}
+use Rattle.std.specs.Prelude.{◌≡◌, Bool, true, false, not, List, [], ◌∷◌, ℕ, suc, ◌+◌, ◌*◌, ◌-◌, ◌≤◌, ◌<◌, leb, ℤ, pos, ◌+ℤ◌, ◌-ℤ◌, length, get_or, Some, None}
 use Rattle.std.proofs.Math.Option.{Option}
 use Rattle.std.specs.Int.Signed.{lt_z, le_z}
 use Rattle.keys.specs.Keys.{IsKey, word_of, key_of, apart_of}
-use Rattle.keys.specs.declared.Apart.TheVariants.{By, TooFar}
 use Rattle.entries.specs.Entries.{Entry}
 use Rattle.entries.specs.Build.{pick, andb}
 use Rattle.entries.specs.Sets.{M, past_m, orb, lessb, xorb}
@@ -38,7 +37,7 @@ NextKey = (k : ℤ) → IsKey k → word_of (k +ℤ pos 1) ≡ word_of k + 1
 
 -- [K5] THE DIFFERENCE of two keys: d exactly if it is the first less the second and a key, too far exactly if that is no key
 abbrev pub KeyDifference : Type 0
-KeyDifference = (a b : ℤ) → ((d : ℤ) → Iff (apart_of a b ≡ By d) ((d ≡ a -ℤ b) × IsKey d)) × Iff (apart_of a b ≡ TooFar) (IsKey (a -ℤ b) → ⊥)
+KeyDifference = (a b : ℤ) → ((d : ℤ) → Iff (apart_of a b ≡ Some d) ((d ≡ a -ℤ b) × IsKey d)) × Iff (apart_of a b ≡ None) (IsKey (a -ℤ b) → ⊥)
 
 -- [K1] the plain set of keys that a block names: those whose word is a member
 abbrev pub InKeys : List ℕ → ℤ → Bool
