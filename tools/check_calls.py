@@ -20,16 +20,27 @@ def public_crates(text):
     return re.findall(r"^## `(\w+)`", text, re.M)
 
 
-def signatures(crate):
-    """Name to signature of each public function of a crate, white space folded."""
+def headed(source, indent, public):
+    """Name to signature, white space folded, of each function of a source that stands at an indent."""
     found = {}
-    folder = os.path.join(ROOT, "crates", crate, "src")
-    for name in sorted(os.listdir(folder)):
-        source = read("crates", crate, "src", name)
-        for m in re.finditer(r'^(?:#\[unsafe\(no_mangle\)\]\s+)?pub (?:extern "C" )?fn (\w+)(<[^>]*>)?\s*\((.*?)\)\s*(->\s*[^\n{]+)?\s*$', source, re.M | re.S):
-            arguments = re.sub(r"\s+", " ", m.group(3)).strip().rstrip(",").replace("'a ", "")
-            answer = " " + re.sub(r"\s+", " ", m.group(4)).strip().replace("'a ", "") if m.group(4) else ""
-            found[m.group(1)] = f"{m.group(1)}({arguments}){answer}"
+    for m in re.finditer(
+        "^" + indent + r"(?:#\[unsafe\(no_mangle\)\]\s+)?" + public + r'(?:extern "C" )?fn (\w+)(<[^>]*>)?\s*\((.*?)\)\s*(->\s*[^\n{]+)?\s*(?:\{|$)',
+        source,
+        re.M | re.S,
+    ):
+        arguments = re.sub(r"\s+", " ", m.group(3)).strip().rstrip(",").replace("'a ", "")
+        answer = " " + re.sub(r"\s+", " ", m.group(4)).strip().replace("'a ", "") if m.group(4) else ""
+        found[m.group(1)] = f"{m.group(1)}({arguments}){answer}"
+    return found
+
+
+def signatures(crate):
+    """Name to signature of each public function of a crate, of its types' public methods and of its conversions (From, TryFrom)."""
+    source = read("crates", crate, "src", "lib.rt")
+    found = headed(source, "", "pub ")
+    for m in re.finditer(r"^impl (?:((?:Try)?From)<\w+> for )?(\w+) \{\n(.*?)^\}", source, re.M | re.S):
+        for method, signature in headed(m.group(3), "    ", "" if m.group(1) else "pub ").items():
+            found[f"{m.group(2)}::{method}"] = f"{m.group(2)}::{signature}"
     return found
 
 

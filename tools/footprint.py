@@ -27,13 +27,13 @@ RETURN_ADDRESS = {"x86_64": 8, "aarch64": 0}
 PADDED = {"x86_64": ["-march=x86-64-v2"], "aarch64": []}
 NEEDED = ["memset"]
 # No more than this, in bytes: near what is measured, so that growth is noticed.
-MOST_CODE = {"x86_64": 33100, "aarch64": 31000}
+MOST_CODE = {"x86_64": 35100, "aarch64": 31000}
 MOST_CONSTANTS = {"x86_64": 690, "aarch64": 920}
-MOST_STACK = {"x86_64": 630, "aarch64": 528}
+MOST_STACK = {"x86_64": 930, "aarch64": 840}
 # The function that calls itself, how often it can be on the stack at once (its exponent falls from 64 to 0), and the bound for the calls
 # that can reach it.
 TIMES = {"prefixes::audit_block": 65}
-MOST_DEEP_STACK = {"x86_64": 6480, "aarch64": 6480}
+MOST_DEEP_STACK = {"x86_64": 4420, "aarch64": 4440}
 # The calls of README.md's table.
 SHOWN = ["member", "set_member", "set_insert", "set_union", "map_site_over_factory", "set_reserve_best", "bulletin_apply", "set_read", "signed_read"]
 SHOWN += ["set_prefix_blocks", "set_audit_blocks"]

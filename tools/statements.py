@@ -56,25 +56,26 @@ ONLY = [("answers", "Unique", kind + "_only") for kind in ("judged", "truth", "f
 ]
 # The structs and enums of the code that definitions and contracts name.
 NAMED = [
-    ("answers", ("Reason", "Refusal", "Finding", "Judged", "Truth", "Found", "Ranged", "Sized", "Parted", "Decided", "Placed", "Written")),
-    ("answers", ("FoundKey", "RangedKeys", "PlacedKey")),
-    ("keys", ("Apart",)),
+    ("answers", ("Reason", "Refusal", "UnknownNumber", "Seated", "Part", "Deciding")),
     ("blocks", ("Layout",)),
-    ("searches", ("Part",)),
-    ("maps", ("Deciding",)),
     ("verdicts", ("Form",)),
-    ("forms", ("FormRead",)),
     ("told", ("Told",)),
 ]
 
 
 def contracts(crate):
-    """The public functions of a crate that users are given: comment, signature and contract."""
-    folder = os.path.join("crates", crate, "src")
-    for name in sorted(os.listdir(os.path.join(antt.ROOT, folder))):
-        for m in re.finditer(r'((?:^//[^\n]*\n)*)(?:^#\[[^\n]*\]\n)*^(pub (?:extern "C" )?fn .*?)\n\{', antt.read(folder, name), re.M | re.S):
-            comment = " ".join(line[2:].strip() for line in m.group(1).splitlines())
-            yield comment, m.group(2).splitlines()
+    """The public functions, methods and conversions of a crate that users are given: comment, signature and contract."""
+    source = antt.read("crates", crate, "src", "lib.rt")
+    for m in re.finditer(r'((?:^//[^\n]*\n)*)(?:^#\[[^\n]*\]\n)*^(pub (?:extern "C" )?fn .*?)\n\{', source, re.M | re.S):
+        yield told(m.group(1)), m.group(2).splitlines()
+    for m in re.finditer(r"((?:^//[^\n]*\n)*)^(impl (?:(?:Try)?From<\w+> for )?\w+ \{\n)(.*?)^\}", source, re.M | re.S):
+        for n in re.finditer(r"((?:^    //[^\n]*\n)*)^((?:    ghost [^\n]*\n\n)?    (?:pub )?fn .*?)(?: \{\n|\n    \{)", m.group(3), re.M | re.S):
+            yield told(m.group(1) + n.group(1)), (m.group(2) + n.group(2)).replace("\n\n", "\n").splitlines()
+
+
+def told(comment):
+    """A comment's text."""
+    return " ".join(line.strip()[2:].strip() for line in comment.splitlines())
 
 
 def entry(comment, lines):
@@ -86,7 +87,7 @@ def structs(crate, names):
     """The structs and enums of a crate's code by these names: comment and declaration."""
     text = antt.read("crates", crate, "src", "lib.rt")
     for name in names:
-        m = re.search(r"((?:^//[^\n]*\n)*)(?:^#\[[^\n]*\]\n)*^(pub (?:struct|enum) " + name + r" \{\n.*?^\})", text, re.M | re.S)
+        m = re.search(r"((?:^//[^\n]*\n)*)(?:^#\[[^\n]*\]\n)*^(pub (?:struct|enum) " + name + r"(?: \{\n.*?^\}|\([^)]*\);))", text, re.M | re.S)
         yield " ".join(line[2:].strip() for line in m.group(1).splitlines()), m.group(2).splitlines()
 
 

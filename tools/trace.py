@@ -101,7 +101,7 @@ def called(trace):
         if not line.startswith("| `") or len(cells) != 6:
             continue
         call, _, outcome, _, edits, tests = cells
-        name = re.match(r"`(\w+)\(", call).group(1)
+        name = re.match(r"`(?:\w+::)?(\w+)\(", call).group(1)
         for test in re.findall(r"`([^`]+)`", tests):
             if not mentions(test, name, outcome.split(", ")[0]):
                 trace.faults.append(f"docs/CALLS.md: the test {test} of {name} does not contain it")
