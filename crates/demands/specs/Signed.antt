@@ -1,6 +1,7 @@
 -- SIGNED SETS: a set of keys, from -2^63 to 2^63 - 1, is held in a set block by the words of its keys. What the calls answer and leave,
 -- said of the keys; each statement follows from the one on numbers and from the shift.
-use Rattle.std.specs.Prelude.{◌≡◌, Bool, true, false, not, List, [], ◌∷◌, ℕ, suc, ◌+◌, ◌*◌, ◌-◌, ◌≤◌, ◌<◌, leb, ℤ, pos, ◌+ℤ◌, ◌-ℤ◌, length, get_or, Some, None}
+use Rattle.std.specs.Prelude.{◌≡◌, Bool, true, false, not, List, [], ◌∷◌, ℕ, suc, ◌+◌, ◌*◌, ◌-◌, ◌≤◌, ◌<◌, leb}
+use Rattle.std.specs.Prelude.{ℤ, pos, ◌+ℤ◌, ◌-ℤ◌, length, get_or, Some, None}
 use Rattle.std.proofs.Math.Option.{Option}
 use Rattle.std.specs.Int.Signed.{lt_z, le_z}
 use Rattle.keys.specs.Keys.{IsKey, word_of, key_of, apart_of}

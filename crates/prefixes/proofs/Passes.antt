@@ -53,7 +53,9 @@ module _ {low high : ℕ} {p : Pairs} {at : ℕ} {q : Pairs} (t : Taking low hig
       ∙ ap₂ (λ (i j : ℕ). prefix at e ∷ taken_all i j) (omega arith) (omega arith)
 
   behind : taken_all low (high + 1 - low) ≡ (t.done ++ (prefix at e ∷ [])) ++ taken_all (at + more + 1) (high + 1 - (at + more + 1))
-  behind = t.rest ∙ ap (λ (l : List Prefix). t.done ++ l) one ∙ sym (append_assoc t.done (prefix at e ∷ []) (taken_all (at + more + 1) (high + 1 - (at + more + 1))))
+  behind =
+      t.rest ∙ ap (λ (l : List Prefix). t.done ++ l) one
+      ∙ sym (append_assoc t.done (prefix at e ∷ []) (taken_all (at + more + 1) (high + 1 - (at + more + 1))))
 
   pub taking_on : more < high - at → Taking low high p (at + more + 1) r
   taking_on h = record { upto = omega arith; done = t.done ++ (prefix at e ∷ []); rest = behind; notes = notes_both t.notes n refl }

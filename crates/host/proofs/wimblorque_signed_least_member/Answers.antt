@@ -8,4 +8,5 @@ use Rattle.host.proofs.wimblorque_signed_least_member.Goals as goal
 
 pub returns : goal.returns
 returns c =
-    key_at_one (λ (k : ℤ). least_member_call c.args.block.now (word_of k)) c.args.x c.ranges.x.sfits (found_in_twos key_value _ c.tell.ensures) c.least_member.ensures
+    key_at_one (λ (k : ℤ). least_member_call c.args.block.now (word_of k))
+    c.args.x c.ranges.x.sfits (found_in_twos key_value _ c.tell.ensures) c.least_member.ensures

@@ -15,11 +15,14 @@ pass-requires g c =
 
 pub finish-requires : goal.finish-requires
 finish-requires g c =
-    fits_in g.T.Method.blocks _ _ c.in_ok-refusal.ensures c.room_for-room.ensures c.fits.ensures c.if-fits.true (ap (tally c.pass.new.pairs.count) (c.out-then-fits-1.given.1.1 (sym c.pass.ensures.place)) ∙ c.pass.ensures.noted)
+    fits_in g.T.Method.blocks _ _ c.in_ok-refusal.ensures c.room_for-room.ensures c.fits.ensures c.if-fits.true
+    (ap (tally c.pass.new.pairs.count) (c.out-then-fits-1.given.1.1 (sym c.pass.ensures.place)) ∙ c.pass.ensures.noted)
 
 pub returns-then-fits : goal.returns-then-fits
 returns-then-fits g c =
-    accepted g.T.Method.blocks _ _ c.in_ok-refusal.ensures c.room_for-room.ensures c.fits.ensures c.if-fits.true (ap (tally c.pass.new.pairs.count) (c.out-then-fits-1.given.1.1 (sym c.pass.ensures.place)) ∙ c.pass.ensures.noted) c.finish.ensures
+    accepted g.T.Method.blocks _ _ c.in_ok-refusal.ensures c.room_for-room.ensures c.fits.ensures c.if-fits.true
+    (ap (tally c.pass.new.pairs.count) (c.out-then-fits-1.given.1.1 (sym c.pass.ensures.place)) ∙ c.pass.ensures.noted)
+    c.finish.ensures
 
 pub returns : goal.returns
 returns g c =
