@@ -24,7 +24,7 @@ use operations::Layouts;
 use sweeps::Plan;
 
 // Makes the block the empty set. Its old words are not judged.
-#[tactic(auto, using(crate::proofs::Emptying::empty_refused, crate::proofs::Emptying::empty_done))]
+#[tactic(auto, using(crate::proofs::Emptying::empty_stopped, crate::proofs::Emptying::empty_done))]
 pub fn make_empty(block: &mut [u64]) -> Result<(), Refusal>
     ensures { outcome (judged_says result) (block.new ∷ []) ≡ make_empty_call block.old }
 {
