@@ -13,7 +13,7 @@ pub struct Gap {
 
 impl Gap {
     // Whether it has at most less + 1 numbers.
-    pub fn within(self, less: u64) -> bool
+    pub(crate) fn within(self, less: u64) -> bool
         ensures { result ≡ leb (self.high - self.low) less }
     {
         self.high - self.low <= less

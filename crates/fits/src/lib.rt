@@ -19,7 +19,7 @@ ghost use Rattle.fits.specs.Steps.{chooser, enough_for, short, piece, Took, Tryi
 mod gap;
 
 use answers::{Reason, Refusal};
-use gap::Gap;
+pub use gap::Gap;
 
 // Which of the gaps that a run fits in is chosen.
 #[derive(Clone, Copy)]

@@ -48,41 +48,41 @@ struct Lists<'a> {
 
 // The words of a value: as many of them as an item of the output has.
 #[derive(Clone, Copy)]
-struct Words {
-    first: u64,
-    second: u64,
+pub struct Words {
+    pub first: u64,
+    pub second: u64,
 }
 
 // Where a sweep stands in an input: outside at the low word of the next item or at the end of the items, inside at the item's high word.
 #[derive(Clone, Copy)]
-struct Cursor {
-    place: usize,
-    inside: bool,
-    end: usize,
+pub struct Cursor {
+    pub place: usize,
+    pub inside: bool,
+    pub end: usize,
 }
 
 // The three cursors.
 #[derive(Clone, Copy)]
-struct Cursors {
-    a: Cursor,
-    b: Cursor,
-    c: Cursor,
+pub struct Cursors {
+    pub a: Cursor,
+    pub b: Cursor,
+    pub c: Cursor,
 }
 
 // The last number of a run, and the cursor behind it.
 #[derive(Clone, Copy)]
-struct Run {
-    last: u64,
-    then: Cursor,
+pub struct Run {
+    pub last: u64,
+    pub then: Cursor,
 }
 
 // The last number of a segment, whether it has a value, the value, and the cursors behind it.
 #[derive(Clone, Copy)]
-struct Segment {
-    last: u64,
-    inside: bool,
-    value: Words,
-    then: Cursors,
+pub struct Segment {
+    pub last: u64,
+    pub inside: bool,
+    pub value: Words,
+    pub then: Cursors,
 }
 
 // A segment to be stored: its ends and its value, and whether it goes on from the last item, whose low end then stays.
