@@ -22,9 +22,14 @@ fn seated(rt: &impl Print, name: &str, answer: Result<Seated, Refusal>) -> io::R
 
 // [W1] Where numbers sit in a set.
 fn sits(rt: &impl Print, set: &[u64]) -> io::Result<()> {
-    for x in [4, 9, 12, 20, 30] {
-        print!(rt; "{x} in {{5..9, 20..29}}: ")?;
-        seated(rt, "", sets::member(set, x))?;
+    for (name, x) in [
+        ("4 in {5..9, 20..29}: ", 4),
+        ("9 in {5..9, 20..29}: ", 9),
+        ("12 in {5..9, 20..29}: ", 12),
+        ("20 in {5..9, 20..29}: ", 20),
+        ("30 in {5..9, 20..29}: ", 30),
+    ] {
+        seated(rt, name, sets::member(set, x))?;
     }
     Ok(())
 }

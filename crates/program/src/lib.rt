@@ -16,16 +16,28 @@ fn ranges(rt: &impl Print, words: &[u64]) -> io::Result<()> {
     Ok(())
 }
 
+// Reads from the input until it ends or the bytes are full, and answers how many were read.
+fn fill(input: &mut impl Read, bytes: &mut [u8]) -> io::Result<usize> {
+    let mut done = 0;
+    while done < bytes.len() {
+        match input.read(&mut bytes[done..])? {
+            0 => break,
+            n => done += n,
+        }
+    }
+    Ok(done)
+}
+
 // [H3] Shows what an input has left: at most 65,536 bytes of it are read, into a block with room for the 3,120 ranges of the longest form
 // of that size; of a longer input it says so.
 pub fn run(rt: &impl Print, input: &mut impl Read) -> io::Result<()> {
     let mut bytes = [0u8; 65537];
-    let n = io::copy(&mut input.take(65537), &mut &mut bytes[..])?;
+    let n = fill(input, &mut bytes)?;
     if n > 65536 {
         return println!(rt; "input too long");
     }
     let mut words = [0u64; 6241];
-    match forms::read_set(&bytes[..n as usize], &mut words) {
+    match forms::read_set(&bytes[..n], &mut words) {
         Ok(_) => ranges(rt, &words),
         Err(refusal) => println!(rt; "{refusal}"),
     }
