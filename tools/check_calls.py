@@ -34,24 +34,55 @@ def headed(source, indent, public):
     return found
 
 
+def sources(crate):
+    """Each source of a crate, and the crate's types that are given to users: those that lib.rt declares, or hands on from a module."""
+    folder = os.path.join(ROOT, "crates", crate, "src")
+    texts = {name: read("crates", crate, "src", name) for name in sorted(os.listdir(folder))}
+    root = texts["lib.rt"]
+    handed = " ".join(re.findall(r"^pub use (.*?);", root, re.M | re.S))
+    types = set()
+    for name, source in texts.items():
+        module = name.removesuffix(".rt")
+        declared = set(re.findall(r"^pub (?:struct|enum|trait) (\w+)", source, re.M))
+        every = name == "lib.rt" or re.search(r"^pub mod " + module + ";", root, re.M) or module + "::*" in handed
+        types |= declared if every else declared & set(re.findall(r"\w+", handed))
+    for source in texts.values():
+        yield source, types
+
+
+def methods(source, types):
+    """Of each block of a source that has methods of these types or conversions to or from others: the type, whether every function in it
+    is public, and its body."""
+    for m in re.finditer(r"^impl (?:((?:Try)?From)<\w+> for )?(\w+)(?:<[^>]*>)? \{\n(.*?)^\}", source, re.M | re.S):
+        if m.group(1) or m.group(2) in types:
+            yield m.group(2), bool(m.group(1)), m.group(3)
+
+
 def signatures(crate):
     """Name to signature of each public function of a crate, of its types' public methods and of its conversions (From, TryFrom)."""
-    source = read("crates", crate, "src", "lib.rt")
-    found = headed(source, "", "pub ")
-    for m in re.finditer(r"^impl (?:((?:Try)?From)<\w+> for )?(\w+) \{\n(.*?)^\}", source, re.M | re.S):
-        for method, signature in headed(m.group(3), "    ", "" if m.group(1) else "pub ").items():
-            found[f"{m.group(2)}::{method}"] = f"{m.group(2)}::{signature}"
+    found = {}
+    for source, types in sources(crate):
+        found |= headed(source, "", "pub ")
+        for owner, every, body in methods(source, types):
+            for method, signature in headed(body, "    ", "" if every else "pub ").items():
+                found[f"{owner}::{method}"] = f"{owner}::{signature}"
     return found
 
 
+def asked(source, indent, public):
+    """The functions of a source that stand at an indent and ask something of their caller."""
+    for m in re.finditer("^" + indent + public + r'(?:extern "C" )?fn (\w+)(.*?)(?:^' + indent + r"\{| \{)$", source, re.M | re.S):
+        if re.search(r"^\s+requires\b", m.group(2), re.M):
+            yield m.group(1)
+
+
 def asking(crate):
-    """The public functions of a crate that ask something of their caller."""
+    """The public functions of a crate, its types' methods and its conversions that ask something of their caller."""
     found = []
-    folder = os.path.join(ROOT, "crates", crate, "src")
-    for name in sorted(os.listdir(folder)):
-        for m in re.finditer(r'^pub (?:extern "C" )?fn (\w+).*?\n\{', read("crates", crate, "src", name), re.M | re.S):
-            if re.search(r"^\s+requires\b", m.group(0), re.M):
-                found.append(m.group(1))
+    for source, types in sources(crate):
+        found += asked(source, "", "pub ")
+        for owner, every, body in methods(source, types):
+            found += [f"{owner}::{name}" for name in asked(body, "    ", "" if every else "pub ")]
     return found
 
 

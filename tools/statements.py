@@ -8,6 +8,7 @@ import sys
 
 sys.path.insert(0, os.path.dirname(os.path.abspath(__file__)))
 import antt  # noqa: E402
+import check_calls  # noqa: E402
 
 PAGE = os.path.join(antt.ROOT, "docs", "STATEMENTS.md")
 
@@ -65,12 +66,18 @@ NAMED = [
 
 def contracts(crate):
     """The public functions, methods and conversions of a crate that users are given: comment, signature and contract."""
-    source = antt.read("crates", crate, "src", "lib.rt")
-    for m in re.finditer(r'((?:^//[^\n]*\n)*)(?:^#\[[^\n]*\]\n)*^(pub (?:extern "C" )?fn .*?)\n\{', source, re.M | re.S):
-        yield told(m.group(1)), m.group(2).splitlines()
-    for m in re.finditer(r"((?:^//[^\n]*\n)*)^(impl (?:(?:Try)?From<\w+> for )?\w+ \{\n)(.*?)^\}", source, re.M | re.S):
-        for n in re.finditer(r"((?:^    //[^\n]*\n)*)^((?:    ghost [^\n]*\n\n)?    (?:pub )?fn .*?)(?: \{\n|\n    \{)", m.group(3), re.M | re.S):
-            yield told(m.group(1) + n.group(1)), (m.group(2) + n.group(2)).replace("\n\n", "\n").splitlines()
+    for source, types in check_calls.sources(crate):
+        for m in re.finditer(r'((?:^//[^\n]*\n)*)(?:^#\[[^\n]*\]\n)*^(pub (?:extern "C" )?fn .*?)\n\{', source, re.M | re.S):
+            yield told(m.group(1)), m.group(2).splitlines()
+        for m in re.finditer(r"((?:^//[^\n]*\n)*)^(impl ((?:Try)?From<\w+> for )?(\w+) \{\n)(.*?)^\}", source, re.M | re.S):
+            if m.group(3) or m.group(4) in types:
+                yield from methods(m.group(1), m.group(2), m.group(5), "(?:pub )?" if m.group(3) else "pub ")
+
+
+def methods(comment, head, body, public):
+    """The functions of a block of methods or of a conversion: comment, and the block's head with the signature and contract."""
+    for m in re.finditer(r"((?:^    //[^\n]*\n)*)^((?:    ghost [^\n]*\n\n)?    " + public + r"fn .*?)(?: \{\n|\n    \{)", body, re.M | re.S):
+        yield told(comment + m.group(1)), (head + m.group(2)).replace("\n\n", "\n").splitlines()
 
 
 def told(comment):

@@ -80,8 +80,12 @@ def coded(trace):
     for crate in sorted(os.listdir(os.path.join(antt.ROOT, "crates"))):
         folder = os.path.join("crates", crate, "src")
         for name in sorted(os.listdir(os.path.join(antt.ROOT, folder))):
-            for m in re.finditer(r"((?:^[ ]*//[^\n]*\n)+)(?:#\[[^\n]*\]\n)*[^\n]*?fn (\w+)", antt.read(folder, name), re.M):
+            source = antt.read(folder, name)
+            for m in re.finditer(r"((?:^[ ]*//[^\n]*\n)+)(?:[ ]*#\[[^\n]*\]\n)*[^\n]*?fn (\w+)", source, re.M):
                 trace.add(folder, m.group(1), "code", f"`{crate}::{m.group(2)}`")
+            for m in re.finditer(r"((?:^//[^\n]*\n)+)impl (From|TryFrom)<\w+> for (\w+) ", source, re.M):
+                method = "from" if m.group(2) == "From" else "try_from"
+                trace.add(folder, m.group(1), "code", f"`{crate}::{m.group(3)}::{method}`")
 
 
 def tested(trace):
@@ -101,7 +105,7 @@ def called(trace):
         if not line.startswith("| `") or len(cells) != 6:
             continue
         call, _, outcome, _, edits, tests = cells
-        name = re.match(r"`(?:\w+::)?(\w+)\(", call).group(1)
+        name = re.match(r"`((?:\w+::)?\w+)\(", call).group(1)
         for test in re.findall(r"`([^`]+)`", tests):
             if not mentions(test, name, outcome.split(", ")[0]):
                 trace.faults.append(f"docs/CALLS.md: the test {test} of {name} does not contain it")

@@ -26,7 +26,8 @@ use Rattle.entries.specs.Sets.{symmetric_difference}
 use Rattle.entries.specs.Maps.{overlay, restriction, domain}
 use Rattle.answers.specs.declared.Reason.TheVariants.{Overlap}
 use Rattle.std.specs.Prelude.{Ok, Some}
-use Rattle.answers.specs.Says.{number_of, refusal_says, judged_says, refusal_of, judged_of, found_key_says, ranged_keys_says, placed_key_says, apart_says}
+use Rattle.answers.specs.Says.{number_of, at_place, refusal_says, judged_says, refusal_of, judged_of}
+use Rattle.answers.specs.Says.{found_key_says, ranged_keys_says, placed_key_says, apart_says}
 use Rattle.searches.specs.Parts.{part_says}
 use Rattle.searches.specs.Calls.{window_call, window_at_call, window_refusal_call}
 use Rattle.sets.specs.Calls.{make_empty_call, range_at_call, least_member_call, set_window_call, set_window_at_call, set_window_refusal_call}
@@ -482,6 +483,7 @@ table =
     ∷ case (audit_call five_to_nine []) (refusing 1 1 [])
     -- [G7] the refusal and the answer of a number, and the number of a reason
     ∷ case (outcome (refusal_says (refusal_of 11 7)) []) (outcome (refused 11 7) [])
+    ∷ case (outcome (refusal_says (at_place Overlap 7)) []) (outcome (refused 14 7) [])
     ∷ case (outcome (judged_says (judged_of 5 2)) []) (outcome (refused 5 2) [])
     ∷ case (outcome (judged_says (judged_of 0 2)) []) (answer [])
     ∷ case (answer (number_of Overlap ∷ [])) (answer (14 ∷ []))
